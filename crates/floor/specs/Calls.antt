@@ -1,0 +1,121 @@
+-- The calls: the refusals of each, in its order, and its answer on all inputs.
+use mathlib.Core.Bool.{Bool, cond, not, _||_}
+use mathlib.Core.List.{List, [], _∷_}
+use Prim.Native.Nat.{ℕ, _+_}
+use lib.Dec.{leb, ltb, eqb}
+use lib.ListN.{length, getD, replicate}
+use Rattle.laws.specs.Define.{tab, allOf, bit, refusal}
+use Rattle.floor.specs.declared.Canister.{Canister}
+use Rattle.floor.specs.declared.Settings.{Settings}
+use Rattle.floor.specs.declared.Floor.{Floor}
+use Rattle.floor.specs.declared.Report.{Report}
+use Rattle.floor.specs.declared.Answer.{Answer}
+use Rattle.floor.specs.declared.Rounded.{Rounded}
+use Rattle.floor.specs.declared.Reading.{Reading}
+use Rattle.floor.specs.Settings.{total, spacing, span, isHopper, settingsRefusal}
+use Rattle.floor.specs.Model.{TileState, Model, tileOf, runsOf, membersOf, withTile, withCounters, withMembers}
+use Rattle.floor.specs.Memory.{zeroTile, zeroCanister, zeroFloor, view, head, pack}
+use Rattle.floor.specs.Well.{inside, apart, wellFormed}
+use Rattle.floor.specs.Route.{route}
+use Rattle.floor.specs.Signal.{signal, grantOf}
+use Rattle.floor.specs.Move.{insert, move, deliveredBy}
+
+-- "30. The floor handed in isn't well formed. First in every call that takes one."
+unfoldable pub refusalOf : Floor → List (Bool × ℕ) → ℕ
+refusalOf f tests = refusal ((not (wellFormed f), 30) ∷ tests)
+
+-- "A refusal gives its number … the same floor"; accepted: number 0, and the floor m
+unfoldable pub answer : Floor → List (Bool × ℕ) → Model → Answer
+answer f tests m = let n = refusalOf f tests in record { refusal = n; floor = cond (eqb n 0) (pack m) f }
+
+-- ---- fresh
+-- "A fresh floor: all running, no canisters, every distance, arrow and turn none except the hopper's distance 0, counters 0."
+unfoldable pub freshTile : Settings → ℕ → TileState
+freshTile s t = record { running = 1; distance = cond (isHopper s t) 0 255; next = 0; token = 0; members = [] }
+
+unfoldable pub freshFloor : Settings → Model
+freshFloor s = record { settings = s; counters = record { last = 0; booked = 0; delivered = 0 }; tiles = tab (total s) (freshTile s) }
+
+-- "Fresh: 1, 2, 3." "A refused … fresh floor gives the all-zero floor."
+unfoldable pub freshAnswer : Settings → Answer
+freshAnswer s = let n = settingsRefusal s in record { refusal = n; floor = cond (eqb n 0) (pack (freshFloor s)) zeroFloor }
+
+-- ---- booking
+-- "Order for booking: 30, 4, 5, 6, 7, 31, 33, 34."
+unfoldable pub bookTests : Model → ℕ → Canister → List (Bool × ℕ)
+bookTests m t c =
+    (leb (total (m .settings)) t, 4) ∷ (not (bit (m .settings .sources) t), 5) ∷ (eqb (c .number) 0, 6)
+    ∷ (not (inside (m .settings) c), 7) ∷ (not (runsOf m t), 31) ∷ (leb (c .number) (m .counters .last), 33)
+    ∷ (not (allOf (apart (spacing (m .settings)) c) (membersOf m t)), 34) ∷ []
+
+-- "Booking adds the canister, sets last to its number and adds one to booked."
+unfoldable pub booked : Model → ℕ → Canister → Model
+booked m t c =
+    withCounters (withTile m t (withMembers (tileOf m t) (insert c (membersOf m t))))
+    (record { last = c .number; booked = m .counters .booked + 1; delivered = m .counters .delivered })
+
+unfoldable pub bookAnswer : Floor → ℕ → Canister → Answer
+bookAnswer f t c = let m = view f in answer f (bookTests m t c) (booked m t c)
+
+-- ---- stop and repair
+-- "Stop: 30, 4, 8, 31."
+unfoldable pub stopTests : Model → ℕ → List (Bool × ℕ)
+stopTests m t = (leb (total (m .settings)) t, 4) ∷ (isHopper (m .settings) t, 8) ∷ (not (runsOf m t), 31) ∷ []
+
+-- "Stop sets distance, arrow and turn none"; it keeps the canisters
+unfoldable pub stopped : TileState → TileState
+stopped x = record { running = 0; distance = 255; next = 0; token = 0; members = x .members }
+
+unfoldable pub stopAnswer : Floor → ℕ → Answer
+stopAnswer f t = let m = view f in answer f (stopTests m t) (withTile m t (stopped (tileOf m t)))
+
+-- "Repair: 30, 4, 32."
+unfoldable pub repairTests : Model → ℕ → List (Bool × ℕ)
+repairTests m t = (leb (total (m .settings)) t, 4) ∷ (runsOf m t, 32) ∷ []
+
+-- "repair only sets running"
+unfoldable pub repaired : TileState → TileState
+repaired x = record { running = 1; distance = x .distance; next = x .next; token = x .token; members = x .members }
+
+unfoldable pub repairAnswer : Floor → ℕ → Answer
+repairAnswer f t = let m = view f in answer f (repairTests m t) (withTile m t (repaired (tileOf m t)))
+
+-- ---- a round
+-- "Each step reads only what the step before left, for all tiles together."
+unfoldable pub afterRound : Model → Model
+afterRound m =
+    let r = route m in
+    let s = signal r in
+    move s (grantOf r)
+
+unfoldable pub delivered : Model → List ℕ
+delivered m =
+    let r = route m in
+    let s = signal r in
+    deliveredBy s (grantOf r)
+
+-- "The report gives every tile's grant and the delivered numbers, rising; never more than four."
+unfoldable pub reportOf : Model → Report
+reportOf m = record { grants = tab 64 (grantOf (route m)); count = length (delivered m); delivered = tab 4 (λ k. getD (delivered m) k 0) }
+
+-- "a report of zeros"
+unfoldable pub zeroReport : Report
+zeroReport = record { grants = replicate 64 0; count = 0; delivered = replicate 4 0 }
+
+-- "A round: 30."
+unfoldable pub roundAnswer : Floor → Rounded
+roundAnswer f =
+    let n = refusalOf f [] in
+    record { refusal = n; floor = cond (eqb n 0) (pack (afterRound (view f))) f; report = cond (eqb n 0) (reportOf (view f)) zeroReport }
+
+-- ---- reading
+-- "Reading: 30, 4."
+unfoldable pub readTests : Model → ℕ → List (Bool × ℕ)
+readTests m t = (leb (total (m .settings)) t, 4) ∷ []
+
+-- "Reading gives all that a tile has and changes nothing"; refused, zeros
+unfoldable pub readAnswer : Floor → ℕ → Reading
+readAnswer f t =
+    let n = refusalOf f (readTests (view f) t) in
+    let x = tileOf (view f) t in
+    record { refusal = n; tile = cond (eqb n 0) (head x) zeroTile; members = cond (eqb n 0) (tab 16 (λ k. getD (x .members) k zeroCanister)) (replicate 16 zeroCanister) }

@@ -1,0 +1,11 @@
+pub mod Sides
+pub mod Settings
+pub mod Grid
+pub mod Model
+pub mod Memory
+pub mod Well
+pub mod Route
+pub mod Signal
+pub mod Move
+pub mod Calls
+pub mod Bound

@@ -1,0 +1,36 @@
+-- Route ("running tiles but the hopper").
+use mathlib.Core.Bool.{Bool, cond, not, _||_}
+use Prim.Native.Nat.{ℕ, _+_}
+use lib.Dec.{ltb}
+use Rattle.laws.specs.Define.{tab}
+use Rattle.floor.specs.declared.Settings.{Settings}
+use Rattle.floor.specs.declared.Heading.{Heading}
+use Rattle.floor.specs.Settings.{total, isHopper}
+use Rattle.floor.specs.Grid.{around}
+use Rattle.floor.specs.Model.{TileState, Model, tileOf, runs, distanceOf, withTiles}
+
+-- the nearer of two; the earlier one where they are as near
+unfoldable pub nearer : Heading → ℕ → ℕ → Heading
+nearer b d k = cond (ltb d (b .distance)) (record { distance = d; side = k }) b
+
+-- "the neighbour of least old distance. Ties: the lower tile number, so west, south, north, east."
+unfoldable pub nearest : ℕ → ℕ → ℕ → ℕ → Heading
+nearest w s n e = nearer (nearer (nearer (record { distance = w; side = 1 }) s 2) n 3) e 4
+
+-- "Distance = 1 + the least old distance among the neighbours; at C or more it is none. With distance none the arrow is none; otherwise it faces the neighbour of least old distance."
+unfoldable pub onward : ℕ → Heading → Heading
+onward C b = cond (ltb (b .distance + 1) C) (record { distance = b .distance + 1; side = b .side }) (record { distance = 255; side = 0 })
+
+-- one tile's, from its neighbours' old distances; the hopper and a stopped tile keep their own
+unfoldable pub headingOf : Settings → ℕ → Bool → Heading → ℕ → ℕ → ℕ → ℕ → Heading
+headingOf s t running own west south north east = cond (isHopper s t || not running) own (onward (total s) (nearest west south north east))
+
+abbrev pub withHeading : TileState → Heading → TileState
+withHeading x b = record { running = x .running; distance = b .distance; next = b .side; token = x .token; members = x .members }
+
+unfoldable pub routeTile : Settings → ℕ → TileState → ℕ → ℕ → ℕ → ℕ → TileState
+routeTile s t x west south north east = withHeading x (headingOf s t (runs x) (record { distance = x .distance; side = x .next }) west south north east)
+
+-- "for all tiles together"
+unfoldable pub route : Model → Model
+route m = withTiles m (tab (total (m .settings)) (λ t. around (m .settings) (distanceOf m) t (routeTile (m .settings) t (tileOf m t))))

@@ -1,0 +1,33 @@
+-- Sides: none 0, west 1, south 2, north 3, east 4. Their cyclic order is 1, 2, 3, 4, then 1.
+use mathlib.Core.Bool.{Bool, cond}
+use mathlib.Core.List.{List, [], _∷_}
+use Prim.Native.Nat.{ℕ, zero, suc}
+use Rattle.laws.specs.Define.{firstOf}
+
+-- a choice by side; what is no side counts as none
+abbrev pub bySide : {A : Type 0} → A → A → A → A → A → ℕ → A
+bySide z w s n e zero = z
+bySide z w s n e (suc zero) = w
+bySide z w s n e (suc (suc zero)) = s
+bySide z w s n e (suc (suc (suc zero))) = n
+bySide z w s n e (suc (suc (suc (suc zero)))) = e
+bySide z w s n e (suc (suc (suc (suc (suc k))))) = z
+
+unfoldable pub sides : List ℕ
+sides = 1 ∷ 2 ∷ 3 ∷ 4 ∷ []
+
+-- the side that a neighbour has here
+unfoldable pub opposite : ℕ → ℕ
+opposite k = bySide 0 4 3 2 1 k
+
+-- the sides strictly after k in cyclic order, coming round to k; after none, from west
+unfoldable pub after : ℕ → List ℕ
+after k = bySide (1 ∷ 2 ∷ 3 ∷ 4 ∷ []) (2 ∷ 3 ∷ 4 ∷ 1 ∷ []) (3 ∷ 4 ∷ 1 ∷ 2 ∷ []) (4 ∷ 1 ∷ 2 ∷ 3 ∷ []) (1 ∷ 2 ∷ 3 ∷ 4 ∷ []) k
+
+-- "the first side that wants, strictly after it", coming round to itself if it is alone; p: which sides want
+unfoldable pub following : (ℕ → Bool) → ℕ → ℕ
+following p k = firstOf p (after k)
+
+-- "the turn, if none, becomes the first wanting side in order from west; if it no longer wants, the first side that wants, strictly after it"
+unfoldable pub chosen : (ℕ → Bool) → ℕ → ℕ
+chosen p k = cond (p k) k (following p k)

@@ -1,0 +1,59 @@
+-- Words over lists and numbers in which the definitions of document 01 are written. Definitions only; the laws about them stand in the other files of this crate.
+use mathlib.Core.Bool.{Bool, true, false, cond, _&&_, _||_}
+use mathlib.Core.List.{List, [], _∷_, _++_}
+use Prim.Native.Nat.{ℕ, zero, suc, _+_, _/_, _%_, _^_}
+use lib.Dec.{eqb}
+
+-- g 0, g 1, .., g (n - 1)
+unfoldable pub tab : {A : Type 0} → ℕ → (ℕ → A) → List A
+tab zero g = []
+tab (suc n) g = let x = g 0 in x ∷ tab n (λ k. g (suc k))
+
+-- f (n - 1), .., f 1, f 0, joined into one list
+unfoldable pub cat : {A : Type 0} → ℕ → (ℕ → List A) → List A
+cat zero f = []
+cat (suc n) f = f n ++ cat n f
+
+-- every element passes
+unfoldable pub allOf : {A : Type 0} → (A → Bool) → List A → Bool
+allOf p [] = true
+allOf p (x ∷ l) = p x && allOf p l
+
+-- some element passes
+unfoldable pub anyOf : {A : Type 0} → (A → Bool) → List A → Bool
+anyOf p [] = false
+anyOf p (x ∷ l) = p x || anyOf p l
+
+-- every two elements pass, the earlier one first
+unfoldable pub pairsOf : {A : Type 0} → (A → A → Bool) → List A → Bool
+pairsOf r [] = true
+pairsOf r (x ∷ l) = allOf (r x) l && pairsOf r l
+
+-- every number below n passes
+unfoldable pub allBelow : (ℕ → Bool) → ℕ → Bool
+allBelow p zero = true
+allBelow p (suc n) = allBelow p n && p n
+
+-- the elements that pass
+unfoldable pub keep : {A : Type 0} → (A → Bool) → List A → List A
+keep p [] = []
+keep p (x ∷ l) = cond (p x) (x ∷ keep p l) (keep p l)
+
+-- the first number that passes, or 0
+unfoldable pub firstOf : (ℕ → Bool) → List ℕ → ℕ
+firstOf p [] = 0
+firstOf p (x ∷ l) = cond (p x) x (firstOf p l)
+
+-- the total of the numbers
+unfoldable pub sum : List ℕ → ℕ
+sum [] = 0
+sum (x ∷ l) = x + sum l
+
+-- bit k of the number x
+unfoldable pub bit : ℕ → ℕ → Bool
+bit x k = eqb (x / 2 ^ k % 2) 1
+
+-- refusals in their order, each with the test that makes it; the first that holds decides, 0 where none does
+unfoldable pub refusal : List (Bool × ℕ) → ℕ
+refusal [] = 0
+refusal (x ∷ l) = cond (x .0) (x .1) (refusal l)

@@ -1,0 +1,213 @@
+-- Tables, and the loops that fill a list, test one element after another, or compact a list.
+use mathlib.Core.Path.{_≡_, refl, sym, ap, _∙_}
+use mathlib.Core.Bool.{Bool, true, false, _&&_, true≢false}
+use mathlib.Core.List.{List, [], _∷_, _++_, map, append-nil}
+use Prim.Native.Nat.{ℕ, zero, suc, _+_, _≤_, _<_}
+use native.Mathlib.Omega.{arith}
+use native.Mathlib.Numerals.{add-one}
+use native.Mathlib.Decide.{decLe, ℕ-discrete}
+use lib.ListN.{length, getD, set, take, drop, replicate, length-drop, length-append, getD-replicate, List·getD-append, List·getD-eq-default}
+use lib.Seq.{ext-getD, take-suc, take-suc-set, getD-drop, getD-set-same, getD-set-other, getD-append-seam}
+use Rattle.laws.specs.Define.{tab, allOf, pairsOf, allBelow, keep}
+use Rattle.laws.specs.Tests.{and-left, and-right, and-true, and-assoc, and-yes}
+use Rattle.laws.specs.Lists.{map-append, keep-append}
+
+-- ---- the table g 0, .., g (n - 1)
+pub tab-length : {A : Type 0} (n : ℕ) (g : ℕ → A) → length (tab n g) ≡ n
+unfolding tab
+tab-length zero g = refl
+tab-length (suc n) g = ap suc (tab-length n (λ k. g (suc k)))
+
+pub tab-at : {A : Type 0} (n : ℕ) (g : ℕ → A) (t : ℕ) (z : A) → t < n → getD (tab n g) t z ≡ g t
+unfolding tab
+tab-at zero g t z h = absurd (omega arith)
+tab-at (suc n) g zero z h = refl
+tab-at (suc n) g (suc t) z h = tab-at n (λ k. g (suc k)) t z (omega arith)
+
+pub tab-off : {A : Type 0} (n : ℕ) (g : ℕ → A) (t : ℕ) (z : A) → n ≤ t → getD (tab n g) t z ≡ z
+tab-off n g t z h = List·getD-eq-default (tab n g) z (omega (arith, tab-length n g))
+
+-- a list of n elements that agrees with g at each place is the table
+pub filled : {A : Type 0} (n : ℕ) (g : ℕ → A) (z : A) (l : List A) → length l ≡ n → ((i : ℕ) → i < n → getD l i z ≡ g i) → l ≡ tab n g
+filled n g z l e h = ext-getD z l (tab n g) (e ∙ sym (tab-length n g)) (λ i k. h i (omega arith) ∙ sym (tab-at n g i z (omega arith)))
+
+pub tab-same : {A : Type 0} (n : ℕ) (g h : ℕ → A) → ((i : ℕ) → i < n → g i ≡ h i) → tab n g ≡ tab n h
+unfolding tab
+tab-same zero g h e = refl
+tab-same (suc n) g h e = rw (e 0 (omega arith)) (ap (λ r. h 0 ∷ r) (tab-same n (λ k. g (suc k)) (λ k. h (suc k)) (λ i l. e (suc i) (omega arith))))
+
+-- ---- a loop that fills a list: right below t, whatever stands above
+abbrev pub Upto : {A : Type 0} → ℕ → (ℕ → A) → A → List A → Type 0
+Upto {A} t g z l = (i : ℕ) → i < t → getD l i z ≡ g i
+
+pub upto-turn : {A : Type 0} (t : ℕ) (g : ℕ → A) (z : A) (l : List A) (v : A) → t < length l → Upto t g z l → v ≡ g t → Upto (t + 1) g z (set l t v)
+upto-turn t g z l v h p e i k = go (ℕ-discrete i t)
+  where
+    go : Dec (i ≡ t) → getD (set l t v) i z ≡ g i
+    go (yes q) = rw (q, getD-set-same l t v z h) e
+    go (no q) = rw (getD-set-other l t i v z q) (p i (omega arith))
+
+-- from t on, the list is g's
+abbrev pub From : {A : Type 0} → ℕ → (ℕ → A) → A → List A → Type 0
+From {A} t g z l = (i : ℕ) → t ≤ i → getD l i z ≡ g i
+
+-- a store leaves what stands above it
+pub rest-turn : {A : Type 0} (t : ℕ) (g : ℕ → A) (z : A) (l : List A) (v : A) → From t g z l → From (t + 1) g z (set l t v)
+rest-turn t g z l v h i k = getD-set-other l t i v z (λ e. absurd (omega arith)) ∙ h i (omega arith)
+
+-- a turn of a loop that copies from place `at` of s to the front of d
+pub copy-turn : {A : Type 0} (d s : List A) (at k : ℕ) (z : A) → k < length d → at + k < length s → take k d ≡ take k (drop at s) → take (k + 1) (set d k (getD s (at + k) z)) ≡ take (k + 1) (drop at s)
+copy-turn d s at k z hd hs p =
+    let h : k < length (drop at s) = rw length-drop (omega arith) in
+    rw (add-one, take-suc-set, take-suc (drop at s) k z h, getD-drop, p)
+
+-- at its end a loop's counter is its bound
+pub ended : {A : Type 0} (g : ℕ → A) {k n : ℕ} {x : A} → n ≤ k → k ≤ n → x ≡ g k → x ≡ g n
+ended g {k} {n} lo hi e = let q : k ≡ n = omega arith in e ∙ ap g q
+
+-- ---- every number below n
+pub below-zero : (p : ℕ → Bool) → allBelow p 0 ≡ true
+unfolding allBelow
+below-zero p = refl
+
+pub below-more : (p : ℕ → Bool) (n : ℕ) → allBelow p (n + 1) ≡ (allBelow p n && p n)
+unfolding allBelow
+below-more p n = rw add-one
+
+pub below-turn : (p : ℕ → Bool) (n : ℕ) → allBelow p n ≡ true → p n ≡ true → allBelow p (n + 1) ≡ true
+unfolding allBelow
+below-turn p n h q = rw add-one (and-true h q)
+
+pub below-at : (p : ℕ → Bool) (n : ℕ) → allBelow p n ≡ true → (t : ℕ) → t < n → p t ≡ true
+unfolding allBelow
+below-at p zero h t l = absurd (omega arith)
+below-at p (suc n) h t l = go (ℕ-discrete t n) (below-at p n (and-left (allBelow p n) (p n) h))
+  where
+    go : Dec (t ≡ n) → ((t : ℕ) → t < n → p t ≡ true) → p t ≡ true
+    go (yes e) ih = rw e (and-right (allBelow p n) (p n) h)
+    go (no e) ih = ih t (omega arith)
+
+pub below-of : (p : ℕ → Bool) (n : ℕ) → ((t : ℕ) → t < n → p t ≡ true) → allBelow p n ≡ true
+unfolding allBelow
+below-of p zero f = refl
+below-of p (suc n) f = and-true (below-of p n (λ t l. f t (omega arith))) (f n (omega arith))
+
+pub below-fails : (p : ℕ → Bool) (n t : ℕ) → t < n → p t ≡ false → allBelow p n ≡ false
+below-fails p n t l q = go (allBelow p n) refl
+  where
+    go : (b : Bool) → allBelow p n ≡ b → allBelow p n ≡ false
+    go true e = absurd (true≢false (sym (below-at p n e t l) ∙ q))
+    go false e = e
+
+pub below-step : (p : ℕ → Bool) (k : ℕ) {ok r : Bool} → ok ≡ allBelow p k → r ≡ p k → (ok && r) ≡ allBelow p (k + 1)
+below-step p k e q = rw (e, q) (sym (below-more p k))
+
+-- ---- every element of a list
+pub all-zero : {A : Type 0} (p : A → Bool) (l : List A) → allOf p (take 0 l) ≡ true
+unfolding allOf
+all-zero p l = refl
+
+pub all-at : {A : Type 0} (p : A → Bool) (l : List A) (z : A) → allOf p l ≡ true → (k : ℕ) → k < length l → p (getD l k z) ≡ true
+unfolding allOf
+all-at p [] z h k q = absurd (omega arith)
+all-at p (x ∷ l) z h zero q = and-left (p x) (allOf p l) h
+all-at p (x ∷ l) z h (suc k) q = all-at p l z (and-right (p x) (allOf p l) h) k (omega arith)
+
+pub all-from-each : {A : Type 0} (p : A → Bool) (l : List A) (z : A) → ((k : ℕ) → k < length l → p (getD l k z) ≡ true) → allOf p l ≡ true
+unfolding allOf
+all-from-each p [] z h = refl
+all-from-each p (x ∷ l) z h = and-true (h 0 (omega arith)) (all-from-each p l z (λ k q. h (suc k) (omega arith)))
+
+pub all-fails : {A : Type 0} (p : A → Bool) (l : List A) (z : A) (k : ℕ) → k < length l → p (getD l k z) ≡ false → allOf p l ≡ false
+all-fails p l z k q e = go (allOf p l) refl
+  where
+    go : (b : Bool) → allOf p l ≡ b → allOf p l ≡ false
+    go true h = absurd (true≢false (sym (all-at p l z h k q) ∙ e))
+    go false h = h
+
+pub all-append-test : {A : Type 0} (p : A → Bool) (l k : List A) → allOf p (l ++ k) ≡ (allOf p l && allOf p k)
+unfolding allOf
+all-append-test p [] k = refl
+all-append-test p (x ∷ l) k = rw (all-append-test p l k) (sym (and-assoc (p x) (allOf p l) (allOf p k)))
+
+-- a turn of a loop that tests one element after another
+pub all-more : {A : Type 0} (p : A → Bool) (l : List A) (k : ℕ) (z : A) → k < length l → allOf p (take (k + 1) l) ≡ (allOf p (take k l) && p (getD l k z))
+unfolding allOf
+all-more p l k z h = rw (add-one, take-suc l k z h, all-append-test p (take k l) (getD l k z ∷ []), and-yes (p (getD l k z)))
+
+pub all-step : {A : Type 0} (p : A → Bool) (l : List A) (k : ℕ) (z : A) {ok r : Bool} → k < length l → ok ≡ allOf p (take k l) → r ≡ p (getD l k z) → (ok && r) ≡ allOf p (take (k + 1) l)
+all-step p l k z h e q = rw (e, q) (sym (all-more p l k z h))
+
+-- ---- every two elements, the earlier one first
+and-swap : (a b c d : Bool) → ((a && b) && (c && d)) ≡ ((a && c) && (b && d))
+and-swap true true c d = refl
+and-swap true false true d = refl
+and-swap true false false d = refl
+and-swap false b c d = refl
+
+pub pairs-zero : {A : Type 0} (r : A → A → Bool) (l : List A) → pairsOf r (take 0 l) ≡ true
+unfolding pairsOf
+pairs-zero r l = refl
+
+pairs-snoc : {A : Type 0} (r : A → A → Bool) (l : List A) (y : A) → pairsOf r (l ++ (y ∷ [])) ≡ (pairsOf r l && allOf (λ x. r x y) l)
+unfolding pairsOf allOf
+pairs-snoc r [] y = refl
+pairs-snoc r (x ∷ l) y =
+    rw (pairs-snoc r l y, all-append-test (r x) l (y ∷ []), and-yes (r x y)) (and-swap (allOf (r x) l) (r x y) (pairsOf r l) (allOf (λ x. r x y) l))
+
+pub pairs-more : {A : Type 0} (r : A → A → Bool) (l : List A) (j : ℕ) (z : A) → j < length l → pairsOf r (take (j + 1) l) ≡ (pairsOf r (take j l) && allOf (λ x. r x (getD l j z)) (take j l))
+pairs-more r l j z h = rw (add-one, take-suc l j z h) (pairs-snoc r (take j l) (getD l j z))
+
+-- an inner loop that tests one element after another beside what the outer one found
+pub with-zero : {A : Type 0} (p : A → Bool) (l : List A) {ok q : Bool} → ok ≡ q → ok ≡ (q && allOf p (take 0 l))
+unfolding allOf
+with-zero p l {q = q} e = e ∙ sym (and-yes q)
+
+pub with-step : {A : Type 0} (q : Bool) (p : A → Bool) (l : List A) (k : ℕ) (z : A) {ok r : Bool} → k < length l → ok ≡ (q && allOf p (take k l)) → r ≡ p (getD l k z) → (ok && r) ≡ (q && allOf p (take (k + 1) l))
+with-step q p l k z h e f = rw (e, f, all-more p l k z h) (and-assoc q (allOf p (take k l)) (p (getD l k z)))
+
+-- ---- a loop that compacts: what is kept of the first k elements, each changed by f
+module _ {A B : Type 0} (p : A → Bool) (f : A → B) where
+  pub keep-zero : (l : List A) → map f (keep p (take 0 l)) ≡ []
+  unfolding keep
+  keep-zero l = refl
+
+  keep-snoc : (l : List A) (k : ℕ) (z : A) → k < length l → map f (keep p (take (k + 1) l)) ≡ map f (keep p (take k l)) ++ map f (keep p (getD l k z ∷ []))
+  keep-snoc l k z h = rw (add-one, take-suc l k z h, keep-append p (take k l) (getD l k z ∷ [])) (map-append f (keep p (take k l)) (keep p (getD l k z ∷ [])))
+
+  pub keep-in : (l : List A) (k : ℕ) (z : A) → k < length l → p (getD l k z) ≡ true → map f (keep p (take (k + 1) l)) ≡ map f (keep p (take k l)) ++ (f (getD l k z) ∷ [])
+  unfolding keep
+  keep-in l k z h e = keep-snoc l k z h ∙ rw e
+
+  pub keep-out : (l : List A) (k : ℕ) (z : A) → k < length l → p (getD l k z) ≡ false → map f (keep p (take (k + 1) l)) ≡ map f (keep p (take k l))
+  unfolding keep
+  keep-out l k z h e = keep-snoc l k z h ∙ rw e (append-nil (map f (keep p (take k l))))
+
+-- n places show a list: its elements, then z
+abbrev pub Shows : {A : Type 0} → ℕ → A → List A → List A → Type 0
+Shows n z l items = Upto n (λ k. getD l k z) z items
+
+pub shows-none : {A : Type 0} (n : ℕ) (z : A) (l : List A) → l ≡ [] → Shows n z l (replicate n z)
+shows-none n z l e i k = rw e (getD-replicate n i z z k)
+
+-- one more is written behind the last
+pub shows-more : {A : Type 0} (n : ℕ) (z : A) (l out : List A) (v : A) → length l < length out → Shows n z l out → Shows n z (l ++ (v ∷ [])) (set out (length l) v)
+shows-more n z l out v h s i k = go (ℕ-discrete i (length l)) (decLe (suc i) (length l))
+  where
+    go : Dec (i ≡ length l) → Dec (i < length l) → getD (set out (length l) v) i z ≡ getD (l ++ (v ∷ [])) i z
+    go (yes e) q = rw (e, getD-set-same out (length l) v z h) (sym (getD-append-seam l v [] z))
+    go (no e) (yes q) = rw (getD-set-other out (length l) i v z e) (s i k ∙ sym (List·getD-append l (v ∷ []) z i q))
+    go (no e) (no q) =
+        let a : length l ≤ i = omega arith in
+        let b : length (l ++ (v ∷ [])) ≤ i = rw length-append (omega arith) in
+        rw (getD-set-other out (length l) i v z e) (s i k ∙ List·getD-eq-default l z a ∙ sym (List·getD-eq-default (l ++ (v ∷ [])) z b))
+
+-- a turn that writes an element, and one that passes over it; m counts what is written
+pub shows-in : {A : Type 0} (n : ℕ) (z : A) (l next out : List A) (m : ℕ) (v : A) → next ≡ l ++ (v ∷ []) → m ≡ length l → m < length out → Shows n z l out → (m + 1 ≡ length next) × Shows n z next (set out m v)
+shows-in n z l next out m v e q h s =
+    let p : length l < length out = omega arith in
+    let len : length (l ++ (v ∷ [])) ≡ m + 1 = rw length-append (omega arith) in
+    (sym (ap length e ∙ len), rw (e, q) (shows-more n z l out v p s))
+
+pub shows-out : {A : Type 0} (n : ℕ) (z : A) (l next out : List A) (m : ℕ) → next ≡ l → m ≡ length l → Shows n z l out → (m ≡ length next) × Shows n z next out
+shows-out n z l next out m e q s = rw e (q, s)

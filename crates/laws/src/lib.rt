@@ -1,0 +1,1 @@
+// General definitions and laws, in specs/; no code.

@@ -1,0 +1,52 @@
+// Sets of tiles as the bits of a word: tile t is in the set s where bit t of s is set.
+ghost use mathlib.Core.Path.{_≡_};
+ghost use mathlib.Core.Bool.{Bool, true, false, _||_, _&&_, not};
+ghost use Prim.Native.Nat.{ℕ, _-_, _≤_, _<_, _^_};
+ghost use lib.Dec.{eqb, ltb};
+ghost use Rattle.laws.specs.Define.{bit};
+
+// Whether t is in the set.
+pub fn has(s: u64, t: u8) -> bool
+    requires { ⌜ t < 64 ⌝ }
+    ensures { λ r. ⌜ r ≡ bit s t ⌝ }
+{
+    (s >> t) & 1 == 1
+}
+
+// The set with t in it.
+pub fn with(s: u64, t: u8) -> u64
+    requires { ⌜ t < 64 ⌝ }
+    ensures { λ r. ⌜ ((k : ℕ) → bit r k ≡ (eqb k t || bit s k)) ⌝ }
+{
+    s | (1 << t)
+}
+
+// The set without t.
+pub fn without(s: u64, t: u8) -> u64
+    requires { ⌜ t < 64 ⌝ }
+    ensures { λ r. ⌜ ((k : ℕ) → bit r k ≡ (not (eqb k t) && bit s k)) ⌝ }
+{
+    if has(s, t) { s ^ (1 << t) } else { s }
+}
+
+// The set of the tiles below n.
+pub fn full(n: u8) -> u64
+    requires { ⌜ n ≤ 64 ⌝ }
+    ensures { λ r. ⌜ r ≡ 2 ^ n - 1 ⌝ }
+{
+    if n == 64 {
+        return 18446744073709551615;
+    }
+    (1 << n) - 1
+}
+
+// Whether every tile of the set is below n.
+pub fn within(s: u64, n: u8) -> bool
+    requires { ⌜ n ≤ 64 ⌝ }
+    ensures { λ r. ⌜ r ≡ ltb s (2 ^ n) ⌝ }
+{
+    if n == 64 {
+        return true;
+    }
+    s >> n == 0
+}

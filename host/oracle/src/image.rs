@@ -1,0 +1,236 @@
+//! Writing and loading an image.
+
+use core::mem::take;
+
+use crate::check::{settings_refusal, well_formed};
+use crate::refusal;
+use crate::types::{Answer, Canister, Counters, Floor, Settings, Tile, WriteAnswer, PLACES};
+
+/// Bytes of the longest image.
+pub const LONGEST_IMAGE: usize = 8_748;
+
+const HEAD: usize = 4;
+const SETTINGS: u16 = 1;
+const COUNTERS: u16 = 2;
+const TILE: u16 = 3;
+const END: u16 = 4;
+
+const SETTINGS_BODY: usize = 20;
+const COUNTERS_BODY: usize = 12;
+const TILE_BODY: usize = 6;
+const CANISTER_BODY: usize = 8;
+
+pub fn write(floor: &Floor, buffer: &mut [u8]) -> WriteAnswer {
+    if !well_formed(floor) {
+        return refused_write(refusal::MALFORMED);
+    }
+    let length = image_length(floor);
+    match buffer.get_mut(..length) {
+        Some(target) => {
+            Writer { rest: target }.floor(floor);
+            WriteAnswer {
+                refusal: refusal::ACCEPTED,
+                length: length as u32,
+            }
+        }
+        None => refused_write(refusal::SHORT_BUFFER),
+    }
+}
+
+fn refused_write(refusal: u8) -> WriteAnswer {
+    WriteAnswer { refusal, length: 0 }
+}
+
+fn image_length(floor: &Floor) -> usize {
+    let tiles = (0..floor.settings.tile_count())
+        .map(|tile| HEAD + tile_body(floor.members(tile).len()))
+        .sum::<usize>();
+    HEAD + SETTINGS_BODY + HEAD + COUNTERS_BODY + tiles + HEAD
+}
+
+fn tile_body(canisters: usize) -> usize {
+    TILE_BODY + CANISTER_BODY * canisters
+}
+
+/// Fills a target of exactly the image's length.
+struct Writer<'a> {
+    rest: &'a mut [u8],
+}
+
+impl Writer<'_> {
+    fn put(&mut self, bytes: &[u8]) {
+        let (head, tail) = take(&mut self.rest).split_at_mut(bytes.len());
+        head.copy_from_slice(bytes);
+        self.rest = tail;
+    }
+
+    fn head(&mut self, body: usize, kind: u16) {
+        self.put(&(body as u16).to_le_bytes());
+        self.put(&kind.to_le_bytes());
+    }
+
+    fn floor(&mut self, floor: &Floor) {
+        self.settings(&floor.settings);
+        self.counters(&floor.counters);
+        for tile in 0..floor.settings.tile_count() {
+            self.tile(tile, &floor.tiles[tile], floor.members(tile));
+        }
+        self.head(0, END);
+    }
+
+    fn settings(&mut self, settings: &Settings) {
+        self.head(SETTINGS_BODY, SETTINGS);
+        self.put(&[settings.columns, settings.rows, settings.hopper, 0]);
+        self.put(&settings.width.to_le_bytes());
+        self.put(&settings.length.to_le_bytes());
+        self.put(&settings.gap.to_le_bytes());
+        self.put(&settings.travel.to_le_bytes());
+        self.put(&settings.sources.to_le_bytes());
+    }
+
+    fn counters(&mut self, counters: &Counters) {
+        self.head(COUNTERS_BODY, COUNTERS);
+        self.put(&counters.last.to_le_bytes());
+        self.put(&counters.booked.to_le_bytes());
+        self.put(&counters.delivered.to_le_bytes());
+    }
+
+    fn tile(&mut self, number: usize, tile: &Tile, members: &[Canister]) {
+        self.head(tile_body(members.len()), TILE);
+        self.put(&[
+            number as u8,
+            tile.running,
+            tile.distance,
+            tile.next,
+            tile.token,
+            tile.count,
+        ]);
+        for canister in members {
+            self.put(&canister.number.to_le_bytes());
+            self.put(&canister.a.to_le_bytes());
+            self.put(&canister.b.to_le_bytes());
+        }
+    }
+}
+
+pub fn load(bytes: &[u8]) -> Answer {
+    let mut floor = Floor::ZERO;
+    match load_into(&mut floor, bytes) {
+        Ok(()) => Answer::accepted(floor),
+        Err(refusal) => Answer::refused(refusal, &Floor::ZERO),
+    }
+}
+
+fn load_into(floor: &mut Floor, bytes: &[u8]) -> Result<(), u8> {
+    let mut records = Records { rest: bytes };
+    floor.settings = settings_from(records.due(SETTINGS)?)?;
+    floor.counters = counters_from(records.due(COUNTERS)?)?;
+    for tile in 0..floor.settings.tile_count() {
+        tile_from(floor, tile, records.due(TILE)?)?;
+    }
+    demand(records.due(END)?.is_empty(), refusal::RECORD_SHAPE)?;
+    demand(records.rest.is_empty(), refusal::IMAGE_ENDS)?;
+    demand(well_formed(floor), refusal::IMAGE_MALFORMED)
+}
+
+fn demand(holds: bool, refusal: u8) -> Result<(), u8> {
+    holds.then_some(()).ok_or(refusal)
+}
+
+/// The part of an image that hasn't been read.
+struct Records<'a> {
+    rest: &'a [u8],
+}
+
+impl<'a> Records<'a> {
+    fn bytes(&mut self, length: usize) -> Result<&'a [u8], u8> {
+        let (head, tail) = self
+            .rest
+            .split_at_checked(length)
+            .ok_or(refusal::IMAGE_ENDS)?;
+        self.rest = tail;
+        Ok(head)
+    }
+
+    /// The body of the next record, which must be whole and of the kind due.
+    fn due(&mut self, kind: u16) -> Result<&'a [u8], u8> {
+        let head = self.bytes(HEAD)?;
+        let body = self.bytes(usize::from(u16_at(head, 0)))?;
+        demand(u16_at(head, 2) == kind, refusal::OTHER_KIND)?;
+        Ok(body)
+    }
+}
+
+fn settings_from(body: &[u8]) -> Result<Settings, u8> {
+    demand(
+        body.len() == SETTINGS_BODY && body[3] == 0,
+        refusal::RECORD_SHAPE,
+    )?;
+    let settings = Settings {
+        columns: body[0],
+        rows: body[1],
+        hopper: body[2],
+        width: u16_at(body, 4),
+        length: u16_at(body, 6),
+        gap: u16_at(body, 8),
+        travel: u16_at(body, 10),
+        sources: u64_at(body, 12),
+    };
+    match settings_refusal(&settings) {
+        refusal::ACCEPTED => Ok(settings),
+        refusal => Err(refusal),
+    }
+}
+
+fn counters_from(body: &[u8]) -> Result<Counters, u8> {
+    demand(body.len() == COUNTERS_BODY, refusal::RECORD_SHAPE)?;
+    Ok(Counters {
+        last: u32_at(body, 0),
+        booked: u32_at(body, 4),
+        delivered: u32_at(body, 8),
+    })
+}
+
+fn tile_from(floor: &mut Floor, tile: usize, body: &[u8]) -> Result<(), u8> {
+    demand(body.len() >= TILE_BODY, refusal::RECORD_SHAPE)?;
+    let (fields, members) = body.split_at(TILE_BODY);
+    let count = usize::from(fields[5]);
+    demand(
+        usize::from(fields[0]) == tile && count <= PLACES && body.len() == tile_body(count),
+        refusal::RECORD_SHAPE,
+    )?;
+    floor.tiles[tile] = Tile {
+        running: fields[1],
+        distance: fields[2],
+        next: fields[3],
+        token: fields[4],
+        count: fields[5],
+    };
+    let places = &mut floor.canisters[tile * PLACES..];
+    for (place, bytes) in places.iter_mut().zip(members.chunks_exact(CANISTER_BODY)) {
+        *place = Canister {
+            number: u32_at(bytes, 0),
+            a: u16_at(bytes, 4),
+            b: u16_at(bytes, 6),
+        };
+    }
+    Ok(())
+}
+
+fn array_at<const N: usize>(bytes: &[u8], at: usize) -> [u8; N] {
+    let mut array = [0; N];
+    array.copy_from_slice(&bytes[at..at + N]);
+    array
+}
+
+fn u16_at(bytes: &[u8], at: usize) -> u16 {
+    u16::from_le_bytes(array_at(bytes, at))
+}
+
+fn u32_at(bytes: &[u8], at: usize) -> u32 {
+    u32::from_le_bytes(array_at(bytes, at))
+}
+
+fn u64_at(bytes: &[u8], at: usize) -> u64 {
+    u64::from_le_bytes(array_at(bytes, at))
+}

@@ -1,0 +1,25 @@
+//! A second implementation of the canister floor, written from the paper alone.
+//!
+//! The crate is `no_std` without `alloc`, so no call can use the heap.
+
+#![no_std]
+#![forbid(unsafe_code)]
+
+mod calls;
+mod check;
+mod grid;
+mod image;
+pub mod random;
+pub mod refusal;
+mod round;
+mod types;
+
+pub use calls::{book, fresh, read, repair, stop};
+pub use check::{settings_refusal, well_formed};
+pub use grid::{Grid, Side, Spot};
+pub use image::{load, write, LONGEST_IMAGE};
+pub use round::round;
+pub use types::{
+    Answer, Canister, Counters, Floor, Reading, Report, RoundAnswer, Settings, Tile, WriteAnswer,
+    MAX_TILES, NONE, NO_SIDE, PLACES,
+};

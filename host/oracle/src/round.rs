@@ -1,0 +1,217 @@
+//! One round: route, signal, move.
+
+use crate::check::well_formed;
+use crate::grid::{Grid, Side, Spot};
+use crate::refusal;
+use crate::types::{
+    Canister, Floor, Report, RoundAnswer, Settings, Tile, MAX_TILES, NONE, NO_SIDE, PLACES,
+};
+
+pub fn round(floor: &Floor) -> RoundAnswer {
+    if !well_formed(floor) {
+        return RoundAnswer {
+            refusal: refusal::MALFORMED,
+            floor: *floor,
+            report: Report::ZERO,
+        };
+    }
+    let mut tiles = route(floor);
+    let grants = signal(floor, &mut tiles);
+    let (floor, report) = shift(floor, &tiles, &grants);
+    RoundAnswer {
+        refusal: refusal::ACCEPTED,
+        floor,
+        report,
+    }
+}
+
+/// New distances and arrows, all from the old distances.
+fn route(floor: &Floor) -> [Tile; MAX_TILES] {
+    let grid = Grid::of(&floor.settings);
+    let hopper = usize::from(floor.settings.hopper);
+    let mut tiles = floor.tiles;
+    for spot in grid.spots() {
+        if spot.tile != hopper && floor.tiles[spot.tile].running == 1 {
+            let (distance, next) = way(floor, grid, spot);
+            tiles[spot.tile].distance = distance;
+            tiles[spot.tile].next = next;
+        }
+    }
+    tiles
+}
+
+/// The distance and arrow that a tile's neighbours give it.
+fn way(floor: &Floor, grid: Grid, spot: Spot) -> (u8, u8) {
+    let mut least = NONE;
+    let mut next = NO_SIDE;
+    for side in Side::ALL {
+        if let Some(there) = grid.neighbour(spot, side) {
+            let distance = floor.tiles[there].distance;
+            if distance < least {
+                least = distance;
+                next = side.code();
+            }
+        }
+    }
+    if usize::from(least) + 1 < floor.settings.tile_count() {
+        (least + 1, next)
+    } else {
+        (NONE, NO_SIDE)
+    }
+}
+
+/// Updates the turns and gives the grant of every tile.
+fn signal(floor: &Floor, tiles: &mut [Tile; MAX_TILES]) -> [u8; MAX_TILES] {
+    let grid = Grid::of(&floor.settings);
+    let mut grants = [NO_SIDE; MAX_TILES];
+    for spot in grid.spots() {
+        if tiles[spot.tile].running == 1 {
+            let wants = wanting_sides(grid, tiles, spot);
+            let (turn, grant) = decide(wants, tiles[spot.tile].token, |side| {
+                has_gap(&floor.settings, floor.members(spot.tile), side)
+            });
+            tiles[spot.tile].token = turn;
+            grants[spot.tile] = grant;
+        }
+    }
+    grants
+}
+
+/// For each side in cyclic order, whether the neighbour there wants to enter.
+fn wanting_sides(grid: Grid, tiles: &[Tile; MAX_TILES], spot: Spot) -> [bool; 4] {
+    Side::ALL.map(|side| {
+        grid.neighbour(spot, side).is_some_and(|there| {
+            tiles[there].count > 0 && tiles[there].next == side.opposite().code()
+        })
+    })
+}
+
+/// The turn to keep and the side to grant.
+fn decide(wants: [bool; 4], turn: u8, gap: impl Fn(Side) -> bool) -> (u8, u8) {
+    let held = Side::from_code(turn).filter(|side| wants[usize::from(side.code()) - 1]);
+    let Some(turn) = held.or_else(|| first_after(wants, turn)) else {
+        return (NO_SIDE, NO_SIDE);
+    };
+    if gap(turn) {
+        let following = first_after(wants, turn.code()).unwrap_or(turn);
+        (following.code(), turn.code())
+    } else {
+        (turn.code(), NO_SIDE)
+    }
+}
+
+/// The first wanting side strictly after a turn, the turn itself being last.
+/// After "none" the search begins in the west.
+fn first_after(wants: [bool; 4], turn: u8) -> Option<Side> {
+    let start = usize::from(turn);
+    (start..start + 4)
+        .map(|at| at % 4)
+        .find(|at| wants[*at])
+        .map(|at| Side::ALL[at])
+}
+
+/// Whether a strip of depth d is free along a side.
+fn has_gap(settings: &Settings, members: &[Canister], side: Side) -> bool {
+    let spacing = settings.spacing();
+    let width = u32::from(settings.width);
+    let need = u32::from(settings.length) + spacing;
+    members.iter().all(|canister| {
+        let (a, b) = (u32::from(canister.a), u32::from(canister.b));
+        match side {
+            Side::West => a >= spacing,
+            Side::South => b >= spacing,
+            Side::North => b + need <= width,
+            Side::East => a + need <= width,
+        }
+    })
+}
+
+/// Moves every canister from the old floor onto a new one.
+fn shift(old: &Floor, tiles: &[Tile; MAX_TILES], grants: &[u8; MAX_TILES]) -> (Floor, Report) {
+    let grid = Grid::of(&old.settings);
+    let hopper = usize::from(old.settings.hopper);
+    let mut report = Report {
+        grants: *grants,
+        ..Report::ZERO
+    };
+    let mut floor = Floor {
+        settings: old.settings,
+        counters: old.counters,
+        tiles: tiles.map(|tile| Tile { count: 0, ..tile }),
+        canisters: [Canister::ZERO; MAX_TILES * PLACES],
+    };
+    for spot in grid.spots() {
+        let way = granted_way(grid, tiles, grants, spot);
+        for canister in old.members(spot.tile) {
+            let (place, moved) = match way {
+                Some((side, there)) => match advance(&old.settings, *canister, side) {
+                    (moved, true) => (there, moved),
+                    (moved, false) => (spot.tile, moved),
+                },
+                None => (spot.tile, *canister),
+            };
+            if place == hopper {
+                deliver(&mut floor, &mut report, moved.number);
+            } else {
+                floor.insert(place, moved);
+            }
+        }
+    }
+    (floor, report)
+}
+
+/// The side and tile that a tile's canisters head for, if it was granted.
+fn granted_way(
+    grid: Grid,
+    tiles: &[Tile; MAX_TILES],
+    grants: &[u8; MAX_TILES],
+    spot: Spot,
+) -> Option<(Side, usize)> {
+    let side = Side::from_code(tiles[spot.tile].next)?;
+    let there = grid.neighbour(spot, side)?;
+    (grants[there] == side.opposite().code()).then_some((side, there))
+}
+
+/// The canister after the shift, and whether it crossed.
+fn advance(settings: &Settings, canister: Canister, side: Side) -> (Canister, bool) {
+    let along = match side {
+        Side::West | Side::East => canister.a,
+        Side::South | Side::North => canister.b,
+    };
+    let (along, crossed) = match side {
+        Side::East | Side::North => forward(settings, along),
+        Side::West | Side::South => backward(settings, along),
+    };
+    let moved = match side {
+        Side::West | Side::East => Canister {
+            a: along,
+            ..canister
+        },
+        Side::South | Side::North => Canister {
+            b: along,
+            ..canister
+        },
+    };
+    (moved, crossed)
+}
+
+fn forward(settings: &Settings, along: u16) -> (u16, bool) {
+    match along.checked_add(settings.travel) {
+        Some(moved) if moved <= settings.span() => (moved, false),
+        _ => (0, true),
+    }
+}
+
+fn backward(settings: &Settings, along: u16) -> (u16, bool) {
+    match along.checked_sub(settings.travel) {
+        Some(moved) => (moved, false),
+        None => (settings.span(), true),
+    }
+}
+
+/// Numbers come in rising order, since one tile at most moves into the hopper.
+fn deliver(floor: &mut Floor, report: &mut Report, number: u32) {
+    report.delivered[usize::from(report.count)] = number;
+    report.count += 1;
+    floor.counters.delivered += 1;
+}

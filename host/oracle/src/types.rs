@@ -1,0 +1,257 @@
+//! Memory shape of the floor and the answers of the calls.
+
+use crate::refusal;
+
+/// Most tiles a floor can have.
+pub const MAX_TILES: usize = 64;
+/// Canister places of one tile.
+pub const PLACES: usize = 16;
+/// The distance "none".
+pub const NONE: u8 = 255;
+/// The side "none".
+pub const NO_SIDE: u8 = 0;
+
+#[repr(C)]
+#[derive(Clone, Copy, PartialEq, Eq, Debug)]
+pub struct Canister {
+    pub number: u32,
+    pub a: u16,
+    pub b: u16,
+}
+
+#[repr(C)]
+#[derive(Clone, Copy, PartialEq, Eq, Debug)]
+pub struct Tile {
+    /// 1 running, 0 stopped.
+    pub running: u8,
+    /// Hops to the hopper, 255 for none.
+    pub distance: u8,
+    /// The paper's arrow.
+    pub next: u8,
+    /// The paper's turn.
+    pub token: u8,
+    /// Canisters on the tile.
+    pub count: u8,
+}
+
+#[repr(C)]
+#[derive(Clone, Copy, PartialEq, Eq, Debug)]
+pub struct Settings {
+    /// W.
+    pub columns: u8,
+    /// H.
+    pub rows: u8,
+    pub hopper: u8,
+    /// The fill set.
+    pub sources: u64,
+    /// U, side of a tile.
+    pub width: u16,
+    /// l, side of a canister.
+    pub length: u16,
+    /// r, least gap.
+    pub gap: u16,
+    /// v, travel in a round.
+    pub travel: u16,
+}
+
+#[repr(C)]
+#[derive(Clone, Copy, PartialEq, Eq, Debug)]
+pub struct Counters {
+    pub last: u32,
+    pub booked: u32,
+    pub delivered: u32,
+}
+
+/// Canisters of tile t are at places 16 t up to 16 t + count.
+#[repr(C)]
+#[derive(Clone, Copy, PartialEq, Eq, Debug)]
+pub struct Floor {
+    pub settings: Settings,
+    pub counters: Counters,
+    pub tiles: [Tile; MAX_TILES],
+    pub canisters: [Canister; MAX_TILES * PLACES],
+}
+
+#[repr(C)]
+#[derive(Clone, Copy, PartialEq, Eq, Debug)]
+pub struct Report {
+    /// The side each tile granted, 0 for none.
+    pub grants: [u8; MAX_TILES],
+    /// How many numbers were delivered.
+    pub count: u8,
+    pub delivered: [u32; 4],
+}
+
+#[repr(C)]
+#[derive(Clone, Copy, PartialEq, Eq, Debug)]
+pub struct Answer {
+    pub refusal: u8,
+    pub floor: Floor,
+}
+
+#[repr(C)]
+#[derive(Clone, Copy, PartialEq, Eq, Debug)]
+pub struct RoundAnswer {
+    pub refusal: u8,
+    pub floor: Floor,
+    pub report: Report,
+}
+
+#[repr(C)]
+#[derive(Clone, Copy, PartialEq, Eq, Debug)]
+pub struct Reading {
+    pub refusal: u8,
+    pub tile: Tile,
+    pub members: [Canister; PLACES],
+}
+
+#[repr(C)]
+#[derive(Clone, Copy, PartialEq, Eq, Debug)]
+pub struct WriteAnswer {
+    pub refusal: u8,
+    pub length: u32,
+}
+
+impl Canister {
+    pub const ZERO: Canister = Canister {
+        number: 0,
+        a: 0,
+        b: 0,
+    };
+
+    /// Whether the two differ by at least `spacing` in a or in b.
+    pub fn clear_of(&self, other: &Canister, spacing: u32) -> bool {
+        u32::from(self.a.abs_diff(other.a)) >= spacing
+            || u32::from(self.b.abs_diff(other.b)) >= spacing
+    }
+}
+
+impl Tile {
+    pub const ZERO: Tile = Tile {
+        running: 0,
+        distance: 0,
+        next: 0,
+        token: 0,
+        count: 0,
+    };
+
+    /// A running tile that knows no way yet.
+    pub const IDLE: Tile = Tile {
+        running: 1,
+        distance: NONE,
+        next: NO_SIDE,
+        token: NO_SIDE,
+        count: 0,
+    };
+}
+
+impl Settings {
+    pub const ZERO: Settings = Settings {
+        columns: 0,
+        rows: 0,
+        hopper: 0,
+        sources: 0,
+        width: 0,
+        length: 0,
+        gap: 0,
+        travel: 0,
+    };
+
+    /// C, the number of tiles.
+    pub fn tile_count(&self) -> usize {
+        usize::from(self.columns) * usize::from(self.rows)
+    }
+
+    /// d, the least spacing.
+    pub fn spacing(&self) -> u32 {
+        u32::from(self.length) + u32::from(self.gap)
+    }
+
+    /// U - l, the greatest coordinate of a canister; 0 for bad measures.
+    pub fn span(&self) -> u16 {
+        self.width.saturating_sub(self.length)
+    }
+
+    pub fn is_source(&self, tile: usize) -> bool {
+        tile < MAX_TILES && self.sources >> tile & 1 == 1
+    }
+}
+
+impl Counters {
+    pub const ZERO: Counters = Counters {
+        last: 0,
+        booked: 0,
+        delivered: 0,
+    };
+}
+
+impl Floor {
+    pub const ZERO: Floor = Floor {
+        settings: Settings::ZERO,
+        counters: Counters::ZERO,
+        tiles: [Tile::ZERO; MAX_TILES],
+        canisters: [Canister::ZERO; MAX_TILES * PLACES],
+    };
+
+    /// All sixteen places of a tile.
+    pub fn places(&self, tile: usize) -> &[Canister] {
+        &self.canisters[tile * PLACES..][..PLACES]
+    }
+
+    /// The canisters on a tile.
+    pub fn members(&self, tile: usize) -> &[Canister] {
+        let count = usize::from(self.tiles[tile].count).min(PLACES);
+        &self.places(tile)[..count]
+    }
+
+    /// Puts a canister among those of a tile, by rising number.
+    pub(crate) fn insert(&mut self, tile: usize, canister: Canister) {
+        let count = usize::from(self.tiles[tile].count);
+        let places = &mut self.canisters[tile * PLACES..][..PLACES];
+        let at = places[..count]
+            .iter()
+            .rposition(|other| other.number < canister.number)
+            .map_or(0, |before| before + 1);
+        places.copy_within(at..count, at + 1);
+        places[at] = canister;
+        self.tiles[tile].count += 1;
+    }
+}
+
+impl Report {
+    pub const ZERO: Report = Report {
+        grants: [NO_SIDE; MAX_TILES],
+        count: 0,
+        delivered: [0; 4],
+    };
+
+    pub fn delivered(&self) -> &[u32] {
+        &self.delivered[..usize::from(self.count).min(4)]
+    }
+}
+
+impl Answer {
+    pub(crate) fn accepted(floor: Floor) -> Answer {
+        Answer {
+            refusal: refusal::ACCEPTED,
+            floor,
+        }
+    }
+
+    pub(crate) fn refused(refusal: u8, floor: &Floor) -> Answer {
+        Answer {
+            refusal,
+            floor: *floor,
+        }
+    }
+}
+
+impl Reading {
+    pub(crate) fn refused(refusal: u8) -> Reading {
+        Reading {
+            refusal,
+            tile: Tile::ZERO,
+            members: [Canister::ZERO; PLACES],
+        }
+    }
+}

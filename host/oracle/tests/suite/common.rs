@@ -1,0 +1,96 @@
+//! Short ways to make floors and to work on them.
+
+use oracle::{
+    book, fresh, load, repair, round, stop, well_formed, write, Canister, Floor, RoundAnswer,
+    Settings, LONGEST_IMAGE,
+};
+
+/// The settings of the trials: every tile but the hopper a fill tile.
+pub fn plain(columns: u8, rows: u8, hopper: u8) -> Settings {
+    let tiles = u32::from(columns) * u32::from(rows);
+    Settings {
+        columns,
+        rows,
+        hopper,
+        sources: (u64::MAX >> (64 - tiles)) & !(1 << hopper),
+        width: 100,
+        length: 30,
+        gap: 10,
+        travel: 20,
+    }
+}
+
+pub fn made(settings: Settings) -> Floor {
+    let answer = fresh(settings);
+    assert_eq!(answer.refusal, 0);
+    assert!(well_formed(&answer.floor));
+    answer.floor
+}
+
+pub fn line(columns: u8, hopper: u8) -> Floor {
+    made(plain(columns, 1, hopper))
+}
+
+pub fn canister(number: u32, a: u16, b: u16) -> Canister {
+    Canister { number, a, b }
+}
+
+pub fn booked(floor: &Floor, tile: u32, number: u32, a: u16, b: u16) -> Floor {
+    let answer = book(floor, tile, canister(number, a, b));
+    assert_eq!(answer.refusal, 0);
+    assert!(well_formed(&answer.floor));
+    answer.floor
+}
+
+pub fn stopped(floor: &Floor, tile: u32) -> Floor {
+    let answer = stop(floor, tile);
+    assert_eq!(answer.refusal, 0);
+    assert!(well_formed(&answer.floor));
+    answer.floor
+}
+
+pub fn repaired(floor: &Floor, tile: u32) -> Floor {
+    let answer = repair(floor, tile);
+    assert_eq!(answer.refusal, 0);
+    assert!(well_formed(&answer.floor));
+    answer.floor
+}
+
+pub fn turned(floor: &Floor) -> RoundAnswer {
+    let answer = round(floor);
+    assert_eq!(answer.refusal, 0);
+    assert!(well_formed(&answer.floor));
+    answer
+}
+
+/// The floor after some rounds.
+pub fn after(floor: &Floor, rounds: usize) -> Floor {
+    (0..rounds).fold(*floor, |floor, _| turned(&floor).floor)
+}
+
+pub fn image(floor: &Floor) -> Vec<u8> {
+    let mut buffer = vec![0; LONGEST_IMAGE];
+    let answer = write(floor, &mut buffer);
+    assert_eq!(answer.refusal, 0);
+    buffer.truncate(answer.length as usize);
+    buffer
+}
+
+/// The refusal of a load, with the zero floor seen to.
+pub fn load_refusal(bytes: &[u8]) -> u8 {
+    let answer = load(bytes);
+    if answer.refusal == 0 {
+        assert!(well_formed(&answer.floor));
+    } else {
+        assert_eq!(answer.floor, Floor::ZERO);
+    }
+    answer.refusal
+}
+
+/// A malformed floor that breaks nothing but its first clause on the hopper.
+pub fn malformed() -> Floor {
+    let mut floor = line(3, 2);
+    floor.tiles[2].distance = 1;
+    assert!(!well_formed(&floor));
+    floor
+}

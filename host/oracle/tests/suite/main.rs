@@ -1,0 +1,11 @@
+//! Tests against the paper.
+
+mod common;
+mod floors;
+mod garbage;
+mod image;
+mod lists;
+mod naive;
+mod refusals;
+mod rounds;
+mod trials;
