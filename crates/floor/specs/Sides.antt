@@ -1,8 +1,8 @@
 -- Sides: none 0, west 1, south 2, north 3, east 4. Their cyclic order is 1, 2, 3, 4, then 1.
-use mathlib.Core.Bool.{Bool, cond}
+use mathlib.Core.Bool.{Bool, false, cond}
 use mathlib.Core.List.{List, [], _∷_}
 use Prim.Native.Nat.{ℕ, zero, suc}
-use Rattle.laws.specs.Define.{firstOf}
+use Rattle.laws.specs.Define.{firstOf, bit}
 
 -- a choice by side; what is no side counts as none
 abbrev pub bySide : {A : Type 0} → A → A → A → A → A → ℕ → A
@@ -31,3 +31,7 @@ following p k = firstOf p (after k)
 -- "the turn, if none, becomes the first wanting side in order from west; if it no longer wants, the first side that wants, strictly after it"
 unfoldable pub chosen : (ℕ → Bool) → ℕ → ℕ
 chosen p k = cond (p k) k (following p k)
+
+-- a set of sides as four bits, side k being bit k - 1; none is never in it
+unfoldable pub inSet : ℕ → ℕ → Bool
+inSet x = bySide false (bit x 0) (bit x 1) (bit x 2) (bit x 3)

@@ -1,5 +1,12 @@
 // The memory of a floor, the answers of the calls, and the sides of a tile.
 
+ghost use mathlib.Core.Path.{_≡_};
+ghost use Prim.Native.Nat.{_≤_, _<_};
+ghost use Rattle.floor.specs.Settings.{total};
+ghost use Rattle.floor.specs.Sides as S;
+ghost use Rattle.floor.specs.Sides.{inSet};
+ghost use Rattle.floor.specs.Grid as G;
+
 // A canister: its number, never 0, and its place, the south-west corner measured from the tile's.
 #[repr(C)]
 pub struct Canister {
@@ -24,6 +31,63 @@ impl Side {
     pub const NORTH: Side = Side { code: 3 };
 
     pub const EAST: Side = Side { code: 4 };
+
+    // The side that a neighbour has here. Opposite sides add up to five.
+    pub fn opposite(self) -> Side
+        ensures { λ r. ⌜ r .code ≡ S.opposite (self .code) ⌝ }
+    {
+        let k = self.code;
+        match k {
+            1..=4 => Side { code: 5 - k },
+            _ => Side::NONE,
+        }
+    }
+
+    // Whether this side is in the set; none never is.
+    pub fn among(self, set: u8) -> bool
+        requires { ⌜ (self .code ≤ 4) × (set < 16) ⌝ }
+        ensures { λ r. ⌜ r ≡ inSet set (self .code) ⌝ }
+    {
+        let k = self.code;
+        (set << 1 >> k) & 1 == 1
+    }
+
+    // The first side of the set strictly after this one, coming round to itself; none if the set is empty.
+    pub fn following(self, set: u8) -> Side
+        requires { ⌜ (self .code ≤ 4) × (set < 16) ⌝ }
+        ensures { λ r. ⌜ r .code ≡ S.following (inSet set) (self .code) ⌝ }
+    {
+        if set == 0 {
+            return Side::NONE;
+        }
+        let k = self.code;
+        let beyond = set >> k << k;
+        if beyond == 0 {
+            return Side {
+                code: u8::trailing_zeros(set) as u8 + 1,
+            };
+        }
+        Side {
+            code: u8::trailing_zeros(beyond) as u8 + 1,
+        }
+    }
+
+    // The tile beside t on this side; the number of tiles where there is none.
+    pub fn neighbour(self, s: Settings, t: usize) -> usize
+        requires { ⌜ (1 ≤ s .rows) × (s .rows ≤ 8) × (total s ≤ 64) × (t < total s) ⌝ }
+        ensures { λ r. ⌜ r ≡ G.neighbour s (self .code) t ⌝ }
+    {
+        let rows = s.rows as usize;
+        let all = s.columns as usize * rows;
+        let k = self.code;
+        match k {
+            1 => if rows <= t { t - rows } else { all },
+            2 => if 0 < t % rows { t - 1 } else { all },
+            3 => if t % rows + 1 < rows { t + 1 } else { all },
+            4 => if t + rows < all { t + rows } else { all },
+            _ => all,
+        }
+    }
 }
 
 // A tile without its canisters. `running` is 1 or 0; `distance` 255 is none; `next` is document 01's arrow, `token` its
@@ -96,6 +160,13 @@ pub struct Reading {
     pub refusal: u8,
     pub tile: Tile,
     pub members: [Canister; 16],
+}
+
+// The canisters of one tile, by rising number, then zeros.
+#[repr(C)]
+pub struct Members {
+    pub count: u8,
+    pub items: [Canister; 16],
 }
 
 // A distance, and the side that it was read on.
