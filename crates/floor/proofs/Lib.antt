@@ -2,4 +2,9 @@ pub mod SideTables
 pub mod GridBranches
 pub mod Sized
 pub mod Sound
+pub mod Well
+pub mod Rows
+pub mod Pack
+pub mod Capacity
+pub mod First
 pub mod Trials

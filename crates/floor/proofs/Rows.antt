@@ -1,0 +1,177 @@
+-- A floor in memory, place by place: its rows, its zeros, and `fits`.
+use mathlib.Core.Path.{_≡_, refl, sym, ap, _∙_}
+use mathlib.Core.Bool.{true, _&&_}
+use mathlib.Core.List.{List, [], _∷_, _++_}
+use Prim.Native.Nat.{ℕ, zero, suc, _+_, _-_, _*_, _/_, _%_, _≤_, _<_}
+use native.Mathlib.Omega.{arith}
+use native.Mathlib.Decide.{decLe}
+use lib.Dec.{eqb}
+use lib.ListN.{length, getD, take, drop, length-append, length-drop, List·getD-append}
+use lib.Seq.{ext-getD, getD-drop, getD-append-add, drop-drop}
+use borrow.Author.Tests.{eqb-true, eq-eqb}
+use Rattle.laws.specs.Define.{allOf}
+use Rattle.laws.specs.Tests.{and-left, and-right, and-true}
+use Rattle.laws.specs.Tables.{tab-length, tab-at, all-at, all-from-each}
+use Rattle.floor.specs.declared.Canister.{Canister}
+use Rattle.floor.specs.declared.Settings.{Settings}
+use Rattle.floor.specs.declared.Tile.{Tile}
+use Rattle.floor.specs.declared.Floor.{Floor}
+use Rattle.floor.specs.Settings.{total}
+use Rattle.floor.specs.Model.{TileState}
+use Rattle.floor.specs.Memory.{zeroTile, zeroCanister, headOf, stateOf, view, places, rows, isZeroCanister, isZeroTile, block, tileFits, tilesFit, fits}
+
+-- ---- sixteen places for each tile
+pub places-length : (n : ℕ) (l : List Canister) → length (places n l) ≡ n
+unfolding places
+places-length zero l = refl
+places-length (suc n) [] = ap suc (places-length n [])
+places-length (suc n) (c ∷ l) = ap suc (places-length n l)
+
+pub places-at : (n : ℕ) (l : List Canister) (i : ℕ) → i < n → getD (places n l) i zeroCanister ≡ getD l i zeroCanister
+unfolding places
+places-at zero l i h = absurd (omega arith)
+places-at (suc n) [] zero h = refl
+places-at (suc n) [] (suc i) h = places-at n [] i (omega arith)
+places-at (suc n) (c ∷ l) zero h = refl
+places-at (suc n) (c ∷ l) (suc i) h = places-at n l i (omega arith)
+
+pub rows-length : (n k : ℕ) (g : ℕ → TileState) → length (rows n k g) ≡ 16 * n
+unfolding rows
+rows-length zero k g = omega arith
+rows-length (suc n) k g = omega (arith, length-append (places 16 (g k .members)) (rows n (suc k) g), places-length 16 (g k .members), rows-length n (suc k) g)
+
+pub rows-at : (n k : ℕ) (g : ℕ → TileState) (i : ℕ) → i < 16 * n → getD (rows n k g) i zeroCanister ≡ getD (g (k + i / 16) .members) (i % 16) zeroCanister
+unfolding rows
+rows-at zero k g i h = absurd (omega arith)
+rows-at (suc n) k g i h = go (decLe (suc i) 16) (rows-at n (suc k) g (i - 16))
+  where
+    at : (t j : ℕ) → t ≡ k + i / 16 → j ≡ i % 16 → getD (g t .members) j zeroCanister ≡ getD (g (k + i / 16) .members) (i % 16) zeroCanister
+    at t j e q = rw (e, q)
+
+    go : Dec (i < 16) → (i - 16 < 16 * n → getD (rows n (suc k) g) (i - 16) zeroCanister ≡ getD (g (suc k + (i - 16) / 16) .members) ((i - 16) % 16) zeroCanister)
+        → getD (places 16 (g k .members) ++ rows n (suc k) g) i zeroCanister ≡ getD (g (k + i / 16) .members) (i % 16) zeroCanister
+    go (yes p) ih =
+        let q : i < length (places 16 (g k .members)) = omega (arith, places-length 16 (g k .members)) in
+        List·getD-append (places 16 (g k .members)) (rows n (suc k) g) zeroCanister i q ∙ places-at 16 (g k .members) i p ∙ at k i (omega arith) (omega arith)
+    go (no p) ih =
+        let q : i ≡ length (places 16 (g k .members)) + (i - 16) = omega (arith, places-length 16 (g k .members)) in
+        ap (λ (j : ℕ). getD (places 16 (g k .members) ++ rows n (suc k) g) j zeroCanister) q ∙ getD-append-add (places 16 (g k .members)) (rows n (suc k) g) (i - 16) zeroCanister
+        ∙ ih (omega arith) ∙ at (suc k + (i - 16) / 16) ((i - 16) % 16) (omega arith) (omega arith)
+
+-- the canister at place i of a floor, g t being tile t
+abbrev pub placeAt : (ℕ → TileState) → ℕ → Canister
+placeAt g i = getD (g (i / 16) .members) (i % 16) zeroCanister
+
+pub rows-place : (g : ℕ → TileState) (i : ℕ) → i < 1024 → getD (rows 64 0 g) i zeroCanister ≡ placeAt g i
+rows-place g i h = rows-at 64 0 g i (omega arith) ∙ ap (λ (t : ℕ). getD (g t .members) (i % 16) zeroCanister) (omega arith)
+
+pub rows-filled : (g : ℕ → TileState) (l : List Canister) → length l ≡ 1024 → ((i : ℕ) → i < 1024 → getD l i zeroCanister ≡ placeAt g i) → l ≡ rows 64 0 g
+rows-filled g l e h = ext-getD zeroCanister l (rows 64 0 g) (omega (arith, e, rows-length 64 0 g)) (λ i k. let j : i < 1024 = omega arith in h i j ∙ sym (rows-place g i j))
+
+-- ---- zeros
+can-eq : {n a b : ℕ} → n ≡ 0 → a ≡ 0 → b ≡ 0 → _≡_ {A = Canister} (record { number = n; a = a; b = b }) zeroCanister
+can-eq p q r = rw (p, q, r)
+
+tile-eq : {r d a t n : ℕ} → r ≡ 0 → d ≡ 0 → a ≡ 0 → t ≡ 0 → n ≡ 0
+    → _≡_ {A = Tile} (record { running = r; distance = d; next = record { code = a }; token = record { code = t }; count = n }) zeroTile
+tile-eq p q r s u = rw (p, q, r, s, u)
+
+pub zero-tile : (h : Tile) → isZeroTile h ≡ true → h ≡ zeroTile
+unfolding isZeroTile
+zero-tile h p =
+    let p1 = and-right (eqb (h .running) 0) _ p in
+    let p2 = and-right (eqb (h .distance) 0) _ p1 in
+    let p3 = and-right (eqb (h .next .code) 0) _ p2 in
+    tile-eq (eqb-true _ 0 (and-left _ _ p)) (eqb-true _ 0 (and-left _ _ p1)) (eqb-true _ 0 (and-left _ _ p2)) (eqb-true _ 0 (and-left _ _ p3)) (eqb-true _ 0 (and-right (eqb (h .token .code) 0) _ p3))
+
+pub zero-canister : (c : Canister) → isZeroCanister c ≡ true → c ≡ zeroCanister
+unfolding isZeroCanister
+zero-canister c p =
+    let q = and-right (eqb (c .number) 0) (eqb (c .a) 0 && eqb (c .b) 0) p in
+    can-eq (eqb-true _ 0 (and-left _ _ p)) (eqb-true _ 0 (and-left _ _ q)) (eqb-true _ 0 (and-right (eqb (c .a) 0) _ q))
+
+-- the places from n on are zero
+pub rest-zero : (n k : ℕ) (l : List Canister) → allOf isZeroCanister (drop n l) ≡ true → n ≤ k → k < length l → getD l k zeroCanister ≡ zeroCanister
+rest-zero n k l h p q =
+    let j : k - n < length (drop n l) = rw length-drop (omega arith) in
+    let e : n + (k - n) ≡ k = omega arith in
+    let same : getD (drop n l) (k - n) zeroCanister ≡ getD l k zeroCanister = rw e at (getD-drop n l (k - n) zeroCanister) in
+    sym same ∙ zero-canister _ (all-at isZeroCanister (drop n l) zeroCanister h (k - n) j)
+
+pub rest-of : (n : ℕ) (l : List Canister) → ((k : ℕ) → n ≤ k → k < length l → getD l k zeroCanister ≡ zeroCanister) → allOf isZeroCanister (drop n l) ≡ true
+unfolding isZeroCanister
+rest-of n l f = all-from-each isZeroCanister (drop n l) zeroCanister one
+  where
+    one : (k : ℕ) → k < length (drop n l) → isZeroCanister (getD (drop n l) k zeroCanister) ≡ true
+    one k h =
+        let q : n + k < length l = omega (arith, length-drop n l) in
+        ap isZeroCanister (getD-drop n l k zeroCanister ∙ f (n + k) (omega arith) q)
+
+-- ---- fits, tile by tile
+drop-more : (i : ℕ) (cs : List Canister) → drop (16 * i) (drop 16 cs) ≡ drop (16 * suc i) cs
+drop-more i cs = let e : 16 + 16 * i ≡ 16 * suc i = omega arith in drop-drop (16 * i) 16 cs ∙ ap (λ (u : ℕ). drop u cs) e
+
+fit-at : (s : Settings) (t : ℕ) (hs : List Tile) (cs : List Canister) → tilesFit s t hs cs ≡ true
+    → (i : ℕ) → i < length hs → tileFits s (t + i) (getD hs i zeroTile) (block cs i) ≡ true
+unfolding tilesFit
+fit-at s t [] cs h i l = absurd (omega arith)
+fit-at s t (x ∷ hs) cs h zero l =
+    let e : t + 0 ≡ t = omega arith in
+    ap (λ (u : ℕ). tileFits s u x (take 16 cs)) e ∙ and-left (tileFits s t x (take 16 cs)) _ h
+fit-at s t (x ∷ hs) cs h (suc i) l =
+    let e : t + suc i ≡ suc t + i = omega arith in
+    rw (e, sym (drop-more i cs)) (fit-at s (suc t) hs (drop 16 cs) (and-right (tileFits s t x (take 16 cs)) _ h) i (omega arith))
+
+fit-of : (s : Settings) (t : ℕ) (hs : List Tile) (cs : List Canister)
+    → ((i : ℕ) → i < length hs → tileFits s (t + i) (getD hs i zeroTile) (block cs i) ≡ true) → tilesFit s t hs cs ≡ true
+unfolding tilesFit
+fit-of s t [] cs f = refl
+fit-of s t (x ∷ hs) cs f = and-true first (fit-of s (suc t) hs (drop 16 cs) rest)
+  where
+    first : tileFits s t x (take 16 cs) ≡ true
+    first = let e : t ≡ t + 0 = omega arith in ap (λ (u : ℕ). tileFits s u x (take 16 cs)) e ∙ f 0 (omega arith)
+
+    rest : (i : ℕ) → i < length hs → tileFits s (suc t + i) (getD hs i zeroTile) (block (drop 16 cs) i) ≡ true
+    rest i l =
+        let e : suc t + i ≡ t + suc i = omega arith in
+        rw (e, drop-more i cs) (f (suc i) (omega arith))
+
+pub fits-tiles : (f : Floor) → fits f ≡ true → length (f .tiles) ≡ 64
+unfolding fits
+fits-tiles f h = eqb-true _ 64 (and-left _ _ h)
+
+pub fits-canisters : (f : Floor) → fits f ≡ true → length (f .canisters) ≡ 1024
+unfolding fits
+fits-canisters f h = eqb-true _ 1024 (and-left _ _ (and-right (eqb (length (f .tiles)) 64) _ h))
+
+pub tiles-fit-at : (f : Floor) → fits f ≡ true → (t : ℕ) → t < 64 → tileFits (f .settings) t (headOf f t) (block (f .canisters) t) ≡ true
+unfolding fits
+tiles-fit-at f h t l =
+    let e : 0 + t ≡ t = omega arith in
+    let q = and-right (eqb (length (f .canisters)) 1024) _ (and-right (eqb (length (f .tiles)) 64) _ h) in
+    rw e at (fit-at (f .settings) 0 (f .tiles) (f .canisters) q t (omega (arith, fits-tiles f h)))
+
+pub fits-of : (f : Floor) → length (f .tiles) ≡ 64 → length (f .canisters) ≡ 1024
+    → ((t : ℕ) → t < 64 → tileFits (f .settings) t (headOf f t) (block (f .canisters) t) ≡ true) → fits f ≡ true
+unfolding fits
+fits-of f lt lc g = and-true (eq-eqb _ 64 lt) (and-true (eq-eqb _ 1024 lc) (fit-of (f .settings) 0 (f .tiles) (f .canisters) one))
+  where
+    one : (t : ℕ) → t < length (f .tiles) → tileFits (f .settings) (0 + t) (headOf f t) (block (f .canisters) t) ≡ true
+    one t l = let e : 0 + t ≡ t = omega arith in rw e (g t (omega arith))
+
+-- ---- reading the view
+pub view-at : (f : Floor) (t : ℕ) (z : TileState) → t < total (f .settings) → getD (view f .tiles) t z ≡ stateOf f t
+unfolding view
+view-at f t z h = tab-at _ (stateOf f) t z h
+
+pub view-settings : (f : Floor) → view f .settings ≡ f .settings
+unfolding view
+view-settings f = refl
+
+pub view-counters : (f : Floor) → view f .counters ≡ f .counters
+unfolding view
+view-counters f = refl
+
+pub view-length : (f : Floor) → length (view f .tiles) ≡ total (f .settings)
+unfolding view
+view-length f = tab-length _ (stateOf f)
