@@ -7,4 +7,5 @@ pub mod Rows
 pub mod Pack
 pub mod Capacity
 pub mod First
+pub mod Locality
 pub mod Trials

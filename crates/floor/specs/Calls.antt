@@ -83,16 +83,10 @@ repairAnswer f t = let m = view f in answer f (repairTests m t) (withTile m t (r
 -- ---- a round
 -- "Each step reads only what the step before left, for all tiles together."
 unfoldable pub afterRound : Model → Model
-afterRound m =
-    let r = route m in
-    let s = signal r in
-    move s (grantOf r)
+afterRound m = let r = route m in let s = signal r in move s (grantOf r)
 
 unfoldable pub delivered : Model → List ℕ
-delivered m =
-    let r = route m in
-    let s = signal r in
-    deliveredBy s (grantOf r)
+delivered m = let r = route m in let s = signal r in deliveredBy s (grantOf r)
 
 -- "The report gives every tile's grant and the delivered numbers, rising; never more than four."
 unfoldable pub reportOf : Model → Report
