@@ -58,7 +58,7 @@ pigeon (suc n) l h p =
     )
 
 -- elements that a function sends to different numbers below n
-few-cells : {A : Type 0} (P : A → Type 0) (R : A → A → Type 0) (cell : A → ℕ) (n : ℕ) (l : List A)
+pub few-cells : {A : Type 0} (P : A → Type 0) (R : A → A → Type 0) (cell : A → ℕ) (n : ℕ) (l : List A)
     → ((x : A) → P x → cell x < n) → ((x y : A) → P x → P y → R x y → cell x ≢ cell y) → All P l → Pairs R l → length l ≤ n
 few-cells P R cell n l low other p r =
     omega (
@@ -72,10 +72,10 @@ module _ (s : Settings) (M : Measured s) where
   pub spacing-pos : 0 < spacing s
   spacing-pos = omega (arith, M .slow)
 
-  apart-div : (x y : ℕ) → x + spacing s ≤ y → x / spacing s < y / spacing s
+  pub apart-div : (x y : ℕ) → x + spacing s ≤ y → x / spacing s < y / spacing s
   apart-div x y h = le-div-iff-mul-le spacing-pos .1 (omega (arith, div-mul-le-self x (spacing s)))
 
-  within-div : (x : ℕ) → x ≤ span s → x / spacing s ≤ 3
+  pub within-div : (x : ℕ) → x ≤ span s → x / spacing s ≤ 3
   within-div x h = omega (arith, M .dense, le-div-iff-mul-le {k = spacing s} {x = x / spacing s} {y = span s} spacing-pos .1 (omega (arith, div-mul-le-self x (spacing s))))
 
   differ-div : (x y : ℕ) → Differ (spacing s) x y → x / spacing s ≢ y / spacing s

@@ -9,8 +9,8 @@ use native.Mathlib.Nat.{lt-of-lt-of-le}
 use native.Mathlib.Decide.{decLe}
 use lib.ListN.{length, getD, List·getD-eq-default}
 use lib.Pow.{pow-mono}
-use borrow.Author.Tests.{eq-eqb, ne-eqb}
-use Rattle.laws.specs.Define.{refusal}
+use borrow.Author.Tests.{eq-eqb, ne-eqb, lt-leb}
+use Rattle.laws.specs.Define.{refusal, allOf, bit}
 use Rattle.laws.specs.Every.{All}
 use Rattle.laws.specs.Tables.{tab-length, tab-at, tab-off}
 use Rattle.laws.specs.Lists.{all-both, all-imp, all-unmap, cat-all, cat-empty}
@@ -18,16 +18,16 @@ use Rattle.floor.specs.declared.Canister.{Canister}
 use Rattle.floor.specs.declared.Settings.{Settings}
 use Rattle.floor.specs.declared.Tile.{Tile}
 use Rattle.floor.specs.declared.Floor.{Floor}
-use Rattle.floor.specs.Settings.{total, isHopper, settingsTests, settingsRefusal, settingsPass}
-use Rattle.floor.specs.Model.{TileState, noTile, tileOf, membersOf, numbers, numbersOn}
+use Rattle.floor.specs.Settings.{total, spacing, isHopper, settingsTests, settingsRefusal, settingsPass}
+use Rattle.floor.specs.Model.{TileState, noTile, tileOf, runsOf, membersOf, numbers, numbersOn}
 use Rattle.floor.specs.Memory.{zeroTile, zeroCanister, zeroFloor, headOf, stateOf, view, unused, head, pack}
-use Rattle.floor.specs.Well.{sound, wellFormed}
-use Rattle.floor.specs.Calls.{freshTile, freshFloor, freshAnswer}
+use Rattle.floor.specs.Well.{inside, apart, sound, wellFormed}
+use Rattle.floor.specs.Calls.{refusalOf, answer, freshTile, freshFloor, freshAnswer, bookTests, bookAnswer}
 use Rattle.floor.proofs.Sound.{Measured, Inside, Sound}
-use Rattle.floor.proofs.Well.{settings-fact, faces-le, SoundHead, SoundTile, Counted, sound-of}
+use Rattle.floor.proofs.Well.{settings-fact, inside-fact, faces-le, SoundHead, SoundTile, Counted, sound-of}
 use Rattle.floor.proofs.Rows.{view-at}
 use Rattle.floor.proofs.Pack.{zero-off, shown, pack-view, place-shown, well-sound, well-fits, well-few, well-measured, well-lengths, well-head}
-use Rattle.floor.proofs.Capacity.{sound-small, sound-well}
+use Rattle.floor.proofs.Capacity.{full-refused, sound-small, sound-well}
 
 -- ---- fresh
 fresh-tile : (s : Settings) → Measured s → (t : ℕ) → SoundTile s t (freshTile s t)
@@ -203,3 +203,14 @@ module _ (f : Floor) (w : wellFormed f ≡ true) where
         gap-fits = omega (arith, M .narrow, M .short);
         travel-fits = omega (arith, M .narrow, M .short, M .slow);
       }
+
+-- "No refusal for a full tile is needed": with the other tests passed, every place on it is refused by 34
+pub full-tile : (f : Floor) → wellFormed f ≡ true → (t : ℕ) (c : Canister) → length (membersOf (view f) t) ≡ 16
+    → t < total (f .settings) → bit (f .settings .sources) t ≡ true → c .number ≢ 0 → inside (f .settings) c ≡ true → runsOf (view f) t ≡ true → f .counters .last < c .number
+    → bookAnswer f t c .refusal ≡ 34
+unfolding bookAnswer answer refusalOf refusal bookTests view
+full-tile f w t c full on source number place running above =
+    let S = well-sound f w in
+    let no : allOf (apart (spacing (f .settings)) c) (membersOf (view f) t) ≡ false
+    = full-refused (f .settings) (S .measured) (membersOf (view f) t) c (S .inside t) (S .spaced t) full (inside-fact (f .settings) c .0 place) in
+    rw (w, lt-leb (total (f .settings)) t on, source, ne-eqb (c .number) 0 number, place, running, lt-leb (c .number) (f .counters .last) above, no)

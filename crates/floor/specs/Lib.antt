@@ -9,3 +9,5 @@ pub mod Signal
 pub mod Move
 pub mod Calls
 pub mod Bound
+pub mod Live
+pub mod Demand3

@@ -1,0 +1,63 @@
+-- What a round delivers: rising numbers, never more than four.
+use mathlib.Core.Path.{_≡_, sym, ap, subst}
+use mathlib.Core.Logic.{_⊎_, inl, inr, _≢_}
+use mathlib.Core.List.{List, [], List·Memᴰ}
+use Prim.Native.Nat.{ℕ, _/_, _≤_, _<_}
+use native.Mathlib.Omega.{arith}
+use lib.ListN.{length, length-map}
+use Rattle.laws.specs.Every.{All, Pairs}
+use Rattle.laws.specs.Lists.{all-of, all-both, pairs-map}
+use Rattle.floor.specs.declared.Canister.{Canister}
+use Rattle.floor.specs.declared.Settings.{Settings}
+use Rattle.floor.specs.Sides.{sides}
+use Rattle.floor.specs.Settings.{spacing}
+use Rattle.floor.specs.Model.{Model}
+use Rattle.floor.specs.Calls.{delivered}
+use Rattle.floor.proofs.Sound.{Measured, Inside, Apart, Sound}
+use Rattle.floor.proofs.Capacity.{few-cells, spacing-pos, apart-div, within-div}
+use Rattle.floor.proofs.Geometry.{room, across, across-le, Along, apart-along}
+use Rattle.floor.proofs.Fields.{comes, delivered-are}
+use Rattle.floor.proofs.Passing.{Taking, idle-or}
+use Rattle.floor.proofs.Safety.{comes-inside, comes-apart, comes-rising, comes-room}
+
+-- ---- along one border of a tile there is place for four
+module _ (s : Settings) (g : Measured s) {k : ℕ} (mk : List·Memᴰ k sides) where
+  slot : Canister → ℕ
+  slot c = across s k c / spacing s
+
+  slot-differs : (c e : Canister) → Inside s c × (room s k c ≡ 0) → Inside s e × (room s k e ≡ 0) → Apart (spacing s) c e → slot c ≢ slot e
+  unfolding slot
+  slot-differs c e p q h = go (apart-along s g mk c e (p .0) (q .0) h)
+    where
+      go : Along s g k c e → across s k c / spacing s ≢ across s k e / spacing s
+      go (inl (inl z)) = absurd (omega (arith, spacing-pos s g))
+      go (inl (inr z)) = absurd (omega (arith, spacing-pos s g))
+      go (inr (inl z)) = omega (arith, apart-div s g (across s k c) (across s k e) z)
+      go (inr (inr z)) = omega (arith, apart-div s g (across s k e) (across s k c) z)
+
+  slot-few : (c : Canister) → Inside s c × (room s k c ≡ 0) → slot c < 4
+  unfolding slot
+  slot-few c i = omega (arith, within-div s g (across s k c) (across-le s g mk c (i .0)))
+
+  border-few : (l : List Canister) → All (Inside s) l → All (λ c. room s k c ≡ 0) l → Pairs (Apart (spacing s)) l → length l ≤ 4
+  border-few l i z p =
+      few-cells (λ c. Inside s c × (room s k c ≡ 0)) (Apart (spacing s)) slot 4 l slot-few slot-differs (all-both (Inside s) (λ c. room s k c ≡ 0) l i z) p
+
+module _ (m : Model) (S : Sound m) where
+  comes-few : (t : ℕ) → length (comes m t) ≤ 4
+  comes-few t = go (idle-or m S t)
+    where
+      go : (comes m t ≡ []) ⊎ Taking m S t → length (comes m t) ≤ 4
+      go (inl e) = omega (arith, ap length e)
+      go (inr K) = border-few (m .settings) (S .measured) (K .grant .wanting .side) (comes m t) (comes-inside m S t) (comes-room m S t K) (comes-apart m S t)
+
+  pub delivered-few : length (delivered m) ≤ 4
+  delivered-few =
+      let h = m .settings .hopper in
+      omega (arith, ap (λ (l : List ℕ). length l) (delivered-are m (S .len)), length-map (comes m h) (λ (c : Canister). c .number), comes-few h)
+
+  pub delivered-rising : Pairs (λ x y. x < y) (delivered m)
+  delivered-rising =
+      let l = comes m (m .settings .hopper) in
+      subst (Pairs (λ x y. x < y)) (sym (delivered-are m (S .len)))
+      (pairs-map (λ _. Unit {0}) (λ c e. c .number < e .number) (λ x y. x < y) (λ c. c .number) l (λ x y _ _ h. h) (all-of (λ _. Unit {0}) l (λ _ _. tt)) (comes-rising m S (m .settings .hopper)))

@@ -1,0 +1,94 @@
+-- What one tile's signal tells: its grant goes to a side that wants, across a gap; its token to a side that wants.
+use mathlib.Core.Path.{_≡_, refl}
+use mathlib.Core.Logic.{_⊎_, inl, inr}
+use mathlib.Core.Bool.{Bool, true, false, cond, _&&_}
+use mathlib.Core.List.{List, [], List·Memᴰ}
+use Prim.Native.Nat.{ℕ, zero, suc, _<_}
+use native.Mathlib.Omega.{arith}
+use lib.Dec.{ltb}
+use borrow.Author.Tests.{lt-ltb}
+use Rattle.laws.specs.Define.{allOf, anyOf, firstOf}
+use Rattle.laws.specs.Tests.{by-test, not-both, and-right}
+use Rattle.laws.specs.Search.{any-mem, first-mem, first-none}
+use Rattle.floor.specs.declared.Canister.{Canister}
+use Rattle.floor.specs.declared.Settings.{Settings}
+use Rattle.floor.specs.declared.Signal.{Signal}
+use Rattle.floor.specs.Sides.{sides, after, following, chosen}
+use Rattle.floor.specs.Signal.{hasGap, signalWith, signalBy}
+use Rattle.floor.proofs.Grid.{side-after}
+
+-- ---- the token among the sides that want
+module _ (p : ℕ → Bool) where
+  following-wants : (k : ℕ) → 0 < following p k → p (following p k) ≡ true
+  unfolding following
+  following-wants k h = go (by-test (anyOf p (after k)))
+    where
+      go : (anyOf p (after k) ≡ true) ⊎ (anyOf p (after k) ≡ false) → p (firstOf p (after k)) ≡ true
+      go (inl e) = first-mem p (after k) e .1
+      go (inr e) = absurd (omega (arith, first-none p (after k) e))
+
+  chosen-wants : (k : ℕ) → 0 < chosen p k → p (chosen p k) ≡ true
+  unfolding chosen
+  chosen-wants k h = go (p k) refl
+    where
+      go : (b : Bool) → p k ≡ b → p (cond (p k) k (following p k)) ≡ true
+      go true e = rw e e
+      go false e = rw e (following-wants k (rw e at h))
+
+  -- where some side wants, one is chosen
+  chosen-some : p 0 ≡ false → (j : ℕ) → List·Memᴰ j sides → p j ≡ true → (k : ℕ) → 0 < chosen p k
+  unfolding chosen following
+  chosen-some z j mj h k = go (p k) refl
+    where
+      pos : (x : ℕ) → p x ≡ true → 0 < x
+      pos zero e = not-both e z
+      pos (suc x) e = omega arith
+
+      go : (b : Bool) → p k ≡ b → 0 < cond b k (firstOf p (after k))
+      go true e = pos k e
+      go false e = pos (firstOf p (after k)) (first-mem p (after k) (any-mem p (side-after k mj) h) .1)
+
+module _ (s : Settings) (running : Bool) (token : ℕ) (l : List Canister) (p : ℕ → Bool) where
+  abbrev given : Signal
+  given = signalBy s running token l p
+
+  pub grant-told : 0 < given .grant → (running ≡ true) × (p (given .grant) ≡ true) × (hasGap s (given .grant) l ≡ true)
+  unfolding signalBy signalWith
+  grant-told h = go running refl (ltb 0 k && hasGap s k l) refl
+    where
+      k : ℕ
+      k = chosen p token
+
+      made : Bool → Bool → Signal
+      made r b = cond r (cond b (record { token = following p k; grant = k }) (record { token = k; grant = 0 })) (record { token = token; grant = 0 })
+
+      go : (r : Bool) → running ≡ r → (b : Bool) → (ltb 0 k && hasGap s k l) ≡ b
+          → (running ≡ true) × (p (made running (ltb 0 k && hasGap s k l) .grant) ≡ true) × (hasGap s (made running (ltb 0 k && hasGap s k l) .grant) l ≡ true)
+      go false e b q = absurd (omega (arith, rw e at h))
+      go true e false q = absurd (omega (arith, rw (e, q) at h))
+      go true e true q = rw (e, q) (refl, chosen-wants p token (rw (e, q) at h), and-right (ltb 0 k) (hasGap s k l) q)
+
+  pub token-told : running ≡ true → 0 < given .token → p (given .token) ≡ true
+  unfolding signalBy signalWith
+  token-told r h = rw r (go (ltb 0 k && hasGap s k l) refl)
+    where
+      k : ℕ
+      k = chosen p token
+
+      made : Bool → Signal
+      made b = cond b (record { token = following p k; grant = k }) (record { token = k; grant = 0 })
+
+      go : (b : Bool) → (ltb 0 k && hasGap s k l) ≡ b → p (made (ltb 0 k && hasGap s k l) .token) ≡ true
+      go true q = rw q (following-wants p k (rw (r, q) at h))
+      go false q = rw q (chosen-wants p token (rw (r, q) at h))
+
+  pub token-stopped : running ≡ false → given .token ≡ token
+  unfolding signalBy
+  token-stopped r = rw r
+
+  -- an empty running tile that some side wants to enter grants one
+  pub grant-some : running ≡ true → l ≡ [] → p 0 ≡ false → (j : ℕ) → List·Memᴰ j sides → p j ≡ true → 0 < given .grant
+  unfolding signalBy signalWith hasGap allOf
+  grant-some r e z j mj h =
+      let c = chosen-some p z j mj h token in
+      rw (r, e, lt-ltb 0 (chosen p token) c) c

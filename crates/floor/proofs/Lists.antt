@@ -1,0 +1,166 @@
+-- Lists of calls on floors in memory: what each call and each list keeps.
+use mathlib.Core.Path.{_≡_, refl, sym, ap, _∙_, subst}
+use mathlib.Core.Logic.{_≢_}
+use mathlib.Core.Bool.{Bool, true, false, cond, not, _&&_, true≢false, false≢true}
+use mathlib.Core.List.{List, [], _∷_, _++_}
+use Prim.Native.Nat.{ℕ, suc, _+_, _≤_, _<_}
+use native.Mathlib.Omega.{arith}
+use lib.Dec.{eqb}
+use lib.ListN.{length, getD, take}
+use borrow.Author.Tests.{eqb-true, ne-eqb}
+use Rattle.laws.specs.Define.{tab, refusal}
+use Rattle.laws.specs.Every.{All}
+use Rattle.laws.specs.Tests.{refusal-none, test-none}
+use Rattle.floor.specs.declared.Canister.{Canister}
+use Rattle.floor.specs.declared.Floor.{Floor}
+use Rattle.floor.specs.Model.{Model, tileOf, runsOf, withTile}
+use Rattle.floor.specs.Memory.{view, pack}
+use Rattle.floor.specs.Well.{wellFormed}
+use Rattle.floor.specs.Calls.{refusalOf, answer, bookTests, booked, bookAnswer, stopTests, stopped, stopAnswer, repairTests, repaired, repairAnswer, afterRound, delivered, reportOf, roundAnswer}
+use Rattle.floor.specs.Demand3.{Call, book, stop, repair, round, Typed, Outcome, outcome, floorAfter, bookedIn, reportedIn, runsBy, latest, isRound, Quiet, roundsIn}
+use Rattle.floor.proofs.Sound.{Sound}
+use Rattle.floor.proofs.Pack.{well-sound}
+use Rattle.floor.proofs.Capacity.{sound-well, view-packed}
+use Rattle.floor.proofs.Deliveries.{delivered-few}
+use Rattle.floor.proofs.Fields.{round-runs}
+use Rattle.floor.proofs.Clearing.{rounds}
+use Rattle.floor.proofs.Calls.{Keeps, Accepted, book-keeps, stop-keeps, repair-keeps, round-keeps, same-floor, keeps-join, book-runs, stop-runs, repair-runs}
+
+-- from f to g, with the numbers that came and went
+abbrev pub KeepsWell : Floor → Floor → List ℕ → List ℕ → Type 0
+KeepsWell f g came went = (wellFormed g ≡ true) × Keeps (view f) (view g) came went
+
+module _ (f : Floor) (w : wellFormed f ≡ true) where
+  S : Sound (view f)
+  S = well-sound f w
+
+  unchanged : KeepsWell f f [] []
+  unchanged = (w, same-floor (view f) S)
+
+  packed : (n : Model) (came went : List ℕ) → Keeps (view f) n came went → KeepsWell f (pack n) came went
+  packed n came went K = (sound-well n (K .well), subst (λ (x : Model). Keeps (view f) x came went) (sym (view-packed n (K .well))) K)
+
+  -- the answer of a call with tests: accepted or not
+  module _ (tests : List (Bool × ℕ)) (pos : All (λ x. 0 < x .1) tests) where
+    pub passed : eqb (refusalOf f tests) 0 ≡ true → Accepted tests
+    unfolding refusalOf
+    passed e = refusal-none tests pos (test-none (not (wellFormed f)) 30 tests (omega arith) (eqb-true (refusalOf f tests) 0 e) .1)
+
+    by-answer : (P : Bool → Type 0) → (Accepted tests → P true) → P false → P (eqb (refusalOf f tests) 0)
+    by-answer P yes′ no′ = go (eqb (refusalOf f tests) 0) refl
+      where
+        go : (b : Bool) → eqb (refusalOf f tests) 0 ≡ b → P b
+        go true e = yes′ (passed e)
+        go false e = no′
+
+    answer-keeps : (n : Model) (came : Bool → List ℕ) → came false ≡ [] → (Accepted tests → Keeps (view f) n (came true) [])
+        → KeepsWell f (cond (eqb (refusalOf f tests) 0) (pack n) f) (came (eqb (refusalOf f tests) 0)) []
+    answer-keeps n came e K =
+        by-answer (λ b. KeepsWell f (cond b (pack n) f) (came b) []) (λ T. packed n (came true) [] (K T)) (subst (λ (l : List ℕ). KeepsWell f f l []) (sym e) unchanged)
+
+    -- how a tile runs after it; `same` tells whether the call named that tile
+    answer-runs : (n : Model) (t : ℕ) (same r : Bool) → Sound (view f) → (Accepted tests → Sound n) → (Accepted tests → runsOf n t ≡ cond same r (runsOf (view f) t))
+        → runsOf (view (cond (eqb (refusalOf f tests) 0) (pack n) f)) t ≡ cond (eqb (refusalOf f tests) 0 && same) r (runsOf (view f) t)
+    answer-runs n t same r S′ sn h =
+        by-answer (λ b. runsOf (view (cond b (pack n) f)) t ≡ cond (b && same) r (runsOf (view f) t))
+        (λ T. ap (λ (x : Model). runsOf x t) (view-packed n (sn T)) ∙ h T) refl
+
+  -- a round on a well-formed floor is accepted
+  pub round-accepted : refusalOf f [] ≡ 0
+  unfolding refusalOf refusal
+  round-accepted = rw w
+
+  pub round-floor : outcome f round .floor ≡ pack (afterRound (view f))
+  unfolding outcome roundAnswer
+  round-floor = rw round-accepted
+
+  -- the first `count` of the report's four numbers are all that were delivered
+  listed : (l : List ℕ) → length l ≤ 4 → take (length l) (tab 4 (λ k. getD l k 0)) ≡ l
+  unfolding tab
+  listed [] h = refl
+  listed (a ∷ []) h = refl
+  listed (a ∷ b ∷ []) h = refl
+  listed (a ∷ b ∷ c ∷ []) h = refl
+  listed (a ∷ b ∷ c ∷ d ∷ []) h = refl
+  listed (a ∷ b ∷ c ∷ d ∷ e ∷ l) h = absurd (omega arith)
+
+  pub round-reported : outcome f round .reported ≡ delivered (view f)
+  unfolding outcome roundAnswer reportOf
+  round-reported = rw round-accepted (listed (delivered (view f)) (delivered-few (view f) S))
+
+  pub view-round : (c : Call) → isRound c ≡ true → view (outcome f c .floor) ≡ afterRound (view f)
+  view-round (book t c) e = absurd (false≢true e)
+  view-round (stop t) e = absurd (false≢true e)
+  view-round (repair t) e = absurd (false≢true e)
+  view-round round e = ap view round-floor ∙ view-packed (afterRound (view f)) (round-keeps (view f) S .well)
+
+  -- ---- one call
+  pub call-keeps : (c : Call) → Typed c → KeepsWell f (outcome f c .floor) (outcome f c .booked) (outcome f c .reported)
+  unfolding outcome bookAnswer stopAnswer repairAnswer answer bookTests stopTests repairTests
+  call-keeps (book t c) h =
+      answer-keeps (bookTests (view f) t c) (omega arith) (booked (view f) t c) (λ b. cond b (c .number ∷ []) []) refl (λ T. book-keeps (view f) S t c T (h .1))
+  call-keeps (stop t) h = answer-keeps (stopTests (view f) t) (omega arith) (withTile (view f) t (stopped (tileOf (view f) t))) (λ _. []) refl (stop-keeps (view f) S t)
+  call-keeps (repair t) h = answer-keeps (repairTests (view f) t) (omega arith) (withTile (view f) t (repaired (tileOf (view f) t))) (λ _. []) refl (repair-keeps (view f) S t)
+  call-keeps round h =
+      subst (λ (g : Floor). KeepsWell f g [] (outcome f round .reported)) (sym round-floor)
+      (subst (λ (l : List ℕ). KeepsWell f (pack (afterRound (view f))) [] l) (sym round-reported) (packed (afterRound (view f)) [] (delivered (view f)) (round-keeps (view f) S)))
+
+  -- which tiles run after it
+  pub call-runs : (c : Call) → Typed c → (t : ℕ) → runsOf (view (outcome f c .floor)) t ≡ runsBy f c t (runsOf (view f) t)
+  unfolding outcome bookAnswer stopAnswer repairAnswer answer bookTests stopTests repairTests runsBy
+  call-runs (book u c) h t =
+      answer-runs (bookTests (view f) u c) (omega arith) (booked (view f) u c) t false true S (λ T. book-keeps (view f) S u c T (h .1) .well) (λ T. book-runs (view f) S u c T t) ∙ never (eqb (refusalOf f (bookTests (view f) u c)) 0)
+    where
+      never : (b : Bool) → cond (b && false) true (runsOf (view f) t) ≡ runsOf (view f) t
+      never true = refl
+      never false = refl
+  call-runs (stop u) h t =
+      answer-runs (stopTests (view f) u) (omega arith) (withTile (view f) u (stopped (tileOf (view f) u))) t (eqb u t) false S (λ T. stop-keeps (view f) S u T .well) (λ T. stop-runs (view f) S u T t)
+  call-runs (repair u) h t =
+      answer-runs (repairTests (view f) u) (omega arith) (withTile (view f) u (repaired (tileOf (view f) u))) t (eqb u t) true S (λ T. repair-keeps (view f) S u T .well) (λ T. repair-runs (view f) S u T t)
+  call-runs round h t = ap (λ (x : Model). runsOf x t) (view-round round refl) ∙ round-runs (view f) (S .len) t
+
+  -- a refused call gives the floor back
+  refused : (tests : List (Bool × ℕ)) (n : Model) → refusalOf f tests ≢ 0 → cond (eqb (refusalOf f tests) 0) (pack n) f ≡ f
+  refused tests n h = rw (ne-eqb (refusalOf f tests) 0 h)
+
+  pub call-refused : (c : Call) → isRound c ≡ false → outcome f c .refusal ≢ 0 → outcome f c .floor ≡ f
+  unfolding outcome bookAnswer stopAnswer repairAnswer answer
+  call-refused (book t c) r h = refused (bookTests (view f) t c) (booked (view f) t c) h
+  call-refused (stop t) r h = refused (stopTests (view f) t) (withTile (view f) t (stopped (tileOf (view f) t))) h
+  call-refused (repair t) r h = refused (repairTests (view f) t) (withTile (view f) t (repaired (tileOf (view f) t))) h
+  call-refused round r h = absurd (true≢false r)
+
+-- ---- lists
+pub list-keeps : (f : Floor) → wellFormed f ≡ true → (cs : List Call) → All Typed cs → KeepsWell f (floorAfter f cs) (bookedIn f cs) (reportedIn f cs)
+unfolding floorAfter bookedIn reportedIn
+list-keeps f w [] h = unchanged f w
+list-keeps f w (c ∷ cs) h =
+    let g = outcome f c .floor in
+    let K = call-keeps f w c (h .0) in
+    let J = list-keeps g (K .0) cs (h .1) in
+    (J .0, keeps-join (view f) (view g) (view (floorAfter g cs)) (outcome f c .booked) (outcome f c .reported) (bookedIn g cs) (reportedIn g cs) (K .1) (J .1))
+
+-- the history of a tile tells how it runs now
+pub list-runs : (f : Floor) → wellFormed f ≡ true → (cs : List Call) → All Typed cs → (t : ℕ) → latest f cs t (runsOf (view f) t) ≡ runsOf (view (floorAfter f cs)) t
+unfolding latest floorAfter
+list-runs f w [] h t = refl
+list-runs f w (c ∷ cs) h t =
+    ap (latest (outcome f c .floor) cs t) (sym (call-runs f w c (h .0) t)) ∙ list-runs (outcome f c .floor) (call-keeps f w c (h .0) .0) cs (h .1) t
+
+-- a quiet list is its rounds
+pub quiet-rounds : (f : Floor) → wellFormed f ≡ true → (cs : List Call) → All Typed cs → Quiet f cs → view (floorAfter f cs) ≡ rounds (roundsIn cs) (view f)
+unfolding floorAfter rounds
+quiet-rounds f w [] h q = refl
+quiet-rounds f w (c ∷ cs) h q = quiet-rounds (outcome f c .floor) (call-keeps f w c (h .0) .0) cs (h .1) (q .1) ∙ here (isRound c) refl
+  where
+    n : ℕ
+    n = roundsIn cs
+
+    here : (b : Bool) → isRound c ≡ b → rounds n (view (outcome f c .floor)) ≡ rounds (cond b 1 0 + n) (view f)
+    here true e =
+        let k : suc n ≡ 1 + n = omega arith in
+        ap (rounds n) (view-round f w c e) ∙ ap (λ (x : ℕ). rounds x (view f)) k
+    here false e =
+        let k : n ≡ 0 + n = omega arith in
+        ap (λ (g : Floor). rounds n (view g)) (call-refused f w c e (q .0 e)) ∙ ap (λ (x : ℕ). rounds x (view f)) k

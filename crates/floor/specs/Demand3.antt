@@ -1,0 +1,112 @@
+-- Demand 3: what is promised of every list of calls. The theorem is `demand3` of proofs/Theorem.
+use mathlib.Core.Path.{_≡_}
+use mathlib.Core.Logic.{_↔_, _≢_}
+use mathlib.Core.Bool.{Bool, true, false, cond, not, _&&_}
+use mathlib.Core.List.{List, [], _∷_, _++_, List·Permᴰ}
+use Prim.Native.Nat.{ℕ, _+_, _^_, _≤_, _<_}
+use lib.Dec.{eqb}
+use lib.ListN.{length, take}
+use Rattle.laws.specs.Define.{allOf, pairsOf}
+use Rattle.laws.specs.Every.{All}
+use Rattle.floor.specs.declared.Canister.{Canister}
+use Rattle.floor.specs.declared.Floor.{Floor}
+use Rattle.floor.specs.Settings.{spacing}
+use Rattle.floor.specs.Model.{runsOf, membersOf, numbersOn}
+use Rattle.floor.specs.Memory.{view}
+use Rattle.floor.specs.Well.{inside, apart, wellFormed}
+use Rattle.floor.specs.Calls.{bookAnswer, stopAnswer, repairAnswer, roundAnswer}
+use Rattle.floor.specs.Bound.{bound}
+use Rattle.floor.specs.Live.{LivePath, connected, connectedCount}
+
+-- "a list holds bookings, stops, repairs and rounds in any order and number; it may be empty"
+pub data Call : Type 0 where
+  book : ℕ → Canister → Call
+  stop : ℕ → Call
+  repair : ℕ → Call
+  round : Call
+
+-- arguments have their parameters' widths: a tile and a number 32 bits, a and b 16
+abbrev pub Typed : Call → Type 0
+Typed (book t c) = (t < 2 ^ 32) × (c .number < 2 ^ 32) × (c .a < 2 ^ 16) × (c .b < 2 ^ 16)
+Typed (stop t) = t < 2 ^ 32
+Typed (repair t) = t < 2 ^ 32
+Typed round = Unit {0}
+
+-- a call's answer: its refusal number, 0 if accepted; its floor; the numbers that it booked; the numbers that it reported delivered
+pub record Outcome : Type 0 where
+  pub refusal : ℕ
+  pub floor : Floor
+  pub booked : List ℕ
+  pub reported : List ℕ
+
+-- a booking's number counts if it is accepted; a round reports the first `count` of its report's four
+unfoldable pub outcome : Floor → Call → Outcome
+outcome f (book t c) = let r = bookAnswer f t c in record { refusal = r .refusal; floor = r .floor; booked = cond (eqb (r .refusal) 0) (c .number ∷ []) []; reported = [] }
+outcome f (stop t) = let r = stopAnswer f t in record { refusal = r .refusal; floor = r .floor; booked = []; reported = [] }
+outcome f (repair t) = let r = repairAnswer f t in record { refusal = r .refusal; floor = r .floor; booked = []; reported = [] }
+outcome f round = let r = roundAnswer f in record { refusal = r .refusal; floor = r .floor; booked = []; reported = take (r .report .count) (r .report .delivered) }
+
+-- "Each call gets its own arguments and the floor the last one gave; a refused call gives that floor back and stays in the list."
+unfoldable pub floorAfter : Floor → List Call → Floor
+floorAfter f [] = f
+floorAfter f (c ∷ cs) = floorAfter (outcome f c .floor) cs
+
+-- the numbers of accepted bookings
+unfoldable pub bookedIn : Floor → List Call → List ℕ
+bookedIn f [] = []
+bookedIn f (c ∷ cs) = outcome f c .booked ++ bookedIn (outcome f c .floor) cs
+
+-- "all that the rounds reported delivered"
+unfoldable pub reportedIn : Floor → List Call → List ℕ
+reportedIn f [] = []
+reportedIn f (c ∷ cs) = outcome f c .reported ++ reportedIn (outcome f c .floor) cs
+
+-- "A tile runs if the latest accepted stop or repair of it since the first floor was a repair or, without one, if it ran on the first floor."
+unfoldable pub runsBy : Floor → Call → ℕ → Bool → Bool
+runsBy f (book u c) t r = r
+runsBy f (stop u) t r = cond (eqb (outcome f (stop u) .refusal) 0 && eqb u t) false r
+runsBy f (repair u) t r = cond (eqb (outcome f (repair u) .refusal) 0 && eqb u t) true r
+runsBy f round t r = r
+
+unfoldable pub latest : Floor → List Call → ℕ → Bool → Bool
+latest f [] t r = r
+latest f (c ∷ cs) t r = latest (outcome f c .floor) cs t (runsBy f c t r)
+
+unfoldable pub runsAfter : Floor → List Call → ℕ → Bool
+runsAfter f cs t = latest f cs t (runsOf (view f) t)
+
+abbrev pub isRound : Call → Bool
+isRound (book t c) = false
+isRound (stop t) = false
+isRound (repair t) = false
+isRound round = true
+
+-- a list with "no accepted booking, stop or repair", and its rounds
+abbrev pub Quiet : Floor → List Call → Type 0
+Quiet f [] = Unit {0}
+Quiet f (c ∷ cs) = (isRound c ≡ false → outcome f c .refusal ≢ 0) × Quiet (outcome f c .floor) cs
+
+abbrev pub roundsIn : List Call → ℕ
+roundsIn [] = 0
+roundsIn (c ∷ cs) = cond (isRound c) 1 0 + roundsIn cs
+
+-- f the first floor, cs the list
+pub record Promises (f : Floor) (cs : List Call) : Type 0 where
+  pub now : Floor
+  pub is-now : now ≡ floorAfter f cs
+  pub well : wellFormed now ≡ true
+  -- "each a and b is from 0 to U - l"; "two canisters of one tile differ by at least d in a or in b"
+  pub within : (t : ℕ) → allOf (inside (f .settings)) (membersOf (view now) t) ≡ true
+  pub spaced : (t : ℕ) → pairsOf (apart (spacing (f .settings))) (membersOf (view now) t) ≡ true
+  -- "the first floor's numbers with that of each accepted booking are, in some order, those on the floor now with all that the rounds reported delivered, and no number stands twice on either side"
+  pub kept : List·Permᴰ (numbersOn (view f) ++ bookedIn f cs) (numbersOn (view now) ++ reportedIn f cs)
+  pub once-before : pairsOf (λ x y. not (eqb x y)) (numbersOn (view f) ++ bookedIn f cs) ≡ true
+  pub once-now : pairsOf (λ x y. not (eqb x y)) (numbersOn (view now) ++ reportedIn f cs) ≡ true
+  -- "Booked now = booked on the first floor + accepted bookings. Delivered now = delivered on the first floor + numbers reported."
+  pub booked : now .counters .booked ≡ f .counters .booked + length (bookedIn f cs)
+  pub delivered : now .counters .delivered ≡ f .counters .delivered + length (reportedIn f cs)
+  -- K, `connectedCount`, counts the canisters on tiles with a live path
+  pub counts-live : (t : ℕ) → LivePath (f .settings) (runsAfter f cs) t ↔ connected (f .settings) (runsAfter f cs) t ≡ true
+  -- "after any further list with at least (C - 1) × (1 + K × M) rounds and no accepted booking, stop or repair, no canister is on a tile with a live path to the hopper"
+  pub emptied : (ds : List Call) → All Typed ds → Quiet now ds → bound (f .settings) (connectedCount (view now) (runsAfter f cs)) ≤ roundsIn ds
+      → (t : ℕ) → LivePath (f .settings) (runsAfter f cs) t → membersOf (view (floorAfter now ds)) t ≡ []
