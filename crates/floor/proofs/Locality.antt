@@ -1,4 +1,4 @@
--- "each tile deciding from its four neighbours": two floors with equal settings that agree on a tile and on its neighbours give that tile the same outcome of each step.
+-- Each tile decides from its four neighbours: two floors with equal settings that agree on a tile and on its neighbours give that tile the same outcome of each step.
 use mathlib.Core.Path.{_≡_, refl, sym, ap, _∙_}
 use mathlib.Core.List.{List}
 use Prim.Native.Nat.{ℕ, _<_}

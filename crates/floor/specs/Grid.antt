@@ -16,6 +16,6 @@ neighbour s k t =
     (cond (ltb (t + s .rows) (total s)) (t + s .rows) (total s))
     k
 
--- "each tile deciding from its four neighbours": g of what the neighbours of t to the west, south, north and east show
+-- each tile decides from its four neighbours: g of what the neighbours of t to the west, south, north and east show
 abbrev pub around : {A B : Type 0} → Settings → (ℕ → A) → ℕ → (A → A → A → A → B) → B
 around s show t g = g (show (neighbour s 1 t)) (show (neighbour s 2 t)) (show (neighbour s 3 t)) (show (neighbour s 4 t))
