@@ -13,17 +13,18 @@ use lib.Seq.{getD-set-same, getD-set-other}
 use borrow.Author.Tests.{leb-false, eqb-true, eq-eqb, ne-eqb, not-false}
 use Rattle.laws.specs.Define.{cat, allOf, bit}
 use Rattle.laws.specs.Every.{All, Pairs}
-use Rattle.laws.specs.Tests.{by-test, not-both, r-le, r-and, r-or, r-all}
+use Rattle.laws.specs.Tests.{by-test, not-both, r-all}
 use Rattle.laws.specs.Lists.{all-perm, all-imp, all-unmap, pairs-perm, cat-perm, cat-append, cat-one, cat-all, swap-append, map-perm, perm-of, perm-chain, length-perm, all-append, all-cross, pairs-append}
 use Rattle.floor.specs.declared.Canister.{Canister}
 use Rattle.floor.specs.declared.Settings.{Settings}
 use Rattle.floor.specs.declared.Counters.{Counters}
-use Rattle.floor.specs.Settings.{total, spacing, span, isHopper}
+use Rattle.floor.specs.Settings.{total, spacing, isHopper}
 use Rattle.floor.specs.Model.{TileState, Model, noTile, tileOf, runs, runsOf, membersOf, numbers, numbersOn, withTile, withMembers}
 use Rattle.floor.specs.Well.{inside, apart}
 use Rattle.floor.specs.Move.{insert}
 use Rattle.floor.specs.Calls.{bookTests, booked, stopTests, stopped, repairTests, repaired, afterRound, delivered}
 use Rattle.floor.proofs.Sound.{Inside, Apart, Faces, Sound}
+use Rattle.floor.proofs.Well.{inside-fact, apart-fact}
 use Rattle.floor.proofs.Geometry.{apart-sym}
 use Rattle.floor.proofs.Borders.{Rising}
 use Rattle.floor.proofs.Insertion.{insert-perm, insert-rising}
@@ -206,14 +207,6 @@ is-hopper : (s : Settings) (t : ℕ) → isHopper s t ≡ true → t ≡ s .hopp
 unfolding isHopper
 is-hopper s t h = eqb-true t (s .hopper) h
 
-r-inside : (s : Settings) (c : Canister) → inside s c ≡ true → Inside s c
-unfolding inside
-r-inside s c h = let w = r-and (r-le (c .a) (span s)) (r-le (c .b) (span s)) .0 h in record { in-a = w .0; in-b = w .1 }
-
-r-apart : (d : ℕ) (x y : Canister) → apart d x y ≡ true ↔ Apart d x y
-unfolding apart
-r-apart d x y = r-or (r-or (r-le (x .a + d) (y .a)) (r-le (y .a + d) (x .a))) (r-or (r-le (x .b + d) (y .b)) (r-le (y .b + d) (x .b)))
-
 -- Booking. A number of 32 bits is asked for, since the counters have no more.
 pub book-keeps : (m : Model) → Sound m → (t : ℕ) (c : Canister) → Accepted (bookTests m t c) → c .number < 2 ^ 32 → Keeps m (booked m t c) (c .number ∷ []) []
 unfolding bookTests booked
@@ -222,8 +215,8 @@ book-keeps m S t c T fit =
     let new : m .counters .last < c .number = leb-false (c .number) (m .counters .last) (T .1 .1 .1 .1 .1 .0) in
     let r : runsOf m t ≡ true = not-false (runsOf m t) (T .1 .1 .1 .1 .0) in
     let n : isHopper (m .settings) t ≡ false = off (by-test (isHopper (m .settings) t)) in
-    let i = r-inside (m .settings) c (not-false (inside (m .settings) c) (T .1 .1 .1 .0)) in
-    let far = r-all (apart (spacing (m .settings)) c) (Apart (spacing (m .settings)) c) (r-apart (spacing (m .settings)) c) (membersOf m t) .0 (not-false (allOf (apart (spacing (m .settings)) c) (membersOf m t)) (T .1 .1 .1 .1 .1 .1 .0)) in
+    let i = inside-fact (m .settings) c .0 (not-false (inside (m .settings) c) (T .1 .1 .1 .0)) in
+    let far = r-all (apart (spacing (m .settings)) c) (Apart (spacing (m .settings)) c) (apart-fact (spacing (m .settings)) c) (membersOf m t) .0 (not-false (allOf (apart (spacing (m .settings)) c) (membersOf m t)) (T .1 .1 .1 .1 .1 .1 .0)) in
     let x = withMembers (tileOf m t) (insert c (membersOf m t)) in
     let k : Counters = record { last = c .number; booked = m .counters .booked + 1; delivered = m .counters .delivered } in
     let p = put-numbers m S t on x k (c .number ∷ []) (List·Permᴰ·trans (map-perm (λ c. c .number) (insert-perm c (membersOf m t))) (swap-append (c .number ∷ []) (numbers (membersOf m t)))) in

@@ -20,6 +20,7 @@ use Rattle.floor.specs.Grid.{neighbour}
 use Rattle.floor.specs.Model.{TileState, Model, noTile, tileOf, runs, numbersOn}
 use Rattle.floor.specs.Memory.{head}
 use Rattle.floor.specs.Well.{hopperSound, runningSound, stoppedSound, faces, headSound, inside, apart, inOrder, membersSound, tileSound, numbersSound, countersSound, sound}
+use Rattle.floor.proofs.Grid.{neighbour-side}
 use Rattle.floor.proofs.Sound.{Measured, Inside, Apart, Faces, Sound}
 
 -- ---- the settings
@@ -62,24 +63,10 @@ pub faces-fact : (s : Settings) (t k : ℕ) → faces s t k ≡ true ↔ Faces s
 unfolding faces
 faces-fact s t k = r-or (r-eq k 0) (r-lt _ _)
 
--- what has a neighbour on the floor is one of the four sides
-pub faces-side : (s : Settings) (t k : ℕ) → neighbour s k t < total s → List·Memᴰ k sides
-unfolding neighbour sides
-faces-side s t zero h = absurd (omega arith)
-faces-side s t (suc zero) h = List·Memᴰ·head refl
-faces-side s t (suc (suc zero)) h = List·Memᴰ·tail (List·Memᴰ·head refl)
-faces-side s t (suc (suc (suc zero))) h = List·Memᴰ·tail (List·Memᴰ·tail (List·Memᴰ·head refl))
-faces-side s t (suc (suc (suc (suc zero)))) h = List·Memᴰ·tail (List·Memᴰ·tail (List·Memᴰ·tail (List·Memᴰ·head refl)))
-faces-side s t (suc (suc (suc (suc (suc k))))) h = absurd (omega arith)
-
-pub side-of-faces : (s : Settings) (t k : ℕ) → Faces s t k → 0 < k → List·Memᴰ k sides
-side-of-faces s t k (inl e) p = absurd (omega arith)
-side-of-faces s t k (inr h) p = faces-side s t k h
-
 pub faces-le : (s : Settings) (t k : ℕ) → Faces s t k → k ≤ 4
 unfolding sides
 faces-le s t k (inl e) = omega arith
-faces-le s t k (inr h) = all-mem (λ j. j ≤ 4) (faces-side s t k h) four
+faces-le s t k (inr h) = all-mem (λ j. j ≤ 4) (neighbour-side s k t h) four
   where
     four : All (λ j. j ≤ 4) (1 ∷ 2 ∷ 3 ∷ 4 ∷ [])
     four = omega arith
