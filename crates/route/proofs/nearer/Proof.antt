@@ -1,0 +1,20 @@
+use borrow.Author.Tests.{lt-ltb, le-ltb}
+use Rattle.laws.specs.Tests.{pick-yes, pick-no}
+use Rattle.floor.specs.Route as R
+use Rattle.route.proofs.nearer.Statement.{statement}
+use Rattle.route.proofs.nearer.Tie as tie
+use Rattle.route.proofs.nearer.Reads as reads
+use Rattle.route.proofs.nearer.Lts as lts
+
+-- src/lib.rt:22:9
+returns : tie.Need-returns
+unfolding R.nearer
+returns c = let g = c .before .before .args in pick-yes _ g.b (lt-ltb g.distance (g.b .distance) (c .if1 .taken))
+
+-- src/lib.rt:18:1
+returns-2 : tie.Need-returns-2
+unfolding R.nearer
+returns-2 c = let g = c .before .before .args in pick-no (record { distance = g.distance; side = g.side }) g.b (le-ltb g.distance (g.b .distance) (c .if1 .left))
+
+pub nearer-spec : {M : Type 1} → statement M
+nearer-spec = tie.close (tie.spec returns returns-2)

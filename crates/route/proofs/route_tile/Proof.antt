@@ -1,0 +1,58 @@
+use mathlib.Core.Path.{ap, _∙_}
+use Rattle.route.specs.Routed.{headed}
+use Rattle.route.proofs.RouteLaws.{tile-still, tile-on}
+use borrow.Author.Needs.{needs}
+use Rattle.route.proofs.route_tile.Statement.{statement}
+use Rattle.route.proofs.route_tile.Tie as tie
+use Rattle.route.proofs.route_tile.Reads as reads
+use Rattle.route.proofs.route_tile.Lts as lts
+use Rattle.route.proofs.nearest.Reads as nearest-reads
+use Rattle.route.proofs.onward.Reads as onward-reads
+
+-- src/lib.rt:72:18
+cast-hopper : tie.Need-cast-hopper
+cast-hopper c = search needs
+
+-- src/lib.rt:75:9
+returns : tie.Need-returns
+returns c = let g = c .before .before .before .args in tile-still g.s g.t g.tile g.west g.south g.north g.east (c .if1 .taken)
+
+-- src/lib.rt:77:15
+cast-all : tie.Need-cast-all
+cast-all c = search needs
+
+-- src/lib.rt:77:36
+cast-all-2 : tie.Need-cast-all-2
+cast-all-2 c = search needs
+
+-- src/lib.rt:77:15
+mul-all : tie.Need-mul-all
+mul-all c = search needs
+
+-- src/lib.rt:78:9
+nearest-requires : tie.Need-nearest-requires
+nearest-requires c κs = search needs
+
+-- src/lib.rt:79:9
+onward-requires : tie.Need-onward-requires
+onward-requires c κs = c .before .before .before .before .before .before .pre
+
+-- src/lib.rt:60:1
+returns-2 : tie.Need-returns-2
+returns-2 c =
+    let g = c .before .before .before .before .before .before .before .before .args in
+    let e = rw (c .before .before .nearest .ensures) at (c .before .onward .ensures) in
+    ap (headed g.tile) e ∙ tile-on g.s g.t g.tile g.west g.south g.north g.east (c .before .before .before .before .before .if1 .left)
+
+pub route-tile-spec : {M : Type 1} → statement M
+route-tile-spec =
+    tie.close
+    (tie.spec
+    cast-hopper
+    returns
+    cast-all
+    cast-all-2
+    mul-all
+    nearest-requires
+    onward-requires
+    returns-2)

@@ -1,0 +1,134 @@
+// Route, the first step of a round: "Distance = 1 + the least old distance among the neighbours".
+
+ghost use mathlib.Core.Path.{_≡_};
+ghost use mathlib.Core.Bool.{true};
+ghost use Prim.Native.Nat.{_≤_};
+ghost use Rattle.laws.specs.Tables.{Upto};
+ghost use Rattle.floor.specs.Settings.{total, settingsPass};
+ghost use Rattle.floor.specs.Memory.{view, pack, fits};
+ghost use Rattle.floor.specs.Route as R;
+ghost use Rattle.route.specs.Routed.{Ranged, Redone, within, distanceIn, routedTile, routedAt};
+use floor::Floor;
+use floor::Heading;
+use floor::Settings;
+use floor::Side;
+use floor::Tile;
+
+// The nearer of two; the earlier one where they are as near.
+pub fn nearer(b: Heading, distance: u8, side: u8) -> Heading
+    ensures { λ r. ⌜ r ≡ R.nearer b distance side ⌝ }
+{
+    if distance < b.distance {
+        return Heading {
+            distance: distance,
+            side: side,
+        };
+    }
+    b
+}
+
+// The neighbour of least old distance. Ties: west, south, north, east.
+pub fn nearest(west: u8, south: u8, north: u8, east: u8) -> Heading
+    ensures { λ r. ⌜ r ≡ R.nearest west south north east ⌝ }
+{
+    let first = Heading {
+        distance: west,
+        side: 1,
+    };
+    nearer(nearer(nearer(first, south, 2), north, 3), east, 4)
+}
+
+// One more than the least; at the number of tiles or more it is none.
+fn onward(all: usize, b: Heading) -> Heading
+    requires { ⌜ all ≤ 64 ⌝ }
+    ensures { λ r. ⌜ r ≡ R.onward all b ⌝ }
+{
+    let next = b.distance as usize + 1;
+    if next < all {
+        return Heading {
+            distance: next as u8,
+            side: b.side,
+        };
+    }
+    Heading {
+        distance: 255,
+        side: 0,
+    }
+}
+
+// One tile, from its four neighbours' old distances. The hopper and a stopped tile keep their own.
+pub fn route_tile(
+    s: Settings,
+    t: usize,
+    tile: Tile,
+    west: u8,
+    south: u8,
+    north: u8,
+    east: u8,
+) -> Tile
+    requires { ⌜ total s ≤ 64 ⌝ }
+    ensures { λ r. ⌜ r ≡ routedTile s t tile west south north east ⌝ }
+{
+    let hopper = s.hopper as usize;
+    let still = (t == hopper) | (tile.running != 1);
+    if still {
+        return tile;
+    }
+    let all = s.columns as usize * s.rows as usize;
+    let near = nearest(west, south, north, east);
+    let b = onward(all, near);
+    let next = Side { code: b.side };
+    let token = tile.token;
+    Tile {
+        running: tile.running,
+        distance: b.distance,
+        next: next,
+        token: token,
+        count: tile.count,
+    }
+}
+
+// The tiles' distances; none at the number of no tile.
+pub fn distances(s: Settings, tiles: [Tile; 64]) -> [u8; 65]
+    requires { ⌜ total s ≤ 64 ⌝ }
+    ensures { λ r. ⌜ Upto 65 (within (total s) (distanceIn tiles) 255) 0 r ⌝ }
+{
+    let all = s.columns as usize * s.rows as usize;
+    let mut d = [255u8; 65];
+    for t in 0usize..all {
+        let tile = tiles[t];
+        d[t] = tile.distance;
+    }
+    d
+}
+
+// All tiles together: the neighbours' distances are the old ones.
+pub fn route_pass(s: Settings, tiles: [Tile; 64]) -> [Tile; 64]
+    requires { ⌜ Ranged s ⌝ }
+    ensures { λ r. ⌜ Redone (total s) (routedAt s tiles) tiles r ⌝ }
+{
+    let all = s.columns as usize * s.rows as usize;
+    let d = distances(s, tiles);
+    let mut out = tiles;
+    for t in 0usize..all {
+        let west = d[Side::WEST.neighbour(s, t)];
+        let south = d[Side::SOUTH.neighbour(s, t)];
+        let north = d[Side::NORTH.neighbour(s, t)];
+        let east = d[Side::EAST.neighbour(s, t)];
+        out[t] = route_tile(s, t, tiles[t], west, south, north, east);
+    }
+    out
+}
+
+// The whole floor's first step.
+pub fn route_floor(f: Floor) -> Floor
+    requires { ⌜ (settingsPass (f .settings) ≡ true) × (fits f ≡ true) ⌝ }
+    ensures { λ r. ⌜ r ≡ pack (R.route (view f)) ⌝ }
+{
+    let s = f.settings;
+    let tiles = f.tiles;
+    let next = route_pass(s, tiles);
+    let mut out = f;
+    out.tiles = next;
+    out
+}

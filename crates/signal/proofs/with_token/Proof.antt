@@ -1,0 +1,14 @@
+use mathlib.Core.Path.{refl}
+use Rattle.signal.specs.Signalling.{tokened}
+use Rattle.signal.proofs.with_token.Statement.{statement}
+use Rattle.signal.proofs.with_token.Tie as tie
+use Rattle.signal.proofs.with_token.Reads as reads
+use Rattle.signal.proofs.with_token.Lts as lts
+
+-- src/lib.rt:166:1
+returns : tie.Need-returns
+unfolding tokened
+returns c = refl
+
+pub with-token-spec : {M : Type 1} → statement M
+with-token-spec = tie.close (tie.spec returns)

@@ -1,0 +1,240 @@
+// Signal, the second step of a round: which side each tile grants, and its new turn.
+
+ghost use mathlib.Core.Path.{_≡_};
+ghost use mathlib.Core.Bool.{true, cond};
+ghost use Prim.Native.Nat.{_≤_, _<_};
+ghost use lib.ListN.{take};
+ghost use Rattle.laws.specs.Tables.{Upto};
+ghost use Rattle.floor.specs.Sides as S;
+ghost use Rattle.floor.specs.Sides.{inSet};
+ghost use Rattle.floor.specs.Settings.{total, settingsPass};
+ghost use Rattle.floor.specs.Memory.{view, fits};
+ghost use Rattle.floor.specs.Well.{wellFormed};
+ghost use Rattle.floor.specs.Route as R;
+ghost use Rattle.floor.specs.Signal as G;
+ghost use Rattle.floor.specs.Signal.{requests, shownNext, hasGap};
+ghost use Rattle.route.specs.Routed.{Ranged, Redone, within};
+ghost use Rattle.signal.specs.Signalling.{Ready, Roomy, Granted, shownIn, signalFrom, tokened, tileAt, grantAt, signalledOf};
+use floor::Canister;
+use floor::Floor;
+use floor::Members;
+use floor::Settings;
+use floor::Side;
+use floor::Signal;
+use floor::Tile;
+use route::route_floor;
+
+// The tiles with their new tokens, and every tile's grant.
+pub struct Signals {
+    pub tiles: [Tile; 64],
+    pub grants: [u8; 64],
+}
+
+// A floor after Signal, and every tile's grant.
+pub struct Signalled {
+    pub floor: Floor,
+    pub grants: [u8; 64],
+}
+
+// What stands in an unused place.
+const UNUSED: Canister = Canister {
+    number: 0,
+    a: 0,
+    b: 0,
+};
+
+// x if b, else nothing.
+fn only_if(b: bool, x: u8) -> u8
+    ensures { λ r. ⌜ r ≡ cond b x 0 ⌝ }
+{
+    if b { x } else { 0 }
+}
+
+// The set of the sides that want, from what the neighbours show: side k is bit k - 1.
+pub fn requesting(west: u8, south: u8, north: u8, east: u8) -> u8
+    ensures { λ r. ⌜ (r < 16) × (inSet r ≡ requests west south north east) ⌝ }
+{
+    only_if(west == 4, 1) | only_if(south == 3, 2) | only_if(north == 2, 4) | only_if(east == 1, 8)
+}
+
+// The turn, if it wants; else the first side that wants, strictly after it.
+pub fn chosen(set: u8, token: Side) -> Side
+    requires { ⌜ (token .code ≤ 4) × (set < 16) ⌝ }
+    ensures { λ r. ⌜ r .code ≡ S.chosen (inSet set) (token .code) ⌝ }
+{
+    if token.among(set) {
+        return token;
+    }
+    token.following(set)
+}
+
+// Whether a canister leaves the gap at a side.
+pub fn clear(s: Settings, side: Side, c: Canister) -> bool
+    ensures { λ r. ⌜ r ≡ G.clear s (side .code) c ⌝ }
+{
+    let length = s.length as u32;
+    let spacing = length + s.gap as u32;
+    let width = s.width as u32;
+    let a = c.a as u32;
+    let b = c.b as u32;
+    let k = side.code;
+    match k {
+        1 => spacing <= a,
+        2 => spacing <= b,
+        3 => b + length + spacing <= width,
+        4 => a + length + spacing <= width,
+        _ => false,
+    }
+}
+
+// Whether every canister does.
+pub fn has_gap(s: Settings, side: Side, members: Members) -> bool
+    requires { ⌜ members .count ≤ 16 ⌝ }
+    ensures { λ r. ⌜ r ≡ hasGap s (side .code) (take (members .count) (members .items)) ⌝ }
+{
+    let n = members.count as usize;
+    let items = members.items;
+    let mut ok = true;
+    for k in 0usize..n {
+        let one = clear(s, side, items[k]);
+        ok = ok & one;
+    }
+    ok
+}
+
+// One tile, from what its four neighbours show. A stopped tile keeps its turn and grants nothing.
+pub fn signal_tile(
+    s: Settings,
+    running: u8,
+    token: Side,
+    members: Members,
+    west: u8,
+    south: u8,
+    north: u8,
+    east: u8,
+) -> Signal
+    requires { ⌜ (token .code ≤ 4) × (members .count ≤ 16) ⌝ }
+    ensures { λ r. ⌜ r ≡ signalFrom s running (token .code) (take (members .count) (members .items)) west south north east ⌝ }
+{
+    if running != 1 {
+        return Signal {
+            token: token.code,
+            grant: 0,
+        };
+    }
+    let set = requesting(west, south, north, east);
+    let side = chosen(set, token);
+    if side.code == 0 {
+        return Signal { token: 0, grant: 0 };
+    }
+    let free = has_gap(s, side, members);
+    if free {
+        let after = side.following(set);
+        return Signal {
+            token: after.code,
+            grant: side.code,
+        };
+    }
+    Signal {
+        token: side.code,
+        grant: 0,
+    }
+}
+
+// The side that a tile shows: its next if it has canisters, else none.
+fn shown_next(count: u8, next: u8) -> u8
+    ensures { λ r. ⌜ r ≡ shownNext count next ⌝ }
+{
+    if 0 < count { next } else { 0 }
+}
+
+// What the tiles show; none at the number of no tile.
+pub fn shown(s: Settings, tiles: [Tile; 64]) -> [u8; 65]
+    requires { ⌜ total s ≤ 64 ⌝ }
+    ensures { λ r. ⌜ Upto 65 (within (total s) (shownIn tiles) 0) 0 r ⌝ }
+{
+    let all = s.columns as usize * s.rows as usize;
+    let mut d = [0u8; 65];
+    for t in 0usize..all {
+        let tile = tiles[t];
+        d[t] = shown_next(tile.count, tile.next.code);
+    }
+    d
+}
+
+// The tile with another token.
+fn with_token(tile: Tile, k: u8) -> Tile
+    ensures { λ r. ⌜ r ≡ tokened tile k ⌝ }
+{
+    let next = tile.next;
+    let token = Side { code: k };
+    Tile {
+        running: tile.running,
+        distance: tile.distance,
+        next: next,
+        token: token,
+        count: tile.count,
+    }
+}
+
+// All tiles together. A tile's sixteen places are read in this loop: the large array is handed to no helper.
+pub fn signal_pass(s: Settings, tiles: [Tile; 64], canisters: [Canister; 1024]) -> Signals
+    requires { ⌜ Ranged s × Ready s tiles × Roomy s tiles ⌝ }
+    ensures { λ r. ⌜ Redone (total s) (tileAt s tiles canisters) tiles (r .tiles) × Granted (total s) (grantAt s tiles canisters) (r .grants) ⌝ }
+{
+    let all = s.columns as usize * s.rows as usize;
+    let show = shown(s, tiles);
+    let mut out = tiles;
+    let mut grants = [0u8; 64];
+    for t in 0usize..all {
+        let mut items = [UNUSED; 16];
+        for k in 0usize..16 {
+            items[k] = canisters[16 * t + k];
+        }
+        let tile = tiles[t];
+        let token = tile.token;
+        let members = Members {
+            count: tile.count,
+            items: items,
+        };
+        let west = show[Side::WEST.neighbour(s, t)];
+        let south = show[Side::SOUTH.neighbour(s, t)];
+        let north = show[Side::NORTH.neighbour(s, t)];
+        let east = show[Side::EAST.neighbour(s, t)];
+        let one = signal_tile(s, tile.running, token, members, west, south, north, east);
+        out[t] = with_token(tile, one.token);
+        grants[t] = one.grant;
+    }
+    Signals {
+        tiles: out,
+        grants: grants,
+    }
+}
+
+// The whole floor's second step. It asks that the floor fits its memory and each turn is a side, not that it is well formed: so it can go on from Route.
+pub fn signal_floor(f: Floor) -> Signalled
+    requires { ⌜ (settingsPass (f .settings) ≡ true) × (fits f ≡ true) × Ready (f .settings) (f .tiles) ⌝ }
+    ensures { λ r. ⌜ r ≡ signalledOf (view f) ⌝ }
+{
+    let s = f.settings;
+    let tiles = f.tiles;
+    let canisters = f.canisters;
+    let next = signal_pass(s, tiles, canisters);
+    let mut out = f;
+    let turned = next.tiles;
+    out.tiles = turned;
+    let grants = next.grants;
+    Signalled {
+        floor: out,
+        grants: grants,
+    }
+}
+
+// Route, then Signal.
+pub fn route_and_signal(f: Floor) -> Signalled
+    requires { ⌜ wellFormed f ≡ true ⌝ }
+    ensures { λ r. ⌜ r ≡ signalledOf (R.route (view f)) ⌝ }
+{
+    let next = route_floor(f);
+    signal_floor(next)
+}
