@@ -1,0 +1,273 @@
+-- What was written is read back: with nothing after it without a fault, with bytes after it or with its end cut off as 9.
+use mathlib.Core.Path.{_≡_, refl, sym, ap, _∙_}
+use mathlib.Core.Bool.{cond}
+use mathlib.Core.List.{List, [], _∷_, _++_, append-assoc, append-nil}
+use Prim.Native.Nat.{ℕ, suc, _+_, _-_, _*_, _≤_, _<_}
+use native.Mathlib.Omega.{arith}
+use native.Mathlib.Decide.{decLe}
+use lib.Dec.{ltb}
+use borrow.Author.Tests.{le-ltb, lt-ltb, eq-eqb}
+use lib.ListN.{length, take, drop, length-append}
+use lib.Seq.{drop-at}
+use Rattle.laws.specs.Define.{refusal}
+use Rattle.laws.specs.Every.{All}
+use Rattle.wire.specs.Bytes.{fieldsOf, bytesOf, field, Fit, row-length, fields-bytes}
+use Rattle.floor.specs.declared.Canister.{Canister}
+use Rattle.floor.specs.declared.Settings.{Settings}
+use Rattle.floor.specs.declared.Counters.{Counters}
+use Rattle.floor.specs.Settings.{total, settingsRefusal}
+use Rattle.floor.specs.Model.{TileState, Model}
+use Rattle.image.specs.Image.{settingsWidths, settingsValues, countersWidths, countersValues, tileWidths, tileValues, canisterWidths, canisterValues, recordOf, settingsBody, countersBody, canistersBody, tileBody, tilesBytes, encode, bodyIn, restIn, settingsIn, countersIn, canisterIn, canistersIn, tileIn, tilesIn, modelIn, settingsFaults, countersFaults, tileFaults, endFaults, ownFaults, recordFault, orElse, endFault, tilesFault, fault}
+use Rattle.image.proofs.Records.{record-length, length-in, body-in, rest-in, fault-in, cut-off, cut-after}
+use Rattle.image.proofs.Sizes.{settings-size, counters-size, canister-size, tile-size}
+
+-- ---- each value fits its bytes
+pub record TileFits (x : TileState) : Type 0 where
+  pub few : length (x .members) ≤ 16
+  pub members : All (λ c. Fit canisterWidths (canisterValues c)) (x .members)
+  pub head : (t : ℕ) → t < 256 → Fit tileWidths (tileValues t x)
+
+-- and the settings pass 1 to 3, and there are C tiles
+pub record Fits (m : Model) : Type 0 where
+  pub settings : Fit settingsWidths (settingsValues (m .settings))
+  pub counters : Fit countersWidths (countersValues (m .counters))
+  pub each : All TileFits (m .tiles)
+  pub many : length (m .tiles) ≡ total (m .settings)
+  pub few : length (m .tiles) ≤ 64
+  pub passed : settingsRefusal (m .settings) ≡ 0
+
+-- ---- a body that is read after it was written
+settings-back : (s : Settings) (ys : List ℕ) → Fit settingsWidths (settingsValues s) → settingsIn (settingsBody s ++ ys) ≡ s
+unfolding settingsIn settingsBody
+settings-back s ys h = rw (fields-bytes settingsWidths (settingsValues s) ys h)
+
+zero-back : (s : Settings) (ys : List ℕ) → Fit settingsWidths (settingsValues s) → field settingsWidths 3 (settingsBody s ++ ys) ≡ 0
+unfolding settingsBody
+zero-back s ys h = rw (fields-bytes settingsWidths (settingsValues s) ys h)
+
+counters-back : (c : Counters) (ys : List ℕ) → Fit countersWidths (countersValues c) → countersIn (countersBody c ++ ys) ≡ c
+unfolding countersIn countersBody
+counters-back c ys h = rw (fields-bytes countersWidths (countersValues c) ys h)
+
+canister-back : (c : Canister) (ys : List ℕ) → Fit canisterWidths (canisterValues c) → canisterIn (bytesOf canisterWidths (canisterValues c) ++ ys) ≡ c
+unfolding canisterIn
+canister-back c ys h = rw (fields-bytes canisterWidths (canisterValues c) ys h)
+
+canisters-back : (l : List Canister) (ys : List ℕ) → All (λ c. Fit canisterWidths (canisterValues c)) l → canistersIn (length l) (canistersBody l ++ ys) ≡ l
+unfolding canistersIn canistersBody
+canisters-back [] ys h = refl
+canisters-back (c ∷ l) ys h =
+    let bs : List ℕ = bytesOf canisterWidths (canisterValues c) in
+    rw (append-assoc bs (canistersBody l) ys, canister-back c (canistersBody l ++ ys) (h .0), drop-at bs (canistersBody l ++ ys) 8 (canister-size c), canisters-back l ys (h .1))
+
+module _ (t : ℕ) (x : TileState) (ys : List ℕ) (small : t < 256) (f : TileFits x) where
+  tile-head : fieldsOf tileWidths (tileBody t x ++ ys) ≡ tileValues t x
+  unfolding tileBody
+  tile-head = rw (append-assoc (bytesOf tileWidths (tileValues t x)) (canistersBody (x .members)) ys) (fields-bytes tileWidths (tileValues t x) _ (f .head t small))
+
+  tile-tail : drop 6 (tileBody t x ++ ys) ≡ canistersBody (x .members) ++ ys
+  unfolding tileBody
+  tile-tail =
+      rw (append-assoc (bytesOf tileWidths (tileValues t x)) (canistersBody (x .members)) ys)
+      (drop-at (bytesOf tileWidths (tileValues t x)) (canistersBody (x .members) ++ ys) 6 (row-length tileWidths (tileValues t x) refl))
+
+  tile-back : tileIn (tileBody t x ++ ys) ≡ x
+  unfolding tileIn
+  tile-back = rw (tile-head, tile-tail, canisters-back (x .members) ys (f .members))
+
+  tile-short : length (tileBody t x) < 65536
+  tile-short = omega (arith, tile-size t x, f .few)
+
+  tile-right : recordFault 3 t (recordOf 3 (tileBody t x) ++ ys) ≡ 0
+  unfolding ownFaults tileFaults refusal
+  tile-right =
+      let s : length (tileBody t x) ≡ 6 + 8 * length (x .members) = tile-size t x in
+      let six : 6 ≤ length (tileBody t x) = omega arith in
+      rw (
+        fault-in 3 (tileBody t x) ys tile-short (omega arith),
+        tile-head,
+        le-ltb (length (tileBody t x)) 6 six,
+        eq-eqb t t refl,
+        le-ltb 16 (length (x .members)) (f .few),
+        eq-eqb (length (tileBody t x)) (6 + 8 * length (x .members)) s,
+      )
+
+  tile-rest : restIn (recordOf 3 (tileBody t x) ++ ys) ≡ ys
+  tile-rest = rest-in 3 (tileBody t x) ys tile-short
+
+  tile-body : bodyIn (recordOf 3 (tileBody t x) ++ ys) ≡ tileBody t x ++ ys
+  tile-body = body-in 3 (tileBody t x) ys tile-short
+
+-- ---- the tiles and the end
+-- 9 where bytes are left over
+unfoldable pub leftover : List ℕ → ℕ
+leftover [] = 0
+leftover (y ∷ ys) = 9
+
+end-right : (ys : List ℕ) → recordFault 4 0 (recordOf 4 [] ++ ys) ≡ 0
+unfolding ownFaults endFaults refusal
+end-right ys = rw (fault-in 4 [] ys (omega arith) (omega arith))
+
+end-left : (ys : List ℕ) → cond (ltb 4 (4 + length ys)) 9 0 ≡ leftover ys
+unfolding leftover
+end-left [] = refl
+end-left (y ∷ ys) = let h : 4 < 4 + length (y ∷ ys) = omega arith in rw (lt-ltb 4 (4 + length (y ∷ ys)) h)
+
+end-back : (ys : List ℕ) → endFault (recordOf 4 [] ++ ys) ≡ leftover ys
+unfolding endFault refusal
+end-back ys =
+    let n : length (recordOf 4 [] ++ ys) ≡ 4 + length ys = rw (length-append, record-length 4 []) in
+    rw (end-right ys, length-in 4 [] ys (omega arith), n) (end-left ys)
+
+pub tiles-back : (t : ℕ) (l : List TileState) (ys : List ℕ) → All TileFits l → t + length l ≤ 256
+    → (tilesFault (length l) t (tilesBytes t l ++ ys) ≡ leftover ys) × (tilesIn (length l) (tilesBytes t l ++ ys) ≡ l)
+unfolding tilesFault tilesIn tilesBytes
+tiles-back t [] ys h k = (end-back ys, refl)
+tiles-back t (x ∷ l) ys h k =
+    let s : t < 256 = omega arith in
+    let zs : List ℕ = tilesBytes (suc t) l ++ ys in
+    let i = tiles-back (suc t) l ys (h .1) (omega arith) in
+    let a : (recordOf 3 (tileBody t x) ++ tilesBytes (suc t) l) ++ ys ≡ recordOf 3 (tileBody t x) ++ zs = append-assoc (recordOf 3 (tileBody t x)) (tilesBytes (suc t) l) ys in (
+      rw (a, tile-right t x zs s (h .0), tile-rest t x zs s (h .0)) (i .0),
+      rw (a, tile-body t x zs s (h .0), tile-back t x zs s (h .0), tile-rest t x zs s (h .0), i .1),
+    )
+
+tiles-cut : (t n : ℕ) (l : List TileState) → All TileFits l → t + length l ≤ 256 → n < length (tilesBytes t l) → tilesFault (length l) t (take n (tilesBytes t l)) ≡ 9
+unfolding tilesFault tilesBytes endFault
+tiles-cut t n [] h k q =
+    let m : n < 4 + length {A = ℕ} [] = omega (arith, record-length 4 []) in
+    let e : recordFault 4 0 (take n (recordOf 4 [])) ≡ 9 = ap (λ (l : List ℕ). recordFault 4 0 (take n l)) (sym (append-nil (recordOf 4 []))) ∙ cut-off 4 0 n [] [] (omega arith) m in
+    rw e
+tiles-cut t n (x ∷ l) h k q = go (decLe (4 + length (tileBody t x)) n) (tiles-cut (suc t) (n - (4 + length (tileBody t x))) l (h .1) (omega arith))
+  where
+    go : Dec (4 + length (tileBody t x) ≤ n) → (n - (4 + length (tileBody t x)) < length (tilesBytes (suc t) l) → tilesFault (length l) (suc t) (take (n - (4 + length (tileBody t x))) (tilesBytes (suc t) l)) ≡ 9)
+        → orElse (recordFault 3 t (take n (recordOf 3 (tileBody t x) ++ tilesBytes (suc t) l))) (tilesFault (length l) (suc t) (restIn (take n (recordOf 3 (tileBody t x) ++ tilesBytes (suc t) l)))) ≡ 9
+    go (yes p) ih =
+        let s : t < 256 = omega arith in
+        let ys : List ℕ = take (n - (4 + length (tileBody t x))) (tilesBytes (suc t) l) in
+        let len : length (recordOf 3 (tileBody t x) ++ tilesBytes (suc t) l) ≡ 4 + length (tileBody t x) + length (tilesBytes (suc t) l) = rw (length-append, record-length 3 (tileBody t x)) in
+        rw (cut-after 3 n (tileBody t x) (tilesBytes (suc t) l) p, tile-right t x ys s (h .0), tile-rest t x ys s (h .0)) (ih (omega arith))
+    go (no p) ih = rw (cut-off 3 t n (tileBody t x) (tilesBytes (suc t) l) (tile-short t x [] (omega arith) (h .0)) (omega arith))
+
+-- ---- the whole: record 1 with any bytes after it, then record 2
+module _ (m : Model) (g : Fits m) (ys : List ℕ) where
+  short-1 : length (settingsBody (m .settings)) < 65536
+  short-1 = omega (arith, settings-size (m .settings))
+
+  settings-read : settingsIn ((settingsBody (m .settings)) ++ ys) ≡ m .settings
+  settings-read = settings-back (m .settings) ys (g .settings)
+
+  rest-1 : restIn (recordOf 1 (settingsBody (m .settings)) ++ ys) ≡ ys
+  rest-1 = rest-in 1 (settingsBody (m .settings)) ys short-1
+
+  inner-1 : bodyIn (recordOf 1 (settingsBody (m .settings)) ++ ys) ≡ (settingsBody (m .settings)) ++ ys
+  inner-1 = body-in 1 (settingsBody (m .settings)) ys short-1
+
+  own-1 : refusal (settingsFaults (length (settingsBody (m .settings))) ((settingsBody (m .settings)) ++ ys)) ≡ 0
+  unfolding settingsFaults settingsRefusal refusal
+  own-1 = rw (eq-eqb (length (settingsBody (m .settings))) 20 (settings-size (m .settings)), zero-back (m .settings) ys (g .settings), settings-read) (g .passed)
+
+  fault-1 : recordFault 1 0 (recordOf 1 (settingsBody (m .settings)) ++ ys) ≡ 0
+  unfolding ownFaults
+  fault-1 = rw (fault-in 1 (settingsBody (m .settings)) ys short-1 (omega arith)) own-1
+
+  fault-first : fault (recordOf 1 (settingsBody (m .settings)) ++ ys) ≡ orElse (recordFault 2 0 ys) (tilesFault (total (m .settings)) 0 (restIn ys))
+  unfolding fault
+  fault-first = rw (fault-1, rest-1, inner-1, settings-read)
+
+  model-first : modelIn (recordOf 1 (settingsBody (m .settings)) ++ ys) ≡ record { settings = m .settings; counters = countersIn (bodyIn ys); tiles = tilesIn (total (m .settings)) (restIn ys) }
+  unfolding modelIn
+  model-first = rw (inner-1, rest-1, settings-read)
+
+  short-2 : length (countersBody (m .counters)) < 65536
+  short-2 = omega (arith, counters-size (m .counters))
+
+  rest-2 : restIn (recordOf 2 (countersBody (m .counters)) ++ ys) ≡ ys
+  rest-2 = rest-in 2 (countersBody (m .counters)) ys short-2
+
+  inner-2 : bodyIn (recordOf 2 (countersBody (m .counters)) ++ ys) ≡ (countersBody (m .counters)) ++ ys
+  inner-2 = body-in 2 (countersBody (m .counters)) ys short-2
+
+  fault-2 : recordFault 2 0 (recordOf 2 (countersBody (m .counters)) ++ ys) ≡ 0
+  unfolding ownFaults countersFaults refusal
+  fault-2 = rw (fault-in 2 (countersBody (m .counters)) ys short-2 (omega arith), eq-eqb (length (countersBody (m .counters))) 12 (counters-size (m .counters)))
+
+  counters-read : countersIn ((countersBody (m .counters)) ++ ys) ≡ m .counters
+  counters-read = counters-back (m .counters) ys (g .counters)
+
+-- ---- the whole: what is read where the tiles are due is ys
+module _ (m : Model) (g : Fits m) (ys : List ℕ) where
+  fault-second : fault (recordOf 1 (settingsBody (m .settings)) ++ (recordOf 2 (countersBody (m .counters)) ++ ys)) ≡ tilesFault (total (m .settings)) 0 ys
+  fault-second = fault-first m g (recordOf 2 (countersBody (m .counters)) ++ ys) ∙ rw (fault-2 m g ys, rest-2 m g ys)
+
+  model-second : modelIn (recordOf 1 (settingsBody (m .settings)) ++ (recordOf 2 (countersBody (m .counters)) ++ ys)) ≡ record { settings = m .settings; counters = m .counters; tiles = tilesIn (total (m .settings)) ys }
+  model-second = model-first m g (recordOf 2 (countersBody (m .counters)) ++ ys) ∙ rw (inner-2 m g ys, counters-read m g ys, rest-2 m g ys)
+
+module _ (m : Model) (g : Fits m) where
+  encode-append : (ys : List ℕ) → encode m ++ ys ≡ recordOf 1 (settingsBody (m .settings)) ++ (recordOf 2 (countersBody (m .counters)) ++ (tilesBytes 0 (m .tiles) ++ ys))
+  unfolding encode
+  encode-append ys = simp append-assoc
+
+  tiles-read : (ys : List ℕ) → (tilesFault (total (m .settings)) 0 (tilesBytes 0 (m .tiles) ++ ys) ≡ leftover ys) × (tilesIn (total (m .settings)) (tilesBytes 0 (m .tiles) ++ ys) ≡ m .tiles)
+  tiles-read ys = rw (← g .many) (tiles-back 0 (m .tiles) ys (g .each) (omega (arith, g .few)))
+
+  -- bytes after the end are 9
+  pub fault-append : (ys : List ℕ) → fault (encode m ++ ys) ≡ leftover ys
+  fault-append ys = rw (encode-append ys) (fault-second m g (tilesBytes 0 (m .tiles) ++ ys) ∙ tiles-read ys .0)
+
+  pub no-fault : fault (encode m) ≡ 0
+  unfolding leftover
+  no-fault = ap fault (sym (append-nil (encode m))) ∙ fault-append []
+
+  pub read-back : modelIn (encode m) ≡ m
+  read-back =
+      let e : tilesIn (total (m .settings)) (tilesBytes 0 (m .tiles) ++ []) ≡ m .tiles = tiles-read [] .1 in
+      ap modelIn (sym (append-nil (encode m)) ∙ encode-append []) ∙ model-second m g (tilesBytes 0 (m .tiles) ++ []) ∙ rw e
+
+  cut-first : (n : ℕ) (ys : List ℕ) → n < 24 → fault (take n (recordOf 1 (settingsBody (m .settings)) ++ ys)) ≡ 9
+  unfolding fault
+  cut-first n ys h =
+      let s : length (settingsBody (m .settings)) ≡ 20 = settings-size (m .settings) in
+      rw (cut-off 1 0 n (settingsBody (m .settings)) ys (omega arith) (omega arith))
+
+  cut-second : (n : ℕ) (ys : List ℕ) → n < 16 → recordFault 2 0 (take n (recordOf 2 (countersBody (m .counters)) ++ ys)) ≡ 9
+  cut-second n ys h =
+      let s : length (countersBody (m .counters)) ≡ 12 = counters-size (m .counters) in
+      cut-off 2 0 n (countersBody (m .counters)) ys (omega arith) (omega arith)
+
+  cut-later : (n : ℕ) (ys : List ℕ) → 16 ≤ n → take n (recordOf 2 (countersBody (m .counters)) ++ ys) ≡ recordOf 2 (countersBody (m .counters)) ++ take (n - 16) ys
+  cut-later n ys h =
+      let s : length (countersBody (m .counters)) ≡ 12 = counters-size (m .counters) in
+      let e : n - (4 + length (countersBody (m .counters))) ≡ n - 16 = omega arith in
+      cut-after 2 n (countersBody (m .counters)) ys (omega arith) ∙ rw e
+
+  cut-early : (n : ℕ) (ys : List ℕ) → 24 ≤ n → take n (recordOf 1 (settingsBody (m .settings)) ++ ys) ≡ recordOf 1 (settingsBody (m .settings)) ++ take (n - 24) ys
+  cut-early n ys h =
+      let s : length (settingsBody (m .settings)) ≡ 20 = settings-size (m .settings) in
+      let e : n - (4 + length (settingsBody (m .settings))) ≡ n - 24 = omega arith in
+      cut-after 1 n (settingsBody (m .settings)) ys (omega arith) ∙ rw e
+
+  -- a proper prefix is 9
+  pub fault-cut : (n : ℕ) → n < length (encode m) → fault (take n (encode m)) ≡ 9
+  unfolding encode
+  fault-cut n h = go (decLe 24 n) (decLe 40 n)
+    where
+      go : Dec (24 ≤ n) → Dec (40 ≤ n) → fault (take n (recordOf 1 (settingsBody (m .settings)) ++ (recordOf 2 (countersBody (m .counters)) ++ tilesBytes 0 (m .tiles)))) ≡ 9
+      go (no p) q = cut-first n (recordOf 2 (countersBody (m .counters)) ++ tilesBytes 0 (m .tiles)) (omega arith)
+      go (yes p) (no q) =
+          rw (
+            cut-early n (recordOf 2 (countersBody (m .counters)) ++ tilesBytes 0 (m .tiles)) p,
+            fault-first m g (take (n - 24) (recordOf 2 (countersBody (m .counters)) ++ tilesBytes 0 (m .tiles))),
+            cut-second (n - 24) (tilesBytes 0 (m .tiles)) (omega arith),
+          )
+      go (yes p) (yes q) =
+          let e : length (recordOf 1 (settingsBody (m .settings)) ++ (recordOf 2 (countersBody (m .counters)) ++ tilesBytes 0 (m .tiles))) ≡ 40 + length (tilesBytes 0 (m .tiles)) =
+          rw (length-append, record-length 1 (settingsBody (m .settings)), settings-size (m .settings), length-append, record-length 2 (countersBody (m .counters)), counters-size (m .counters)) (omega arith) in
+          let k : n - 24 - 16 < length (tilesBytes 0 (m .tiles)) = omega arith in
+          rw (
+            cut-early n (recordOf 2 (countersBody (m .counters)) ++ tilesBytes 0 (m .tiles)) p,
+            cut-later (n - 24) (tilesBytes 0 (m .tiles)) (omega arith),
+            fault-second m g (take (n - 24 - 16) (tilesBytes 0 (m .tiles))),
+            ← g .many,
+          )
+          (tiles-cut 0 (n - 24 - 16) (m .tiles) (g .each) (omega (arith, g .few)) k)

@@ -1,0 +1,147 @@
+-- What is promised of images: loading what was written, writing what was loaded, the longest image, and bytes missing or left over.
+use mathlib.Core.Path.{_≡_, refl, ap, _∙_}
+use mathlib.Core.Logic.{_≢_}
+use mathlib.Core.Bool.{true, false, not}
+use mathlib.Core.List.{List, [], _∷_, _++_, map}
+use Prim.Native.Nat.{ℕ, _+_, _≤_, _<_}
+use native.Mathlib.Omega.{arith}
+use borrow.Author.Tests.{ne-eqb, le-ltb, lt-ltb}
+use lib.ListN.{length, take, drop}
+use Rattle.laws.specs.Define.{sum, refusal}
+use Rattle.laws.specs.Tests.{test-none}
+use Rattle.wire.specs.Bytes.{Bytes}
+use Rattle.wire.specs.Put.{put}
+use Rattle.floor.specs.declared.Floor.{Floor}
+use Rattle.floor.specs.declared.Answer.{Answer}
+use Rattle.floor.specs.Memory.{view, pack, zeroFloor}
+use Rattle.floor.specs.Well.{sound, wellFormed}
+use Rattle.floor.specs.Calls.{refusalOf}
+use Rattle.floor.proofs.Well.{sound-fact}
+use Rattle.floor.proofs.Pack.{well-sound}
+use Rattle.floor.proofs.Capacity.{well-pack}
+use Rattle.floor.proofs.First.{pack-view-well}
+use Rattle.image.specs.Image.{encode, modelIn, fault, answerBy, recordsAnswer, loadRefusal, loadAnswer, writeRefusal, writeAnswer, written}
+use Rattle.image.proofs.Records.{orElse-none, not-off}
+use Rattle.image.proofs.Sizes.{tileSize, encode-size}
+use Rattle.image.proofs.Again.{written-again}
+use Rattle.image.proofs.Back.{Fits, leftover, fault-append, no-fault, read-back, fault-cut}
+use Rattle.image.proofs.Fitting.{sound-fits, sound-most}
+use Rattle.image.proofs.Read.{view-read, well-read}
+
+-- ---- the number that loading answers
+pub load-none : (xs : List ℕ) → loadRefusal xs ≡ 0 → (fault xs ≡ 0) × (sound (modelIn xs) ≡ true)
+unfolding loadRefusal
+load-none xs h =
+    let o = orElse-none (fault xs) _ h in
+    (o .0, not-off (sound (modelIn xs)) (test-none (not (sound (modelIn xs))) 12 [] (omega arith) (o .1) .0))
+
+load-sound : (xs : List ℕ) → fault xs ≡ 0 → sound (modelIn xs) ≡ true → loadRefusal xs ≡ 0
+unfolding loadRefusal refusal
+load-sound xs z s = rw (z, s)
+
+load-fault : (xs : List ℕ) (k : ℕ) → fault xs ≡ k → k ≢ 0 → loadRefusal xs ≡ k
+unfolding loadRefusal
+load-fault xs k e n = rw (e, ne-eqb k 0 n)
+
+load-floor : (xs : List ℕ) → loadRefusal xs ≡ 0 → loadAnswer xs ≡ record { refusal = 0; floor = pack (modelIn xs) }
+unfolding loadAnswer answerBy
+load-floor xs e = rw e
+
+load-refused : (xs : List ℕ) (k : ℕ) → fault xs ≡ k → k ≢ 0 → loadAnswer xs ≡ record { refusal = k; floor = zeroFloor }
+unfolding loadAnswer answerBy
+load-refused xs k e n = rw (load-fault xs k e n, ne-eqb k 0 n)
+
+-- the number that writing answers where nothing stands against it
+pub write-none : (f : Floor) (n : ℕ) → wellFormed f ≡ true → length (encode (view f)) ≤ n → writeRefusal f n ≡ 0
+unfolding writeRefusal refusalOf refusal
+write-none f n w h = rw (w, le-ltb n (length (encode (view f))) h)
+
+-- ---- a well-formed floor
+module _ (f : Floor) (w : wellFormed f ≡ true) where
+  fits-here : Fits (view f)
+  fits-here = sound-fits (view f) (well-sound f w)
+
+  -- loading what was written gives the same floor
+  pub written-loads : loadAnswer (encode (view f)) ≡ record { refusal = 0; floor = f }
+  written-loads =
+      let b : modelIn (encode (view f)) ≡ view f = read-back (view f) fits-here in
+      let s : sound (modelIn (encode (view f))) ≡ true = rw b (sound-fact (view f) .1 (well-sound f w)) in
+      let p : pack (modelIn (encode (view f))) ≡ f = rw b (pack-view-well f w) in
+      load-floor (encode (view f)) (load-sound (encode (view f)) (no-fault (view f) fits-here) s) ∙ rw p
+
+  -- "The longest image is 8,748 bytes."
+  pub image-most : length (encode (view f)) ≤ 8748
+  image-most = sound-most (view f) (well-sound f w)
+
+  pub image-size : length (encode (view f)) ≡ 44 + sum (map tileSize (view f .tiles))
+  image-size = encode-size (view f)
+
+  -- every proper prefix of its image is refused by 9
+  pub prefix-refused : (n : ℕ) → n < length (encode (view f)) → loadAnswer (take n (encode (view f))) ≡ record { refusal = 9; floor = zeroFloor }
+  prefix-refused n h = load-refused (take n (encode (view f))) 9 (fault-cut (view f) fits-here n h) (omega arith)
+
+  -- and so is its image with any byte after it
+  pub extension-refused : (y : ℕ) (ys : List ℕ) → loadAnswer (encode (view f) ++ (y ∷ ys)) ≡ record { refusal = 9; floor = zeroFloor }
+  unfolding leftover
+  extension-refused y ys = load-refused (encode (view f) ++ (y ∷ ys)) 9 (fault-append (view f) fits-here (y ∷ ys)) (omega arith)
+
+-- ---- an accepted image
+module _ (xs : List ℕ) (a : loadAnswer xs .refusal ≡ 0) where
+  accepted : loadRefusal xs ≡ 0
+  unfolding loadAnswer answerBy
+  accepted = a
+
+  loaded : loadAnswer xs .floor ≡ pack (modelIn xs)
+  loaded = ap (λ (r : Answer). r .floor) (load-floor xs accepted)
+
+  -- its floor is well formed
+  pub loaded-well : wellFormed (loadAnswer xs .floor) ≡ true
+  loaded-well = rw loaded (well-pack (modelIn xs) (load-none xs accepted .1))
+
+  -- "An accepted image, written again, gives the same bytes."
+  pub loaded-writes : Bytes xs → encode (view (loadAnswer xs .floor)) ≡ xs
+  loaded-writes b =
+      let z = load-none xs accepted .0 in
+      rw (loaded, view-read xs z) (written-again xs b z)
+
+  pub loaded-written : Bytes xs → (buffer : List ℕ) → length xs ≤ length buffer
+      → (writeAnswer (loadAnswer xs .floor) (length buffer) ≡ record { refusal = 0; length = length xs }) × (written (loadAnswer xs .floor) buffer ≡ xs ++ drop (length xs) buffer)
+  unfolding writeAnswer written
+  loaded-written b buffer h = (rw (none, loaded-writes b), rw (none, loaded-writes b))
+    where
+      none : writeRefusal (loadAnswer xs .floor) (length buffer) ≡ 0
+      none = write-none (loadAnswer xs .floor) (length buffer) loaded-well (rw (loaded-writes b) h)
+
+-- ---- loading, in the order of the code: the records first, then 12 of the floor in memory
+pub load-refuses : (xs : List ℕ) → recordsAnswer xs .refusal ≢ 0 → recordsAnswer xs ≡ loadAnswer xs
+unfolding recordsAnswer loadAnswer answerBy
+load-refuses xs n = rw (load-fault xs (fault xs) refl n)
+
+pub load-accepts : (xs : List ℕ) → recordsAnswer xs .refusal ≡ 0 → wellFormed (recordsAnswer xs .floor) ≡ true → recordsAnswer xs ≡ loadAnswer xs
+unfolding recordsAnswer loadAnswer loadRefusal answerBy refusal
+load-accepts xs z w =
+    let e : wellFormed (pack (modelIn xs)) ≡ true = rw z at w in
+    rw (z, ← well-read xs z, e)
+
+pub load-malformed : (xs : List ℕ) → recordsAnswer xs .refusal ≡ 0 → wellFormed (recordsAnswer xs .floor) ≡ false → record { refusal = 12; floor = zeroFloor } ≡ loadAnswer xs
+unfolding recordsAnswer loadAnswer loadRefusal answerBy refusal
+load-malformed xs z w =
+    let e : wellFormed (pack (modelIn xs)) ≡ false = rw z at w in
+    rw (z, ← well-read xs z, e)
+
+-- ---- writing, in the order of the code: 30, 13, then the bytes
+pub write-malformed : (f : Floor) (buffer : List ℕ) → wellFormed f ≡ false → (record { refusal = 30; length = 0 } ≡ writeAnswer f (length buffer)) × (buffer ≡ written f buffer)
+unfolding writeAnswer written writeRefusal refusalOf refusal
+write-malformed f buffer w = (rw w, rw w)
+
+pub write-short : (f : Floor) (buffer : List ℕ) → wellFormed f ≡ true → length buffer < length (encode (view f)) → (record { refusal = 13; length = 0 } ≡ writeAnswer f (length buffer)) × (buffer ≡ written f buffer)
+unfolding writeAnswer written writeRefusal refusalOf refusal
+write-short f buffer w h = (rw (w, lt-ltb (length buffer) (length (encode (view f))) h), rw (w, lt-ltb (length buffer) (length (encode (view f))) h))
+
+pub write-whole : (f : Floor) (buffer : List ℕ) → wellFormed f ≡ true → length (encode (view f)) ≤ length buffer
+    → (record { refusal = 0; length = length (encode (view f)) } ≡ writeAnswer f (length buffer)) × (put buffer 0 (encode (view f)) ≡ written f buffer)
+unfolding writeAnswer written put
+write-whole f buffer w h =
+    let e : writeRefusal f (length buffer) ≡ 0 = write-none f (length buffer) w h in
+    let z : 0 + length (encode (view f)) ≡ length (encode (view f)) = omega arith in
+    (rw e, rw (e, z))

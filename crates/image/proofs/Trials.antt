@@ -1,0 +1,113 @@
+-- Trials of the image: one table, one proof. Each row is a test that must pass.
+use mathlib.Core.Path.{_≡_, refl}
+use mathlib.Core.Bool.{Bool, true, false, _&&_}
+use mathlib.Core.List.{List, [], _∷_, _++_}
+use Prim.Native.Nat.{ℕ}
+use lib.Dec.{eqb}
+use lib.ListN.{length, set, take, replicate}
+use Rattle.laws.specs.Define.{tab, cat, allOf, anyOf, pairsOf, allBelow, keep, firstOf, bit, refusal}
+use Rattle.wire.specs.Bytes.{le, bytes, fieldsOf, bytesOf}
+use Rattle.floor.specs.declared.Floor.{Floor}
+use Rattle.floor.specs.Settings.{isHopper, settingsTests, settingsRefusal, settingsPass}
+use Rattle.floor.specs.Grid.{neighbour}
+use Rattle.floor.specs.Model.{numbersOn}
+use Rattle.floor.specs.Memory.{zeroFloor, stateOf, view, head, places, rows, build, pack, isZeroCanister, isZeroTile, headFits, tileFits, tilesFit, fits}
+use Rattle.floor.specs.Well.{hopperSound, runningSound, stoppedSound, faces, headSound, inside, apart, inOrder, membersSound, tileSound, numbersSound, countersSound, sound, wellFormed}
+use Rattle.floor.specs.Move.{insert}
+use Rattle.floor.specs.Calls.{refusalOf, answer, freshTile, freshFloor, freshAnswer, bookTests, booked, bookAnswer}
+use Rattle.image.specs.Image.{recordOf, settingsBody, countersBody, canistersBody, tileBody, tilesBytes, encode, settingsIn, countersIn, canisterIn, canistersIn, tileIn, tilesIn, modelIn, settingsFaults, countersFaults, tileFaults, endFaults, ownFaults, recordFault, endFault, tilesFault, fault, answerBy, recordsAnswer, loadRefusal, loadAnswer, writeRefusal, writeAnswer, written}
+
+unfoldable same : List ℕ → List ℕ → Bool
+same [] [] = true
+same [] (y ∷ ys) = false
+same (x ∷ xs) [] = false
+same (x ∷ xs) (y ∷ ys) = eqb x y && same xs ys
+
+-- ---- the floors
+-- "a fresh floor, H 1, U 100, l 30, r 10, v 20, every tile but the hopper a fill tile"; W 2, hopper 1
+unfoldable fresh : Floor
+fresh = freshAnswer (record { columns = 2; rows = 1; hopper = 1; sources = 1; width = 100; length = 30; gap = 10; travel = 20 }) .floor
+
+-- with canister 5 at (70, 7) on tile 0
+unfoldable one : Floor
+one = bookAnswer fresh 0 (record { number = 5; a = 70; b = 7 }) .floor
+
+-- ---- the bytes
+unfoldable good : List ℕ
+good =
+    20 ∷ 0 ∷ 1 ∷ 0
+    ∷ 2 ∷ 1 ∷ 1 ∷ 0 ∷ 100 ∷ 0 ∷ 30 ∷ 0 ∷ 10 ∷ 0 ∷ 20 ∷ 0 ∷ 1 ∷ 0 ∷ 0 ∷ 0 ∷ 0 ∷ 0 ∷ 0 ∷ 0
+    ∷ 12 ∷ 0 ∷ 2 ∷ 0
+    ∷ 0 ∷ 0 ∷ 0 ∷ 0 ∷ 0 ∷ 0 ∷ 0 ∷ 0 ∷ 0 ∷ 0 ∷ 0 ∷ 0
+    ∷ 6 ∷ 0 ∷ 3 ∷ 0 ∷ 0 ∷ 1 ∷ 255 ∷ 0 ∷ 0 ∷ 0
+    ∷ 6 ∷ 0 ∷ 3 ∷ 0 ∷ 1 ∷ 1 ∷ 0 ∷ 0 ∷ 0 ∷ 0
+    ∷ 0 ∷ 0 ∷ 4 ∷ 0 ∷ []
+
+-- byte k made x
+unfoldable with : ℕ → ℕ → List ℕ
+with k x = set good k x
+
+unfoldable shows : List ℕ → ℕ → Bool
+shows xs k = eqb (loadAnswer xs .refusal) k
+
+-- ---- the table
+unfoldable table : List Bool
+table =
+    -- "The fresh W 2 floor has an image of 64 bytes; an empty image is 9."
+    same (encode (view fresh)) good
+    ∷ eqb (length good) 64
+    ∷ shows good 0
+    ∷ shows [] 9
+    -- an image with a canister
+    ∷ eqb (length (encode (view one))) 72
+    ∷ shows (encode (view one)) 0
+    ∷ same (encode (view (loadAnswer (encode (view one)) .floor))) (encode (view one))
+    -- 9: the end within a record, the end record missing, a byte left over, a length beyond the end
+    ∷ shows (take 3 good) 9
+    ∷ shows (take 63 good) 9
+    ∷ shows (take 60 good) 9
+    ∷ shows (good ++ (0 ∷ [])) 9
+    ∷ shows (with 1 255) 9
+    -- 10: another kind than the one due
+    ∷ shows (with 2 2) 10
+    ∷ shows (with 26 3) 10
+    ∷ shows (with 42 4) 10
+    ∷ shows (with 62 3) 10
+    -- 11: a wrong length, the zero byte, the tile byte, n
+    ∷ shows (with 0 19) 11
+    ∷ shows (with 24 11) 11
+    ∷ shows (with 7 1) 11
+    ∷ shows (with 44 1) 11
+    ∷ shows (with 49 17) 11
+    ∷ shows (with 49 1) 11
+    -- 1, 2, 3 of record 1, before any fault of a later record
+    ∷ shows (with 4 0) 1
+    ∷ shows (with 4 9) 1
+    ∷ shows (with 6 2) 2
+    ∷ shows (with 16 2) 2
+    ∷ shows (with 14 30) 3
+    ∷ shows (take 24 (with 14 30)) 3
+    -- 12: running 2, arrow 5, distance 200; but 9 where the end is missing as well
+    ∷ shows (with 45 2) 12
+    ∷ shows (with 47 5) 12
+    ∷ shows (with 46 200) 12
+    ∷ shows (take 60 (with 45 2)) 9
+    -- writing: 30, 13, the length, the bytes after it
+    ∷ eqb (writeAnswer zeroFloor 100 .refusal) 30
+    ∷ eqb (writeAnswer fresh 63 .refusal) 13
+    ∷ eqb (writeAnswer fresh 63 .length) 0
+    ∷ eqb (writeAnswer fresh 66 .length) 64
+    ∷ same (written fresh (replicate 66 9)) (good ++ (9 ∷ 9 ∷ []))
+    ∷ same (written fresh (replicate 63 9)) (replicate 63 9)
+    ∷ []
+
+trials : allOf (λ b. b) table ≡ true
+unfolding same fresh one good with shows table
+    tab cat allOf anyOf pairsOf allBelow keep firstOf bit refusal le bytes fieldsOf bytesOf
+    isHopper settingsTests settingsRefusal settingsPass neighbour numbersOn
+    zeroFloor stateOf view head places rows build pack isZeroCanister isZeroTile headFits tileFits tilesFit fits
+    hopperSound runningSound stoppedSound faces headSound inside apart inOrder membersSound tileSound numbersSound countersSound sound wellFormed
+    insert refusalOf answer freshTile freshFloor freshAnswer bookTests booked bookAnswer
+    recordOf settingsBody countersBody canistersBody tileBody tilesBytes encode settingsIn countersIn canisterIn canistersIn tileIn tilesIn modelIn
+    settingsFaults countersFaults tileFaults endFaults ownFaults recordFault endFault tilesFault fault answerBy recordsAnswer loadRefusal loadAnswer writeRefusal writeAnswer written
+trials = refl

@@ -1,0 +1,192 @@
+-- The image of a floor: what is written, what is read, and the refusals of loading and of writing.
+use mathlib.Core.Bool.{Bool, cond, not}
+use mathlib.Core.List.{List, [], _∷_, _++_}
+use Prim.Native.Nat.{ℕ, zero, suc, _+_, _*_}
+use lib.Dec.{ltb, eqb}
+use lib.ListN.{length, drop}
+use Rattle.laws.specs.Define.{refusal}
+use Rattle.wire.specs.Bytes.{le, bytes, bytesOf, field}
+use Rattle.floor.specs.declared.Canister.{Canister}
+use Rattle.floor.specs.declared.Settings.{Settings}
+use Rattle.floor.specs.declared.Counters.{Counters}
+use Rattle.floor.specs.declared.Floor.{Floor}
+use Rattle.floor.specs.declared.Answer.{Answer}
+use Rattle.floor.specs.Settings.{total, settingsTests}
+use Rattle.floor.specs.Model.{TileState, Model}
+use Rattle.floor.specs.Memory.{view, pack, zeroFloor}
+use Rattle.floor.specs.Well.{sound}
+use Rattle.floor.specs.Calls.{refusalOf}
+use Rattle.image.specs.declared.Written.{Written}
+
+-- ---- the fields of each record: the bytes of each, and its value
+-- "Kind 1, 20 bytes: W, H, hopper, a zero byte; U, l, r, v (2 each); fill set (8)."
+abbrev pub settingsWidths : List ℕ
+settingsWidths = 1 ∷ 1 ∷ 1 ∷ 1 ∷ 2 ∷ 2 ∷ 2 ∷ 2 ∷ 8 ∷ []
+
+abbrev pub settingsValues : Settings → List ℕ
+settingsValues s = s .columns ∷ s .rows ∷ s .hopper ∷ 0 ∷ s .width ∷ s .length ∷ s .gap ∷ s .travel ∷ s .sources ∷ []
+
+-- "Kind 2, 12 bytes: last, booked, delivered."
+abbrev pub countersWidths : List ℕ
+countersWidths = 4 ∷ 4 ∷ 4 ∷ []
+
+abbrev pub countersValues : Counters → List ℕ
+countersValues c = c .last ∷ c .booked ∷ c .delivered ∷ []
+
+-- "Kind 3 …: tile, running (1 or 0), distance (255 none), arrow, turn, n (at most 16)"
+abbrev pub tileWidths : List ℕ
+tileWidths = 1 ∷ 1 ∷ 1 ∷ 1 ∷ 1 ∷ 1 ∷ []
+
+abbrev pub tileValues : ℕ → TileState → List ℕ
+tileValues t x = t ∷ x .running ∷ x .distance ∷ x .next ∷ x .token ∷ length (x .members) ∷ []
+
+-- "then number (4), a (2), b (2) for each canister"
+abbrev pub canisterWidths : List ℕ
+canisterWidths = 4 ∷ 2 ∷ 2 ∷ []
+
+abbrev pub canisterValues : Canister → List ℕ
+canisterValues c = c .number ∷ c .a ∷ c .b ∷ []
+
+-- ---- writing
+-- "Records: length of body (2 bytes), kind (2 bytes), body; little-endian."
+unfoldable pub recordOf : ℕ → List ℕ → List ℕ
+recordOf kind body = bytes 2 (length body) ++ (bytes 2 kind ++ body)
+
+unfoldable pub settingsBody : Settings → List ℕ
+settingsBody s = bytesOf settingsWidths (settingsValues s)
+
+unfoldable pub countersBody : Counters → List ℕ
+countersBody c = bytesOf countersWidths (countersValues c)
+
+unfoldable pub canistersBody : List Canister → List ℕ
+canistersBody [] = []
+canistersBody (c ∷ l) = bytesOf canisterWidths (canisterValues c) ++ canistersBody l
+
+-- "6 + 8n bytes"
+unfoldable pub tileBody : ℕ → TileState → List ℕ
+tileBody t x = bytesOf tileWidths (tileValues t x) ++ canistersBody (x .members)
+
+-- "Kind 3, once for each tile in order"; "Kind 4, 0 bytes: end."
+unfoldable pub tilesBytes : ℕ → List TileState → List ℕ
+tilesBytes t [] = recordOf 4 []
+tilesBytes t (x ∷ l) = recordOf 3 (tileBody t x) ++ tilesBytes (suc t) l
+
+unfoldable pub encode : Model → List ℕ
+encode m = recordOf 1 (settingsBody (m .settings)) ++ (recordOf 2 (countersBody (m .counters)) ++ tilesBytes 0 (m .tiles))
+
+-- ---- reading: the record at the front of the bytes that are left, and what is left after it
+abbrev pub lengthIn : List ℕ → ℕ
+lengthIn xs = le 2 xs
+
+abbrev pub kindIn : List ℕ → ℕ
+kindIn xs = le 2 (drop 2 xs)
+
+abbrev pub bodyIn : List ℕ → List ℕ
+bodyIn xs = drop 4 xs
+
+abbrev pub restIn : List ℕ → List ℕ
+restIn xs = drop (4 + lengthIn xs) xs
+
+-- the values of a body b; each byte is kept as it stands, whatever it means
+unfoldable pub settingsIn : List ℕ → Settings
+settingsIn b =
+    let at : ℕ → ℕ = λ k. field settingsWidths k b in
+    record { columns = at 0; rows = at 1; hopper = at 2; sources = at 8; width = at 4; length = at 5; gap = at 6; travel = at 7 }
+
+unfoldable pub countersIn : List ℕ → Counters
+countersIn b = record { last = field countersWidths 0 b; booked = field countersWidths 1 b; delivered = field countersWidths 2 b }
+
+unfoldable pub canisterIn : List ℕ → Canister
+canisterIn b = record { number = field canisterWidths 0 b; a = field canisterWidths 1 b; b = field canisterWidths 2 b }
+
+unfoldable pub canistersIn : ℕ → List ℕ → List Canister
+canistersIn zero b = []
+canistersIn (suc n) b = canisterIn b ∷ canistersIn n (drop 8 b)
+
+unfoldable pub tileIn : List ℕ → TileState
+tileIn b =
+    let at : ℕ → ℕ = λ k. field tileWidths k b in
+    record { running = at 1; distance = at 2; next = at 3; token = at 4; members = canistersIn (at 5) (drop 6 b) }
+
+unfoldable pub tilesIn : ℕ → List ℕ → List TileState
+tilesIn zero xs = []
+tilesIn (suc n) xs = tileIn (bodyIn xs) ∷ tilesIn n (restIn xs)
+
+-- the floor that the bytes hold
+unfoldable pub modelIn : List ℕ → Model
+modelIn xs =
+    let s = settingsIn (bodyIn xs) in
+    record { settings = s; counters = countersIn (bodyIn (restIn xs)); tiles = tilesIn (total s) (restIn (restIn xs)) }
+
+-- ---- the refusals of a record's own: n is the length of its body b, t the tile that is due
+-- "11. Wrong record length, or a fixed byte wrong", "then 1 to 3"
+unfoldable pub settingsFaults : ℕ → List ℕ → List (Bool × ℕ)
+settingsFaults n b = (not (eqb n 20), 11) ∷ (not (eqb (field settingsWidths 3 b) 0), 11) ∷ settingsTests (settingsIn b)
+
+unfoldable pub countersFaults : ℕ → List (Bool × ℕ)
+countersFaults n = (not (eqb n 12), 11) ∷ []
+
+-- "11 (n above 16 and a wrong tile byte included)"
+unfoldable pub tileFaults : ℕ → ℕ → List ℕ → List (Bool × ℕ)
+tileFaults t n b =
+    (ltb n 6, 11) ∷ (not (eqb (field tileWidths 0 b) t), 11) ∷ (ltb 16 (field tileWidths 5 b), 11)
+    ∷ (not (eqb n (6 + 8 * field tileWidths 5 b)), 11) ∷ []
+
+unfoldable pub endFaults : ℕ → List (Bool × ℕ)
+endFaults n = (not (eqb n 0), 11) ∷ []
+
+-- the kind that is due decides which tests are a record's own
+unfoldable pub ownFaults : ℕ → ℕ → ℕ → List ℕ → List (Bool × ℕ)
+ownFaults due t n b = cond (eqb due 1) (settingsFaults n b) (cond (eqb due 2) (countersFaults n) (cond (eqb due 3) (tileFaults t n b) (endFaults n)))
+
+-- "within a record 9, 10, 11 …, then 1 to 3"; "9. Image ends within a record"; "10. Record of another kind than the one due."
+unfoldable pub recordFault : ℕ → ℕ → List ℕ → ℕ
+recordFault due t xs = refusal ((ltb (length xs) (4 + lengthIn xs), 9) ∷ (not (eqb (kindIn xs) due), 10) ∷ ownFaults due t (lengthIn xs) (bodyIn xs))
+
+-- ---- loading
+-- "First fault in reading order": this one, or else the first after it; 0 where there is none
+abbrev pub orElse : ℕ → ℕ → ℕ
+orElse k later = cond (eqb k 0) later k
+
+-- "with its end record missing, or has bytes after its end record"; "Then bytes left over (9)"
+unfoldable pub endFault : List ℕ → ℕ
+endFault xs = orElse (recordFault 4 0 xs) (refusal ((ltb (4 + lengthIn xs) (length xs), 9) ∷ []))
+
+-- n tiles from tile t on, then the end
+unfoldable pub tilesFault : ℕ → ℕ → List ℕ → ℕ
+tilesFault zero t xs = endFault xs
+tilesFault (suc n) t xs = orElse (recordFault 3 t xs) (tilesFault n (suc t) (restIn xs))
+
+unfoldable pub fault : List ℕ → ℕ
+fault xs =
+    orElse (recordFault 1 0 xs)
+    (orElse (recordFault 2 0 (restIn xs))
+    (tilesFault (total (settingsIn (bodyIn xs))) 0 (restIn (restIn xs))))
+
+-- the number n, and a floor where it is 0: "A refused load … gives the all-zero floor"
+unfoldable pub answerBy : ℕ → Model → Answer
+answerBy n m = record { refusal = n; floor = cond (eqb n 0) (pack m) zeroFloor }
+
+-- the answer without 12
+unfoldable pub recordsAnswer : List ℕ → Answer
+recordsAnswer xs = answerBy (fault xs) (modelIn xs)
+
+-- "then 12": "Image complete, floor not well formed."
+unfoldable pub loadRefusal : List ℕ → ℕ
+loadRefusal xs = orElse (fault xs) (refusal ((not (sound (modelIn xs)), 12) ∷ []))
+
+unfoldable pub loadAnswer : List ℕ → Answer
+loadAnswer xs = answerBy (loadRefusal xs) (modelIn xs)
+
+-- ---- writing into a buffer
+-- "Writing: 30, 13."; "13. Buffer shorter than the image to write."
+unfoldable pub writeRefusal : Floor → ℕ → ℕ
+writeRefusal f n = refusalOf f ((ltb n (length (encode (view f))), 13) ∷ [])
+
+-- "Writing answers the image's length"; n is the buffer's
+unfoldable pub writeAnswer : Floor → ℕ → Written
+writeAnswer f n = let k = writeRefusal f n in record { refusal = k; length = cond (eqb k 0) (length (encode (view f))) 0 }
+
+-- the buffer afterwards: "leaves the buffer's bytes after it"; refused, "untouched buffers"
+unfoldable pub written : Floor → List ℕ → List ℕ
+written f buffer = let bs = encode (view f) in cond (eqb (writeRefusal f (length buffer)) 0) (bs ++ drop (length bs) buffer) buffer

@@ -1,0 +1,213 @@
+-- The parts joined: the two arrays are those of the floor that was read, and each return of read_image is the definition's answer.
+use mathlib.Core.Path.{_≡_, refl, sym, ap, _∙_}
+use mathlib.Core.Logic.{_≢_}
+use mathlib.Core.Bool.{cond, _&&_}
+use mathlib.Core.List.{List}
+use Prim.Native.Nat.{ℕ, zero, suc, _+_, _*_, _/_, _%_, _≤_, _<_}
+use native.Mathlib.Omega.{arith}
+use native.Mathlib.Decide.{decLe}
+use lib.Dec.{ltb}
+use borrow.Author.Tests.{lt-ltb, le-ltb, ne-eqb}
+use lib.ListN.{length, drop, getD, List·getD-eq-default}
+use lib.Seq.{drop-drop}
+use Rattle.laws.specs.Define.{tab}
+use Rattle.laws.specs.Tables.{tab-length, tab-at, tab-same}
+use Rattle.wire.specs.Bytes.{le, field}
+use Rattle.floor.specs.declared.Canister.{Canister}
+use Rattle.floor.specs.declared.Settings.{Settings}
+use Rattle.floor.specs.declared.Counters.{Counters}
+use Rattle.floor.specs.declared.Tile.{Tile}
+use Rattle.floor.specs.Settings.{total}
+use Rattle.floor.specs.Model.{TileState}
+use Rattle.floor.specs.Memory.{zeroTile, zeroCanister, zeroFloor, unused, head, rows, build, pack}
+use Rattle.floor.proofs.Rows.{rows-filled}
+use Rattle.image.specs.Image.{tileWidths, lengthIn, bodyIn, restIn, settingsIn, countersIn, canisterIn, canistersIn, tileIn, tilesIn, modelIn, recordFault, tilesFault, fault, answerBy, recordsAnswer}
+use Rattle.image.proofs.Records.{whole}
+use Rattle.image.proofs.Again.{canisters-length, settings-good, counters-good}
+use Rattle.image.proofs.Read.{first-measured, tiles-length}
+use Rattle.reader.specs.Scan.{after, Starts, tileAt, canisterAt, tileFrom, canisterFrom}
+use Rattle.reader.proofs.Walk.{rest-at, record-room}
+
+-- ---- the tiles and the canisters, by their place
+after-rest : (t : ℕ) (xs : List ℕ) → after t (restIn xs) ≡ restIn (after t xs)
+unfolding after
+after-rest zero xs = refl
+after-rest (suc t) xs = ap (λ (l : List ℕ). restIn l) (after-rest t xs)
+
+tiles-at : (n t : ℕ) (xs : List ℕ) → t < n → getD (tilesIn n xs) t unused ≡ tileIn (bodyIn (after t xs))
+unfolding tilesIn after
+tiles-at zero t xs h = absurd (omega arith)
+tiles-at (suc n) zero xs h = refl
+tiles-at (suc n) (suc t) xs h = tiles-at n t (restIn xs) (omega arith) ∙ ap (λ (l : List ℕ). tileIn (bodyIn l)) (after-rest t xs)
+
+canisters-at : (n j : ℕ) (b : List ℕ) → j < n → getD (canistersIn n b) j zeroCanister ≡ canisterIn (drop (8 * j) b)
+unfolding canistersIn
+canisters-at zero j b h = absurd (omega arith)
+canisters-at (suc n) zero b h = refl
+canisters-at (suc n) (suc j) b h =
+    let e : 8 + 8 * j ≡ 8 * suc j = omega arith in
+    canisters-at n j (drop 8 b) (omega arith) ∙ rw (drop-drop (8 * j) 8 b, e)
+
+members-some : (b : List ℕ) (j : ℕ) → j < field tileWidths 5 b → getD (tileIn b .members) j zeroCanister ≡ canisterIn (drop (8 * j) (drop 6 b))
+unfolding tileIn
+members-some b j h = canisters-at (field tileWidths 5 b) j (drop 6 b) h
+
+members-none : (b : List ℕ) (j : ℕ) → field tileWidths 5 b ≤ j → getD (tileIn b .members) j zeroCanister ≡ zeroCanister
+unfolding tileIn
+members-none b j h = List·getD-eq-default (canistersIn (field tileWidths 5 b) (drop 6 b)) zeroCanister (omega (arith, canisters-length (field tileWidths 5 b) (drop 6 b)))
+
+head-unused : zeroTile ≡ head unused
+unfolding head
+head-unused = refl
+
+module _ (s xs starts : List ℕ) (n : ℕ) (f : Starts s xs starts n) where
+  abbrev shown : ℕ → TileState
+  shown t = getD (tilesIn n xs) t unused
+
+  tile-is : (t : ℕ) → t < n → shown t ≡ tileIn (drop (getD starts t 0) s)
+  tile-is t h = tiles-at n t xs h ∙ ap (λ (l : List ℕ). tileIn l) (sym (f t h .spot))
+
+  tile-off : (t : ℕ) → n ≤ t → shown t ≡ unused
+  tile-off t h = List·getD-eq-default (tilesIn n xs) unused (omega (arith, tiles-length n xs))
+
+  head-is : (t : ℕ) → tileFrom s starts n t ≡ head (shown t)
+  unfolding tileAt
+  head-is t = go (decLe (suc t) n)
+    where
+      go : Dec (t < n) → cond (ltb t n) (head (tileIn (drop (getD starts t 0) s))) zeroTile ≡ head (shown t)
+      go (yes h) = rw (lt-ltb t n h, tile-is t h)
+      go (no h) = let k : n ≤ t = omega arith in rw (le-ltb t n k, tile-off t k) head-unused
+
+  tiles-are : tab 64 (tileFrom s starts n) ≡ tab 64 (λ t. head (shown t))
+  tiles-are = tab-same 64 _ _ (λ t h. head-is t)
+
+  place-is : (t j : ℕ) → canisterAt s (getD starts t 0) (ltb t n) j ≡ getD (shown t .members) j zeroCanister
+  unfolding canisterAt
+  place-is t j = go (decLe (suc t) n) (decLe (suc j) (field tileWidths 5 (drop (getD starts t 0) s)))
+    where
+      p : ℕ
+      p = getD starts t 0
+
+      m : ℕ
+      m = field tileWidths 5 (drop (getD starts t 0) s)
+
+      go : Dec (t < n) → Dec (j < field tileWidths 5 (drop (getD starts t 0) s))
+          → cond (ltb t n && ltb j (field tileWidths 5 (drop (getD starts t 0) s))) (canisterIn (drop (getD starts t 0 + 6 + 8 * j) s)) zeroCanister ≡ getD (shown t .members) j zeroCanister
+      go (no h) d = let k : n ≤ t = omega arith in rw (le-ltb t n k) (sym (ap (λ (x : TileState). getD (x .members) j zeroCanister) (tile-off t k)))
+      go (yes h) (yes q) =
+          let e : getD (shown t .members) j zeroCanister ≡ canisterIn (drop (8 * j) (drop 6 (drop p s))) = ap (λ (x : TileState). getD (x .members) j zeroCanister) (tile-is t h) ∙ members-some (drop p s) j q in
+          let d : drop (8 * j) (drop 6 (drop p s)) ≡ drop (p + 6 + 8 * j) s = rw (drop-drop 6 p s, drop-drop (8 * j) (p + 6) s) in
+          rw (lt-ltb t n h, lt-ltb j m q, e, d)
+      go (yes h) (no q) =
+          let k : m ≤ j = omega arith in
+          let e : getD (shown t .members) j zeroCanister ≡ zeroCanister = ap (λ (x : TileState). getD (x .members) j zeroCanister) (tile-is t h) ∙ members-none (drop p s) j k in
+          rw (lt-ltb t n h, le-ltb j m k, e)
+
+  canisters-are : tab 1024 (canisterFrom s starts n) ≡ rows 64 0 shown
+  canisters-are = rows-filled shown (tab 1024 (canisterFrom s starts n)) (tab-length 1024 (canisterFrom s starts n)) (λ i k. tab-at 1024 (canisterFrom s starts n) i zeroCanister k ∙ place-is (i / 16) (i % 16))
+
+-- ---- the records in order
+module _ (xs : List ℕ) where
+  fault-1 : recordFault 1 0 xs ≢ 0 → fault xs ≡ recordFault 1 0 xs
+  unfolding fault
+  fault-1 h = rw (ne-eqb (recordFault 1 0 xs) 0 h)
+
+  fault-2 : recordFault 1 0 xs ≡ 0 → recordFault 2 0 (restIn xs) ≢ 0 → fault xs ≡ recordFault 2 0 (restIn xs)
+  unfolding fault
+  fault-2 z h = rw (z, ne-eqb (recordFault 2 0 (restIn xs)) 0 h)
+
+  fault-3 : recordFault 1 0 xs ≡ 0 → recordFault 2 0 (restIn xs) ≡ 0 → fault xs ≡ tilesFault (total (settingsIn (bodyIn xs))) 0 (restIn (restIn xs))
+  unfolding fault
+  fault-3 z y = rw (z, y)
+
+  answer-refused : (k : ℕ) → fault xs ≡ k → k ≢ 0 → record { refusal = k; floor = zeroFloor } ≡ recordsAnswer xs
+  unfolding recordsAnswer answerBy
+  answer-refused k e h = rw (e, ne-eqb k 0 h)
+
+  answer-good : fault xs ≡ 0 → record { refusal = 0; floor = pack (modelIn xs) } ≡ recordsAnswer xs
+  unfolding recordsAnswer answerBy
+  answer-good e = rw e
+
+  -- the parts of the floor in memory
+  pack-is : pack (modelIn xs) ≡ record {
+    settings = settingsIn (bodyIn xs);
+    counters = countersIn (bodyIn (restIn xs));
+    tiles = tab 64 (λ t. head (getD (tilesIn (total (settingsIn (bodyIn xs))) (restIn (restIn xs))) t unused));
+    canisters = rows 64 0 (λ t. getD (tilesIn (total (settingsIn (bodyIn xs))) (restIn (restIn xs))) t unused);
+  }
+  unfolding pack build modelIn
+  pack-is = refl
+
+-- ---- room for the records that were found
+pub no-fault : (k n : ℕ) → k ≡ n → k ≡ 0 → n ≡ 0
+no-fault k n e z = sym e ∙ z
+
+pub record First (xs : List ℕ) : Type 0 where
+  pub long : lengthIn xs ≡ 20
+  pub enough : 24 ≤ length xs
+
+pub first-ok : (xs : List ℕ) → recordFault 1 0 xs ≡ 0 → First xs
+first-ok xs h =
+    let w = whole 1 0 xs h in
+    let e = settings-good xs w .0 in
+    record { long = e; enough = omega (arith, w .enough) }
+
+pub record Second (xs : List ℕ) : Type 0 where
+  pub long : lengthIn xs ≡ 12
+  pub enough : 16 ≤ length xs
+
+pub second-ok : (xs : List ℕ) → recordFault 2 0 xs ≡ 0 → Second xs
+second-ok xs h =
+    let w = whole 2 0 xs h in
+    let e = counters-good xs w in
+    record { long = e; enough = omega (arith, w .enough) }
+
+-- ---- the returns of read_image; u and w are the lengths of the bodies of records 1 and 2
+pub answer-1 : (x : List ℕ) (k : ℕ) → k ≡ recordFault 1 0 x → k ≢ 0 → record { refusal = k; floor = zeroFloor } ≡ recordsAnswer x
+answer-1 x k e h = answer-refused x k (fault-1 x (λ q. h (e ∙ q)) ∙ sym e) h
+
+module _ (x : List ℕ) (z1 : recordFault 1 0 x ≡ 0) (u : ℕ) (n1 : u ≡ le 2 x) where
+  rest-1 : drop (4 + u) x ≡ restIn x
+  rest-1 = rw n1
+
+  pub answer-2 : (k : ℕ) → k ≡ recordFault 2 0 (drop (4 + u) x) → k ≢ 0 → record { refusal = k; floor = zeroFloor } ≡ recordsAnswer x
+  answer-2 k e h =
+      let f : recordFault 2 0 (restIn x) ≡ k = rw (← rest-1) (sym e) in
+      answer-refused x k (fault-2 x z1 (λ q. h (sym f ∙ q)) ∙ f) h
+
+  module _ (z2 : recordFault 2 0 (drop (4 + u) x) ≡ 0) (w : ℕ) (n2 : w ≡ le 2 (drop (4 + u) x)) (st : Settings) (se : st ≡ settingsIn (drop 4 x)) where
+    rest-2 : drop (4 + u + 4 + w) x ≡ restIn (restIn x)
+    rest-2 = sym (rest-at x (4 + u) w n2) ∙ ap (λ (l : List ℕ). restIn l) rest-1
+
+    count-is : st .columns * st .rows ≡ total (settingsIn (bodyIn x))
+    count-is = rw se
+
+    fault-is : fault x ≡ tilesFault (st .columns * st .rows) 0 (drop (4 + u + 4 + w) x)
+    fault-is = let z : recordFault 2 0 (restIn x) ≡ 0 = rw rest-1 at z2 in fault-3 x z1 z ∙ rw (count-is, rest-2)
+
+    pub third-fits : 4 + u + 4 + w ≤ length x
+    third-fits =
+        let k = first-ok x z1 in
+        let r : 4 + u + 4 + le 2 (drop (4 + u) x) ≤ length x = record-room x (4 + u) 2 0 (omega (arith, k .enough, k .long)) z2 in
+        omega (arith, n2)
+
+    pub few-code : st .columns * st .rows ≤ 64
+    few-code = rw count-is (first-measured x z1 .few)
+
+    pub sides-code : (st .columns ≤ 8) × (st .rows ≤ 8)
+    sides-code = rw se (first-measured x z1 .columns-few, first-measured x z1 .rows-few)
+
+    pub answer-3 : (k : ℕ) → k ≡ tilesFault (st .columns * st .rows) 0 (drop (4 + u + 4 + w) x) → k ≢ 0 → record { refusal = k; floor = zeroFloor } ≡ recordsAnswer x
+    answer-3 k e h = answer-refused x k (fault-is ∙ sym e) h
+
+    pub answer-4 : (ct : Counters) (ts : List Tile) (cs : List Canister) (starts : List ℕ) → ct ≡ countersIn (drop (4 + u + 4) x) → 0 ≡ tilesFault (st .columns * st .rows) 0 (drop (4 + u + 4 + w) x)
+        → Starts x (drop (4 + u + 4 + w) x) starts (st .columns * st .rows) → ts ≡ tab 64 (tileFrom x starts (st .columns * st .rows)) → cs ≡ tab 1024 (canisterFrom x starts (st .columns * st .rows))
+        → record { refusal = 0; floor = record { settings = st; counters = ct; tiles = ts; canisters = cs } } ≡ recordsAnswer x
+    answer-4 ct ts cs starts ce fe ss te ke =
+        let n : ℕ = st .columns * st .rows in
+        let ys : List ℕ = drop (4 + u + 4 + w) x in
+        let t1 : ts ≡ tab 64 (λ t. head (getD (tilesIn (total (settingsIn (bodyIn x))) (restIn (restIn x))) t unused)) = te ∙ tiles-are x ys starts n ss ∙ rw (count-is, rest-2) in
+        let c1 : cs ≡ rows 64 0 (λ t. getD (tilesIn (total (settingsIn (bodyIn x))) (restIn (restIn x))) t unused) = ke ∙ canisters-are x ys starts n ss ∙ rw (count-is, rest-2) in
+        let d : drop (4 + u + 4) x ≡ bodyIn (restIn x) = sym (drop-drop 4 (4 + u) x) ∙ ap (λ (l : List ℕ). bodyIn l) rest-1 in
+        let c2 : ct ≡ countersIn (bodyIn (restIn x)) = ce ∙ ap (λ (l : List ℕ). countersIn l) d in
+        rw (t1, c1, c2, se, ← pack-is x) (answer-good x (fault-is ∙ sym fe))

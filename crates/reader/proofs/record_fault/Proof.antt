@@ -1,0 +1,123 @@
+use mathlib.Core.Path.{_≡_, _∙_}
+use Prim.Native.Nat.{_+_}
+use native.Mathlib.Omega.{arith}
+use lib.ListN.{drop}
+use Rattle.reader.proofs.Reading.{own-1, own-2, own-3, own-4, record-bare, record-cut, record-other, record-own}
+use borrow.Author.Needs.{needs}
+use Rattle.reader.proofs.record_fault.Statement.{statement}
+use Rattle.reader.proofs.record_fault.Tie as tie
+use Rattle.reader.proofs.record_fault.Reads as reads
+use Rattle.reader.proofs.record_fault.Lts as lts
+use Rattle.reader.proofs.counters_fault.Reads as counters-fault-reads
+use Rattle.reader.proofs.end_fault.Reads as end-fault-reads
+use Rattle.reader.proofs.settings_fault.Reads as settings-fault-reads
+use Rattle.reader.proofs.tile_fault.Reads as tile-fault-reads
+use Rattle.wire.proofs.u16_at.Reads as u16-at-reads
+
+sub-left : tie.Need-sub-left
+sub-left c = search needs
+
+returns : tie.Need-returns
+returns c =
+    let g = c .before .before .args in
+    record-bare (g.s .now) g.at g.due g.tile (omega arith) (omega arith)
+
+u16-at-requires : tie.Need-u16-at-requires
+u16-at-requires c κs = search needs
+
+cast-if2 : tie.Need-cast-if2
+cast-if2 c = search needs
+
+returns-2 : tie.Need-returns-2
+returns-2 c =
+    let g = c .before .before .before .before .args in
+    record-cut (g.s .now) g.at g.due g.tile _ (c .before .u16-at .ensures) (omega arith) (omega arith)
+
+add-u16-at : tie.Need-add-u16-at
+add-u16-at c = search needs
+
+u16-at-requires-2 : tie.Need-u16-at-requires-2
+u16-at-requires-2 c κs = search needs
+
+returns-3 : tie.Need-returns-3
+returns-3 c =
+    let g = c .before .before .before .before .before .before .args in
+    let k = c .before .u16-at2 .ensures in
+    record-other (g.s .now) g.at g.due g.tile _ (c .before .before .before .u16-at .ensures) (omega arith) (omega arith) (omega (arith, k))
+
+add-settings-fault : tie.Need-add-settings-fault
+add-settings-fault c = search needs
+
+settings-fault-requires : tie.Need-settings-fault-requires
+settings-fault-requires c κs = search needs
+
+counters-fault-requires : tie.Need-counters-fault-requires
+counters-fault-requires c κs = search needs
+
+add-tile-fault : tie.Need-add-tile-fault
+add-tile-fault c = search needs
+
+tile-fault-requires : tie.Need-tile-fault-requires
+tile-fault-requires c κs = search needs
+
+end-fault-requires : tie.Need-end-fault-requires
+end-fault-requires c κs = search needs
+
+returns-4 : tie.Need-returns-4
+returns-4 c =
+    let g = c .before .before .before .before .before .before .before .before .args in
+    let k = c .before .before .before .u16-at2 .ensures in
+    let n = c .before .before .before .before .before .u16-at .ensures in
+    let d : g.due ≡ 1 = omega (arith, c .before .match .keys1) in
+    c .settings-fault .ensures ∙ own-1 g.due g.tile _ (drop (g.at + 4) (g.s .now)) d ∙ record-own (g.s .now) g.at g.due g.tile _ n (omega arith) (omega arith) (omega (arith, k))
+
+returns-5 : tie.Need-returns-5
+returns-5 c =
+    let g = c .before .before .before .before .before .before .before .before .args in
+    let k = c .before .before .before .u16-at2 .ensures in
+    let n = c .before .before .before .before .before .u16-at .ensures in
+    let d : g.due ≡ 2 = omega (arith, c .before .match .keys2) in
+    c .counters-fault .ensures ∙ own-2 g.due g.tile _ (drop (g.at + 4) (g.s .now)) d ∙ record-own (g.s .now) g.at g.due g.tile _ n (omega arith) (omega arith) (omega (arith, k))
+
+returns-6 : tie.Need-returns-6
+returns-6 c =
+    let g = c .before .before .before .before .before .before .before .before .args in
+    let k = c .before .before .before .u16-at2 .ensures in
+    let n = c .before .before .before .before .before .u16-at .ensures in
+    let d : g.due ≡ 3 = omega (arith, c .before .match .keys3) in
+    c .tile-fault .ensures ∙ own-3 g.due g.tile _ (drop (g.at + 4) (g.s .now)) d ∙ record-own (g.s .now) g.at g.due g.tile _ n (omega arith) (omega arith) (omega (arith, k))
+
+returns-7 : tie.Need-returns-7
+returns-7 c =
+    let g = c .before .before .before .before .before .before .before .before .args in
+    let k = c .before .before .before .u16-at2 .ensures in
+    let n = c .before .before .before .before .before .u16-at .ensures in
+    let d : g.due ≡ 4 = omega (arith, c .before .match .keys4) in
+    c .end-fault .ensures ∙ own-4 g.due g.tile _ (drop (g.at + 4) (g.s .now)) d ∙ record-own (g.s .now) g.at g.due g.tile _ n (omega arith) (omega arith) (omega (arith, k))
+
+returns-8 : tie.Need-returns-8
+returns-8 c = search needs
+
+pub record-fault-spec : {M : Type 1} → statement M
+record-fault-spec =
+    tie.close
+    (tie.spec
+    sub-left
+    returns
+    u16-at-requires
+    cast-if2
+    returns-2
+    add-u16-at
+    u16-at-requires-2
+    returns-3
+    add-settings-fault
+    settings-fault-requires
+    counters-fault-requires
+    add-tile-fault
+    tile-fault-requires
+    end-fault-requires
+    returns-4
+    returns-5
+    returns-6
+    returns-7
+    returns-8)

@@ -1,0 +1,135 @@
+-- Numbers as little-endian bytes, and rows of fields of given widths: one codec, and its two laws for every row of widths.
+use mathlib.Core.Path.{_≡_, refl, sym, ap}
+use mathlib.Core.Bool.{Bool, true, false, _&&_, false≢true}
+use mathlib.Core.List.{List, [], _∷_, _++_, append-assoc}
+use Prim.Native.Nat.{ℕ, zero, suc, _+_, _*_, _/_, _%_, _^_, _≤_, _<_}
+use native.Mathlib.Omega.{arith}
+use native.Mathlib.Nat.{mod-lt, div-add-mod', div-lt-iff-lt-mul}
+use lib.ListN.{length, take, drop, getD, length-append, length-drop}
+use lib.Seq.{drop-at, take-add}
+use lib.Dec.{ltb}
+use lib.Arith.{digits-div, digits-mod}
+use borrow.Author.Tests.{ltb-true}
+use Rattle.laws.specs.Tests.{and-left, and-right}
+
+-- ---- definitions
+-- the number that the first n bytes hold, the low byte first; a byte that isn't there counts as 0
+unfoldable pub le : ℕ → List ℕ → ℕ
+le zero xs = 0
+le (suc n) [] = 0
+le (suc n) (x ∷ xs) = le n xs * 256 + x
+
+-- a number as n bytes, the low byte first
+unfoldable pub bytes : ℕ → ℕ → List ℕ
+bytes zero x = []
+bytes (suc n) x = x % 256 ∷ bytes n (x / 256)
+
+-- the fields of these widths that stand at the front, one after the other
+unfoldable pub fieldsOf : List ℕ → List ℕ → List ℕ
+fieldsOf [] xs = []
+fieldsOf (w ∷ ws) xs = le w xs ∷ fieldsOf ws (drop w xs)
+
+-- the values as fields of these widths, one after the other
+unfoldable pub bytesOf : List ℕ → List ℕ → List ℕ
+bytesOf [] vs = []
+bytesOf (w ∷ ws) [] = []
+bytesOf (w ∷ ws) (v ∷ vs) = bytes w v ++ bytesOf ws vs
+
+-- field k of a row
+abbrev pub field : List ℕ → ℕ → List ℕ → ℕ
+field ws k b = getD (fieldsOf ws b) k 0
+
+abbrev pub width : List ℕ → ℕ
+width [] = 0
+width (w ∷ ws) = w + width ws
+
+-- each value fits its width: as a fact, and as a test
+abbrev pub Fit : List ℕ → List ℕ → Type 0
+Fit [] [] = Unit {0}
+Fit [] (v ∷ vs) = ⊥
+Fit (w ∷ ws) [] = ⊥
+Fit (w ∷ ws) (v ∷ vs) = (v < 256 ^ w) × Fit ws vs
+
+unfoldable pub fitTest : List ℕ → List ℕ → Bool
+fitTest [] [] = true
+fitTest [] (v ∷ vs) = false
+fitTest (w ∷ ws) [] = false
+fitTest (w ∷ ws) (v ∷ vs) = ltb v (256 ^ w) && fitTest ws vs
+
+-- every number of the list is a byte
+abbrev pub Bytes : List ℕ → Type 0
+Bytes [] = Unit {0}
+Bytes (x ∷ xs) = (x < 256) × Bytes xs
+
+-- ---- one number
+pub bytes-length : (n x : ℕ) → length (bytes n x) ≡ n
+unfolding bytes
+bytes-length zero x = refl
+bytes-length (suc n) x = ap suc (bytes-length n (x / 256))
+
+pub bytes-fit : (n x : ℕ) → Bytes (bytes n x)
+unfolding bytes
+bytes-fit zero x = tt
+bytes-fit (suc n) x = (mod-lt x (omega arith), bytes-fit n (x / 256))
+
+-- read after written
+pub le-bytes : (n x : ℕ) (ys : List ℕ) → x < 256 ^ n → le n (bytes n x ++ ys) ≡ x
+unfolding le bytes
+le-bytes zero x ys h = omega arith
+le-bytes (suc n) x ys h =
+    let k : x / 256 < 256 ^ n = div-lt-iff-lt-mul {k = 256} {x = x} {y = 256 ^ n} (omega arith) .1 (omega arith) in
+    rw (le-bytes n (x / 256) ys k) (div-add-mod' x 256)
+
+-- written after read
+pub bytes-le : (n : ℕ) (xs : List ℕ) → Bytes xs → n ≤ length xs → bytes n (le n xs) ≡ take n xs
+unfolding le bytes
+bytes-le zero xs b h = refl
+bytes-le (suc n) [] b h = absurd (omega arith)
+bytes-le (suc n) (x ∷ xs) b h = rw (digits-mod (le n xs) (b .0), digits-div (le n xs) (b .0), bytes-le n xs (b .1) (omega arith))
+
+-- ---- lists of bytes
+pub bytes-drop : (n : ℕ) (xs : List ℕ) → Bytes xs → Bytes (drop n xs)
+bytes-drop zero xs b = b
+bytes-drop (suc n) [] b = tt
+bytes-drop (suc n) (x ∷ xs) b = bytes-drop n xs (b .1)
+
+pub bytes-append : (xs ys : List ℕ) → Bytes xs → Bytes ys → Bytes (xs ++ ys)
+bytes-append [] ys a b = b
+bytes-append (x ∷ xs) ys a b = (a .0, bytes-append xs ys (a .1) b)
+
+-- ---- a row of fields
+pub fit-fact : (ws vs : List ℕ) → fitTest ws vs ≡ true → Fit ws vs
+unfolding fitTest
+fit-fact [] [] h = tt
+fit-fact [] (v ∷ vs) h = absurd (false≢true h)
+fit-fact (w ∷ ws) [] h = absurd (false≢true h)
+fit-fact (w ∷ ws) (v ∷ vs) h = (ltb-true v (256 ^ w) (and-left (ltb v (256 ^ w)) (fitTest ws vs) h), fit-fact ws vs (and-right (ltb v (256 ^ w)) (fitTest ws vs) h))
+
+pub row-length : (ws vs : List ℕ) → length vs ≡ length ws → length (bytesOf ws vs) ≡ width ws
+unfolding bytesOf
+row-length [] vs h = refl
+row-length (w ∷ ws) [] h = absurd (omega arith)
+row-length (w ∷ ws) (v ∷ vs) h = rw (length-append, bytes-length w v, row-length ws vs (omega arith))
+
+pub row-bytes : (ws vs : List ℕ) → Bytes (bytesOf ws vs)
+unfolding bytesOf
+row-bytes [] vs = tt
+row-bytes (w ∷ ws) [] = tt
+row-bytes (w ∷ ws) (v ∷ vs) = bytes-append (bytes w v) (bytesOf ws vs) (bytes-fit w v) (row-bytes ws vs)
+
+-- the fields of what was written are the values
+pub fields-bytes : (ws vs ys : List ℕ) → Fit ws vs → fieldsOf ws (bytesOf ws vs ++ ys) ≡ vs
+unfolding fieldsOf bytesOf
+fields-bytes [] [] ys h = refl
+fields-bytes [] (v ∷ vs) ys h = absurd h
+fields-bytes (w ∷ ws) [] ys h = absurd h
+fields-bytes (w ∷ ws) (v ∷ vs) ys h =
+    rw (append-assoc (bytes w v) (bytesOf ws vs) ys, le-bytes w v (bytesOf ws vs ++ ys) (h .0), drop-at (bytes w v) (bytesOf ws vs ++ ys) w (bytes-length w v), fields-bytes ws vs ys (h .1))
+
+-- the fields that were read, written again, are the bytes
+pub bytes-fields : (ws xs : List ℕ) → Bytes xs → width ws ≤ length xs → bytesOf ws (fieldsOf ws xs) ≡ take (width ws) xs
+unfolding fieldsOf bytesOf
+bytes-fields [] xs b h = refl
+bytes-fields (w ∷ ws) xs b h =
+    let k : width ws ≤ length (drop w xs) = rw length-drop (omega arith) in
+    rw (bytes-le w xs b (omega arith), bytes-fields ws (drop w xs) (bytes-drop w xs b) k) (sym (take-add w (width ws) xs))

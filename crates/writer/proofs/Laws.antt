@@ -1,0 +1,215 @@
+-- Laws of the writer: how long its parts are, the turns of its loops, and the whole as the image.
+use mathlib.Core.Path.{_≡_, refl, sym, ap, _∙_}
+use mathlib.Core.Bool.{true}
+use mathlib.Core.List.{List, [], _∷_, _++_, append-assoc, append-nil}
+use Prim.Native.Nat.{ℕ, zero, suc, _+_, _-_, _*_, _≤_, _<_}
+use native.Mathlib.Omega.{arith}
+use native.Mathlib.Numerals.{add-one}
+use lib.ListN.{length, take, drop, getD, length-append, length-drop}
+use lib.Seq.{length-take-le, take-suc, getD-drop}
+use Rattle.laws.specs.Define.{tab}
+use Rattle.laws.specs.Tables.{tab-same}
+use Rattle.wire.specs.Bytes.{bytes, bytesOf, bytes-length}
+use Rattle.wire.specs.Put.{put, put-two, put-three}
+use Rattle.floor.specs.declared.Canister.{Canister}
+use Rattle.floor.specs.declared.Settings.{Settings}
+use Rattle.floor.specs.declared.Counters.{Counters}
+use Rattle.floor.specs.declared.Tile.{Tile}
+use Rattle.floor.specs.declared.Floor.{Floor}
+use Rattle.floor.specs.Settings.{total}
+use Rattle.floor.specs.Memory.{stateFrom, stateOf, view}
+use Rattle.floor.specs.Well.{wellFormed}
+use Rattle.floor.proofs.Pack.{few-on, well-few, well-fits, well-lengths}
+use Rattle.image.specs.Image.{recordOf, settingsBody, countersBody, canistersBody, tileBody, tilesBytes, encode}
+use Rattle.image.proofs.Records.{record-length}
+use Rattle.image.proofs.Sizes.{settings-size, counters-size, canister-size, canisters-size, tile-size}
+use Rattle.writer.specs.Upto.{canisterBytes, frontBytes, countAt, tileFor, tileRecord, upto}
+
+-- ---- lengths
+pub pair-length : (x y : ℕ) → length (bytes 2 x ++ bytes 2 y) ≡ 4
+pair-length x y = rw (length-append, bytes-length 2 x, bytes-length 2 y)
+
+pub three-length : (n x y z : ℕ) → length (bytes n x ++ (bytes n y ++ bytes n z)) ≡ n + (n + n)
+three-length n x y z = rw (length-append, bytes-length n x, length-append, bytes-length n y, bytes-length n z)
+
+pub front-length : (t : ℕ) (h : Tile) → length (frontBytes t h) ≡ 10
+unfolding frontBytes
+front-length t h = rw (length-append, pair-length (6 + 8 * h .count) 3, length-append, three-length 1 t (h .running) (h .distance), three-length 1 (h .next .code) (h .token .code) (h .count))
+
+-- ---- records 1 and 2, and a canister, as they are put
+abbrev pub measuresBytes : Settings → List ℕ
+measuresBytes x = (bytes 2 (x .width) ++ bytes 2 (x .length)) ++ ((bytes 2 (x .gap) ++ bytes 2 (x .travel)) ++ bytes 8 (x .sources))
+
+pub measures-length : (x : Settings) → length (measuresBytes x) ≡ 16
+measures-length x = rw (length-append, pair-length (x .width) (x .length), length-append, pair-length (x .gap) (x .travel), bytes-length 8 (x .sources))
+
+settings-row : (x : Settings) → settingsBody x ≡ bytes 1 (x .columns) ++ (bytes 1 (x .rows) ++ (bytes 1 (x .hopper) ++ (bytes 1 0 ++ measuresBytes x)))
+unfolding settingsBody bytesOf
+settings-row x = simp (append-assoc, append-nil)
+
+pub settings-record : (x : Settings) → (bytes 2 20 ++ bytes 2 1) ++ ((bytes 1 (x .columns) ++ (bytes 1 (x .rows) ++ bytes 1 (x .hopper))) ++ (bytes 1 0 ++ measuresBytes x)) ≡ recordOf 1 (settingsBody x)
+unfolding recordOf
+settings-record x = rw (settings-size x, settings-row x) (simp append-assoc)
+
+counters-row : (x : Counters) → countersBody x ≡ bytes 4 (x .last) ++ (bytes 4 (x .booked) ++ bytes 4 (x .delivered))
+unfolding countersBody bytesOf
+counters-row x = simp append-nil
+
+pub counters-record : (x : Counters) → (bytes 2 12 ++ bytes 2 2) ++ (bytes 4 (x .last) ++ (bytes 4 (x .booked) ++ bytes 4 (x .delivered))) ≡ recordOf 2 (countersBody x)
+unfolding recordOf
+counters-record x = rw (counters-size x, counters-row x) (simp append-assoc)
+
+pub canister-bytes : (c : Canister) → canisterBytes c ≡ bytes 4 (c .number) ++ (bytes 2 (c .a) ++ bytes 2 (c .b))
+unfolding bytesOf
+canister-bytes c = rw (append-nil (bytes 2 (c .b)))
+
+pub end-record : bytes 2 0 ++ bytes 2 4 ≡ recordOf 4 []
+unfolding recordOf
+end-record = rw (append-nil (bytes 2 4))
+
+-- four writes in a row
+pub put-four : (l m k j i : List ℕ) (at p2 p3 p4 : ℕ) (ws xs ys zs : List ℕ) → at + length ws + length xs + length ys + length zs ≤ length l
+    → p2 ≡ at + length ws → p3 ≡ at + length ws + length xs → p4 ≡ at + length ws + length xs + length ys
+    → m ≡ put l at ws → k ≡ put m p2 xs → j ≡ put k p3 ys → i ≡ put j p4 zs → i ≡ put l at (ws ++ (xs ++ (ys ++ zs)))
+put-four l m k j i at p2 p3 p4 ws xs ys zs h e2 e3 e4 a b c d =
+    let n : length (ws ++ xs) ≡ length ws + length xs = length-append ws xs in
+    let p : k ≡ put l at (ws ++ xs) = put-two l m k at p2 ws xs (omega arith) e2 a b in
+    let q : i ≡ put l at ((ws ++ xs) ++ (ys ++ zs)) = put-three l k j i at p3 p4 (ws ++ xs) ys zs (rw n (omega arith)) (rw n (omega arith)) (rw n (omega arith)) p c d in
+    rw (append-assoc ws xs (ys ++ zs)) at q
+
+-- ---- the canisters of a tile
+canisters-append : (l k : List Canister) → canistersBody (l ++ k) ≡ canistersBody l ++ canistersBody k
+unfolding canistersBody
+canisters-append [] k = refl
+canisters-append (c ∷ l) k = rw (canisters-append l k) (sym (append-assoc (canisterBytes c) (canistersBody l) (canistersBody k)))
+
+canisters-one : (c : Canister) → canistersBody (c ∷ []) ≡ canisterBytes c
+unfolding canistersBody
+canisters-one c = append-nil (canisterBytes c)
+
+pub canisters-upto : (all : List Canister) (base k : ℕ) → base + k ≤ length all → length (canistersBody (take k (drop base all))) ≡ 8 * k
+canisters-upto all base k h =
+    let m : k ≤ length (drop base all) = rw length-drop (omega arith) in
+    canisters-size (take k (drop base all)) ∙ rw (length-take-le k (drop base all) m)
+
+canisters-turn : (all : List Canister) (base k : ℕ) (z : Canister) → base + k < length all
+    → canistersBody (take (k + 1) (drop base all)) ≡ canistersBody (take k (drop base all)) ++ canisterBytes (getD all (base + k) z)
+canisters-turn all base k z h =
+    let m : k < length (drop base all) = rw length-drop (omega arith) in
+    rw (add-one, take-suc (drop base all) k z m, getD-drop, canisters-append, canisters-one)
+
+-- a turn of the loop
+pub put-turn : (s₀ s s′ : List ℕ) (at base k : ℕ) (all : List Canister) (z : Canister) → base + k < length all → at + 8 * k + 8 ≤ length s₀
+    → s ≡ put s₀ at (canistersBody (take k (drop base all))) → s′ ≡ put s (at + 8 * k) (canisterBytes (getD all (base + k) z)) → s′ ≡ put s₀ at (canistersBody (take (k + 1) (drop base all)))
+put-turn s₀ s s′ at base k all z h r p q =
+    let n : length (canistersBody (take k (drop base all))) ≡ 8 * k = canisters-upto all base k (omega arith) in
+    let c : length (canisterBytes (getD all (base + k) z)) ≡ 8 = canister-size (getD all (base + k) z) in
+    rw (canisters-turn all base k z h)
+    (put-two s₀ s s′ at (at + 8 * k) (canistersBody (take k (drop base all))) (canisterBytes (getD all (base + k) z)) (omega arith) (omega arith) p q)
+
+-- a tile's record is its front and its canisters
+pub tile-record : (t : ℕ) (h : Tile) (l : List Canister) → length l ≡ h .count → frontBytes t h ++ canistersBody l ≡ recordOf 3 (tileBody t (stateFrom h l))
+unfolding frontBytes recordOf tileBody bytesOf
+tile-record t h l e =
+    let m : length (tileBody t (stateFrom h l)) ≡ 6 + 8 * h .count = tile-size t (stateFrom h l) ∙ rw e in
+    rw (m, e) (simp (append-assoc, append-nil))
+
+-- ---- the tiles, one after the other
+module _ (hs : List Tile) (cs : List Canister) where
+  pub upto-none : upto hs cs 0 ≡ []
+  unfolding upto
+  upto-none = refl
+
+  upto-more : (t : ℕ) → upto hs cs (t + 1) ≡ upto hs cs t ++ tileRecord hs cs t
+  unfolding upto
+  upto-more t = rw add-one
+
+  record-size : (t : ℕ) → 16 * t + 16 ≤ length cs → countAt hs t ≤ 16 → length (tileRecord hs cs t) ≡ 10 + 8 * countAt hs t
+  record-size t h k =
+      let m : countAt hs t ≤ length (drop (16 * t) cs) = rw length-drop (omega arith) in
+      let e : length (take (countAt hs t) (drop (16 * t) cs)) ≡ countAt hs t = length-take-le (countAt hs t) (drop (16 * t) cs) m in
+      rw (record-length 3 (tileBody t (tileFor hs cs t)), tile-size t (tileFor hs cs t), e) (omega arith)
+
+  pub at-turn : (from at t : ℕ) → 16 * t + 16 ≤ length cs → countAt hs t ≤ 16 → at ≡ from + length (upto hs cs t) → at + 10 + 8 * countAt hs t ≡ from + length (upto hs cs (t + 1))
+  at-turn from at t l k e = let n = record-size t l k in rw (upto-more t, length-append) (omega arith)
+
+  upto-suc : (t : ℕ) → length (upto hs cs t) ≤ length (upto hs cs (suc t))
+  unfolding upto
+  upto-suc t = rw length-append (omega arith)
+
+  upto-mono : (t n : ℕ) → length (upto hs cs t) ≤ length (upto hs cs (t + n))
+  upto-mono t zero = let e : t + 0 ≡ t = omega arith in rw e (omega arith)
+  upto-mono t (suc n) = let e : t + suc n ≡ suc (t + n) = omega arith in rw e (omega (arith, upto-mono t n, upto-suc (t + n)))
+
+  pub upto-room : (t c : ℕ) → t < c → 16 * t + 16 ≤ length cs → countAt hs t ≤ 16 → length (upto hs cs t) + 10 + 8 * countAt hs t ≤ length (upto hs cs c)
+  upto-room t c h l k =
+      let n : length (upto hs cs (t + 1)) ≡ length (upto hs cs t) + (10 + 8 * countAt hs t) = rw (upto-more t, length-append, record-size t l k) in
+      let e : t + 1 + (c - (t + 1)) ≡ c = omega arith in
+      let m : length (upto hs cs (t + 1)) ≤ length (upto hs cs c) = rw e at (upto-mono (t + 1) (c - (t + 1))) in
+      omega arith
+
+  -- a turn of the loop
+  pub tiles-turn : (s₀ s s′ : List ℕ) (from at t : ℕ) → 16 * t + 16 ≤ length cs → countAt hs t ≤ 16 → at + 10 + 8 * countAt hs t ≤ length s₀ → at ≡ from + length (upto hs cs t)
+      → s ≡ put s₀ from (upto hs cs t) → s′ ≡ put s at (tileRecord hs cs t) → s′ ≡ put s₀ from (upto hs cs (t + 1))
+  tiles-turn s₀ s s′ from at t l k r e p q =
+      let n = record-size t l k in
+      rw (upto-more t) (put-two s₀ s s′ from at (upto hs cs t) (tileRecord hs cs t) (omega arith) e p q)
+
+  -- then the end
+  upto-tiles : (t n : ℕ) → upto hs cs t ++ tilesBytes t (tab n (λ k. tileFor hs cs (t + k))) ≡ upto hs cs (t + n) ++ recordOf 4 []
+  unfolding tab tilesBytes upto
+  upto-tiles t zero = let e : t + 0 ≡ t = omega arith in rw e
+  upto-tiles t (suc n) =
+      let z : t + 0 ≡ t = omega arith in
+      let e : t + suc n ≡ suc t + n = omega arith in
+      let s : tab n (λ k. tileFor hs cs (t + suc k)) ≡ tab n (λ k. tileFor hs cs (suc t + k)) = tab-same n _ _ (λ k h. ap (tileFor hs cs) (omega arith)) in
+      rw (z, s, e, ← upto-tiles (suc t) n) (sym (append-assoc (upto hs cs t) (tileRecord hs cs t) (tilesBytes (suc t) (tab n (λ k. tileFor hs cs (suc t + k))))))
+
+-- ---- how long the records of the tiles below t are, from the tiles alone
+unfoldable pub headsSize : List Tile → ℕ → ℕ
+headsSize hs zero = 0
+headsSize hs (suc t) = headsSize hs t + (10 + 8 * countAt hs t)
+
+pub heads-none : (hs : List Tile) → headsSize hs 0 ≡ 0
+unfolding headsSize
+heads-none hs = refl
+
+pub heads-more : (hs : List Tile) (t : ℕ) → headsSize hs (t + 1) ≡ headsSize hs t + (10 + 8 * countAt hs t)
+unfolding headsSize
+heads-more hs t = rw add-one
+
+pub upto-size : (hs : List Tile) (cs : List Canister) (t : ℕ) → 16 * t ≤ length cs → ((u : ℕ) → u < t → countAt hs u ≤ 16) → length (upto hs cs t) ≡ headsSize hs t
+unfolding upto headsSize
+upto-size hs cs zero h few = refl
+upto-size hs cs (suc t) h few = rw (length-append, record-size hs cs t (omega arith) (few t (omega arith)), upto-size hs cs t (omega arith) (λ u l. few u (omega arith)))
+
+-- ---- the whole
+module _ (f : Floor) where
+  states : (n : ℕ) → tab n (stateOf f) ≡ tab n (λ k. tileFor (f .tiles) (f .canisters) (0 + k))
+  unfolding stateOf
+  states n = tab-same n _ _ (λ k h. ap (tileFor (f .tiles) (f .canisters)) (omega arith))
+
+  tiles-bytes : (n : ℕ) → tilesBytes 0 (tab n (stateOf f)) ≡ upto (f .tiles) (f .canisters) n ++ recordOf 4 []
+  tiles-bytes n =
+      let e : 0 + n ≡ n = omega arith in
+      let u = upto-tiles (f .tiles) (f .canisters) 0 n in
+      rw (states n) (rw (upto-none (f .tiles) (f .canisters), e) at u)
+
+  pub encode-is : encode (view f) ≡ recordOf 1 (settingsBody (f .settings)) ++ (recordOf 2 (countersBody (f .counters)) ++ (upto (f .tiles) (f .canisters) (total (f .settings)) ++ recordOf 4 []))
+  unfolding encode view
+  encode-is = rw (tiles-bytes (total (f .settings)))
+
+  pub encode-long : length (encode (view f)) ≡ 44 + length (upto (f .tiles) (f .canisters) (total (f .settings)))
+  encode-long =
+      rw (encode-is, length-append, record-length 1 (settingsBody (f .settings)), settings-size (f .settings), length-append, record-length 2 (countersBody (f .counters)), counters-size (f .counters), length-append, record-length 4 [])
+      (omega arith)
+
+-- a well-formed floor has what the writer asks for
+module _ (f : Floor) (w : wellFormed f ≡ true) where
+  pub counts-few : (t : ℕ) → t < total (f .settings) → countAt (f .tiles) t ≤ 16
+  counts-few t l = few-on f (well-few f w) (well-fits f w) t l
+
+  pub encode-heads : length (encode (view f)) ≡ 44 + headsSize (f .tiles) (total (f .settings))
+  encode-heads =
+      let n = well-lengths f w .1 in
+      encode-long f ∙ ap (λ (k : ℕ). 44 + k) (upto-size (f .tiles) (f .canisters) (total (f .settings)) (omega (arith, n, well-few f w)) counts-few)

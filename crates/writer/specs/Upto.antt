@@ -1,0 +1,34 @@
+-- The bytes that the writer has put after t tiles, and the front of a tile's record.
+use mathlib.Core.List.{List, [], _++_}
+use Prim.Native.Nat.{ℕ, zero, suc, _+_, _*_}
+use lib.ListN.{getD, take, drop}
+use Rattle.wire.specs.Bytes.{bytes, bytesOf}
+use Rattle.floor.specs.declared.Canister.{Canister}
+use Rattle.floor.specs.declared.Tile.{Tile}
+use Rattle.floor.specs.Model.{TileState}
+use Rattle.floor.specs.Memory.{zeroTile, stateFrom}
+use Rattle.image.specs.Image.{canisterWidths, canisterValues, recordOf, tileBody}
+
+abbrev pub canisterBytes : Canister → List ℕ
+canisterBytes c = bytesOf canisterWidths (canisterValues c)
+
+-- the ten bytes of a tile's record before its canisters
+unfoldable pub frontBytes : ℕ → Tile → List ℕ
+frontBytes t h =
+    (bytes 2 (6 + 8 * h .count) ++ bytes 2 3)
+    ++ ((bytes 1 t ++ (bytes 1 (h .running) ++ bytes 1 (h .distance))) ++ (bytes 1 (h .next .code) ++ (bytes 1 (h .token .code) ++ bytes 1 (h .count))))
+
+-- tile t of a floor whose arrays are hs and cs, and how many canisters it has
+abbrev pub countAt : List Tile → ℕ → ℕ
+countAt hs t = getD hs t zeroTile .count
+
+abbrev pub tileFor : List Tile → List Canister → ℕ → TileState
+tileFor hs cs t = stateFrom (getD hs t zeroTile) (take (countAt hs t) (drop (16 * t) cs))
+
+abbrev pub tileRecord : List Tile → List Canister → ℕ → List ℕ
+tileRecord hs cs t = recordOf 3 (tileBody t (tileFor hs cs t))
+
+-- the records of the tiles below t
+unfoldable pub upto : List Tile → List Canister → ℕ → List ℕ
+upto hs cs zero = []
+upto hs cs (suc t) = upto hs cs t ++ tileRecord hs cs t
