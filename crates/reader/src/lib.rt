@@ -16,7 +16,7 @@ use floor::Floor;
 use floor::Settings;
 use floor::Side;
 use floor::Tile;
-use image::settings_refusal;
+use settings::settings_refusal;
 use wire::u16_at;
 use wire::u32_at;
 use wire::u64_at;

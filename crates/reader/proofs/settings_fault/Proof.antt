@@ -7,7 +7,7 @@ use Rattle.reader.proofs.settings_fault.Tie as tie
 use Rattle.reader.proofs.settings_fault.Reads as reads
 use Rattle.reader.proofs.settings_fault.Lts as lts
 use Rattle.reader.proofs.settings_at.Reads as settings-at-reads
-use Rattle.image.proofs.settings_refusal.Reads as settings-refusal-reads
+use Rattle.settings.proofs.settings_refusal.Reads as settings-refusal-reads
 
 returns : tie.Need-returns
 returns c =

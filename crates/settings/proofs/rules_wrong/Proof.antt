@@ -1,0 +1,31 @@
+use mathlib.Core.Path.{refl}
+use Rattle.settings.specs.Groups.{rulesWrong}
+use borrow.Author.Needs.{needs}
+use Rattle.settings.proofs.rules_wrong.Statement.{statement}
+use Rattle.settings.proofs.rules_wrong.Tie as tie
+use Rattle.settings.proofs.rules_wrong.Reads as reads
+use Rattle.settings.proofs.rules_wrong.Lts as lts
+
+-- src/lib.rt:45:14
+cast-d : tie.Need-cast-d
+cast-d c = search needs
+
+-- src/lib.rt:45:34
+cast-d-2 : tie.Need-cast-d-2
+cast-d-2 c = search needs
+
+-- src/lib.rt:45:13
+add-d : tie.Need-add-d
+add-d c = search needs
+
+-- src/lib.rt:46:17
+cast-width : tie.Need-cast-width
+cast-width c = search needs
+
+-- src/lib.rt:42:1
+returns : tie.Need-returns
+unfolding rulesWrong
+returns c = refl
+
+pub rules-wrong-spec : {M : Type 1} → statement M
+rules-wrong-spec = tie.close (tie.spec cast-d cast-d-2 add-d cast-width returns)

@@ -1,0 +1,19 @@
+use Rattle.settings.specs.Groups.{sizesWrong}
+use borrow.Author.Needs.{needs}
+use Rattle.settings.proofs.sizes_wrong.Statement.{statement}
+use Rattle.settings.proofs.sizes_wrong.Tie as tie
+use Rattle.settings.proofs.sizes_wrong.Reads as reads
+use Rattle.settings.proofs.sizes_wrong.Lts as lts
+use Rattle.settings.proofs.tiles_of.Reads as tiles-of-reads
+
+-- src/lib.rt:26:9
+tiles-of-requires : tie.Need-tiles-of-requires
+tiles-of-requires c κs = search needs
+
+-- src/lib.rt:21:1
+returns : tie.Need-returns
+unfolding sizesWrong
+returns c = rw (c .tiles-of .ensures)
+
+pub sizes-wrong-spec : {M : Type 1} → statement M
+sizes-wrong-spec = tie.close (tie.spec tiles-of-requires returns)

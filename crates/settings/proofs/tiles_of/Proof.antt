@@ -1,0 +1,32 @@
+use native.Mathlib.Nat.{mul-le-mul, lt-of-le-of-lt}
+use lib.Dec.{lit<}
+use Prim.Native.Nat.{_≤_}
+use native.Mathlib.Omega.{arith}
+use borrow.Author.Needs.{needs}
+use Rattle.settings.proofs.tiles_of.Statement.{statement}
+use Rattle.settings.proofs.tiles_of.Tie as tie
+use Rattle.settings.proofs.tiles_of.Reads as reads
+use Rattle.settings.proofs.tiles_of.Lts as lts
+
+-- src/lib.rt:16:6
+cast-result : tie.Need-cast-result
+cast-result c = search needs
+
+-- src/lib.rt:16:29
+cast-result-2 : tie.Need-cast-result-2
+cast-result-2 c = search needs
+
+-- src/lib.rt:16:5
+mul-result : tie.Need-mul-result
+mul-result c =
+    let s = c .before .before .args .s in
+    let x : s .columns ≤ 255 = omega arith in
+    let y : s .rows ≤ 255 = omega arith in
+    record { fits = lt-of-le-of-lt (mul-le-mul x y) (lit< tt) }
+
+-- src/lib.rt:13:1
+returns : tie.Need-returns
+returns c = search needs
+
+pub tiles-of-spec : {M : Type 1} → statement M
+tiles-of-spec = tie.close (tie.spec cast-result cast-result-2 mul-result returns)

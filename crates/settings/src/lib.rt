@@ -1,0 +1,77 @@
+// The refusals 1 to 3 of settings, on any bytes.
+ghost use mathlib.Core.Path.{_≡_};
+ghost use mathlib.Core.Bool.{false};
+ghost use Prim.Native.Nat.{_<_};
+ghost use Rattle.floor.specs.Settings.{total, settingsRefusal};
+ghost use Rattle.settings.specs.Groups.{sizesWrong, hopperWrong, rulesWrong, measuresWrong};
+use floor::Settings;
+use sets::has;
+use sets::within;
+
+// The number of tiles.
+pub fn tiles_of(s: Settings) -> usize
+    ensures { λ r. ⌜ r ≡ total s ⌝ }
+{
+    (s.columns as usize) * (s.rows as usize)
+}
+
+// Refusal 1.
+pub fn sizes_wrong(s: Settings) -> bool
+    ensures { λ r. ⌜ r ≡ sizesWrong s ⌝ }
+{
+    let columns = s.columns;
+    let rows = s.rows;
+    let all = tiles_of(s);
+    (columns < 1) | ((8 < columns) | ((rows < 1) | ((8 < rows) | (all < 2))))
+}
+
+// Refusal 2. The sets of bits are looked at only where the hopper is on the floor.
+pub fn hopper_wrong(s: Settings) -> bool
+    requires { ⌜ sizesWrong s ≡ false ⌝ }
+    ensures { λ r. ⌜ r ≡ hopperWrong s ⌝ }
+{
+    let all = s.columns * s.rows;
+    if all <= s.hopper {
+        return true;
+    }
+    let own = has(s.sources, s.hopper);
+    let on = within(s.sources, all);
+    own | !on
+}
+
+// The measures without the division.
+pub fn rules_wrong(s: Settings) -> bool
+    ensures { λ r. ⌜ r ≡ rulesWrong s ⌝ }
+{
+    let d = (s.length as u32) + (s.gap as u32);
+    let width = s.width as u32;
+    (s.width < 2) | ((60000 < s.width) | ((s.travel < 1) | ((s.length <= s.travel) | (width <= d))))
+}
+
+// Refusal 3. Where the rules hold, d is at least 1 and l is below U.
+pub fn measures_wrong(s: Settings) -> bool
+    ensures { λ r. ⌜ r ≡ measuresWrong s ⌝ }
+{
+    if rules_wrong(s) {
+        return true;
+    }
+    let d = (s.length as u32) + (s.gap as u32);
+    let span = (s.width as u32) - (s.length as u32);
+    3 < span / d
+}
+
+// The number that settings are refused by, 0 where they pass.
+pub fn settings_refusal(s: Settings) -> u8
+    ensures { λ r. ⌜ r ≡ settingsRefusal s ⌝ }
+{
+    if sizes_wrong(s) {
+        return 1;
+    }
+    if hopper_wrong(s) {
+        return 2;
+    }
+    if measures_wrong(s) {
+        return 3;
+    }
+    0
+}

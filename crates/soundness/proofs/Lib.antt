@@ -1,0 +1,4 @@
+pub mod Counts
+pub mod Joins
+pub mod Blocks
+pub mod WellCode

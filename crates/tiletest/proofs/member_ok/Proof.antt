@@ -1,0 +1,20 @@
+use mathlib.Core.Path.{refl}
+use native.Mathlib.Omega.{arith}
+use Rattle.floor.specs.Well.{inside}
+use Rattle.tiletest.specs.Tile.{memberSound}
+use Rattle.tiletest.proofs.member_ok.Statement.{statement}
+use Rattle.tiletest.proofs.member_ok.Tie as tie
+use Rattle.tiletest.proofs.member_ok.Reads as reads
+use Rattle.tiletest.proofs.member_ok.Lts as lts
+
+-- src/lib.rt:111:16
+sub-span : tie.Need-sub-span
+sub-span c = omega (arith, c .before .pre)
+
+-- src/lib.rt:107:1
+returns : tie.Need-returns
+unfolding memberSound inside
+returns c = refl
+
+pub member-ok-spec : {M : Type 1} → statement M
+member-ok-spec = tie.close (tie.spec sub-span returns)

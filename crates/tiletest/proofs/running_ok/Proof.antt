@@ -1,0 +1,23 @@
+use Rattle.floor.specs.Well.{runningSound}
+use borrow.Author.Needs.{needs}
+use Rattle.tiletest.proofs.running_ok.Statement.{statement}
+use Rattle.tiletest.proofs.running_ok.Tie as tie
+use Rattle.tiletest.proofs.running_ok.Reads as reads
+use Rattle.tiletest.proofs.running_ok.Lts as lts
+use Rattle.settings.proofs.tiles_of.Reads as tiles-of-reads
+
+-- src/lib.rt:45:9
+tiles-of-requires : tie.Need-tiles-of-requires
+tiles-of-requires c κs = search needs
+
+-- src/lib.rt:46:20
+cast-distance : tie.Need-cast-distance
+cast-distance c = search needs
+
+-- src/lib.rt:42:1
+returns : tie.Need-returns
+unfolding runningSound
+returns c = cc
+
+pub running-ok-spec : {M : Type 1} → statement M
+running-ok-spec = tie.close (tie.spec tiles-of-requires cast-distance returns)
