@@ -3,9 +3,10 @@ use mathlib.Core.Path.{_≡_, refl, sym, ap, _∙_}
 use mathlib.Core.Logic.{inl, inr, _≢_}
 use mathlib.Core.Bool.{Bool, true, false, cond, not}
 use mathlib.Core.List.{List, [], _∷_, map}
-use Prim.Native.Nat.{ℕ, zero, suc, _+_, _*_, _/_, _≤_, _<_}
+use Prim.Native.Nat.{ℕ, zero, suc, _+_, _*_, _/_, _%_, _≤_, _<_}
 use native.Mathlib.Omega.{arith}
 use native.Mathlib.Nat.{le-div-iff-mul-le, div-mul-le-self}
+use lib.Arith.{digits-lt, digits-div, digits-mod}
 use lib.Dec.{eqb}
 use lib.ListN.{length, length-map}
 use borrow.Author.Tests.{eqb-true, eqb-false, ne-eqb, not-true}
@@ -68,6 +69,13 @@ few-cells P R cell n l low other p r =
     )
 
 -- ---- the cells of a tile
+square : (k : ℕ) → k ≤ 3 → (k + 1) * (k + 1) ≤ 16
+square zero h = omega arith
+square (suc zero) h = omega arith
+square (suc (suc zero)) h = omega arith
+square (suc (suc (suc zero))) h = omega arith
+square (suc (suc (suc (suc k)))) h = absurd (omega arith)
+
 module _ (s : Settings) (M : Measured s) where
   pub spacing-pos : 0 < spacing s
   spacing-pos = omega (arith, M .slow)
@@ -75,33 +83,48 @@ module _ (s : Settings) (M : Measured s) where
   pub apart-div : (x y : ℕ) → x + spacing s ≤ y → x / spacing s < y / spacing s
   apart-div x y h = le-div-iff-mul-le spacing-pos .1 (omega (arith, div-mul-le-self x (spacing s)))
 
+  -- "spacing d allows (U - l) div d + 1 along each axis"
+  within-along : (x : ℕ) → x ≤ span s → x / spacing s < span s / spacing s + 1
+  within-along x h = omega (arith, le-div-iff-mul-le {k = spacing s} {x = x / spacing s} {y = span s} spacing-pos .1 (omega (arith, div-mul-le-self x (spacing s))))
+
   pub within-div : (x : ℕ) → x ≤ span s → x / spacing s ≤ 3
-  within-div x h = omega (arith, M .dense, le-div-iff-mul-le {k = spacing s} {x = x / spacing s} {y = span s} spacing-pos .1 (omega (arith, div-mul-le-self x (spacing s))))
+  within-div x h = omega (arith, M .dense, within-along x h)
 
   differ-div : (x y : ℕ) → Differ (spacing s) x y → x / spacing s ≢ y / spacing s
   differ-div x y (inl h) = omega (arith, apart-div x y h)
   differ-div x y (inr h) = omega (arith, apart-div y x h)
 
-  cell : Canister → ℕ
-  cell c = c .a / spacing s * 4 + c .b / spacing s
+  -- along one axis, p being the canister's coordinate there
+  pub few-along : (p : Canister → ℕ) (l : List Canister) → All (λ c. p c ≤ span s) l → Pairs (λ c e. Differ (spacing s) (p c) (p e)) l → length l ≤ span s / spacing s + 1
+  few-along p l i r =
+      few-cells (λ c. p c ≤ span s) (λ c e. Differ (spacing s) (p c) (p e)) (λ c. p c / spacing s) (span s / spacing s + 1) l
+      (λ c k. within-along (p c) k) (λ c e j k h. differ-div (p c) (p e) h) i r
 
-  cell-lt : (c : Canister) → Inside s c → cell c < 16
+  pub few-crossing : (p : Canister → ℕ) (l : List Canister) → All (λ c. p c ≤ span s) l → Pairs (λ c e. Differ (spacing s) (p c) (p e)) l → length l ≤ 4
+  few-crossing p l i r = omega (arith, M .dense, few-along p l i r)
+
+  cell : Canister → ℕ
+  cell c = c .a / spacing s * (span s / spacing s + 1) + c .b / spacing s
+
+  cell-lt : (c : Canister) → Inside s c → cell c < (span s / spacing s + 1) * (span s / spacing s + 1)
   unfolding cell
-  cell-lt c i = omega (arith, within-div (c .a) (i .in-a), within-div (c .b) (i .in-b))
+  cell-lt c i = digits-lt (within-along (c .a) (i .in-a)) (within-along (c .b) (i .in-b))
 
   cell-apart : (c e : Canister) → Inside s c → Inside s e → Apart (spacing s) c e → cell c ≢ cell e
   unfolding cell
-  cell-apart c e i j (inl h) = omega (arith, differ-div (c .a) (e .a) h, within-div (c .b) (i .in-b), within-div (e .b) (j .in-b))
-  cell-apart c e i j (inr h) = omega (arith, differ-div (c .b) (e .b) h, within-div (c .b) (i .in-b), within-div (e .b) (j .in-b))
+  cell-apart c e i j (inl h) q =
+      differ-div (c .a) (e .a) h
+      (sym (digits-div (c .a / spacing s) (within-along (c .b) (i .in-b))) ∙ ap (λ x. x / (span s / spacing s + 1)) q ∙ digits-div (e .a / spacing s) (within-along (e .b) (j .in-b)))
+  cell-apart c e i j (inr h) q =
+      differ-div (c .b) (e .b) h
+      (sym (digits-mod (c .a / spacing s) (within-along (c .b) (i .in-b))) ∙ ap (λ x. x % (span s / spacing s + 1)) q ∙ digits-mod (e .a / spacing s) (within-along (e .b) (j .in-b)))
+
+  -- "and the product of the two bounds the tile"
+  pub few-product : (l : List Canister) → All (Inside s) l → Pairs (Apart (spacing s)) l → length l ≤ (span s / spacing s + 1) * (span s / spacing s + 1)
+  few-product l i p = few-cells (Inside s) (Apart (spacing s)) cell ((span s / spacing s + 1) * (span s / spacing s + 1)) l cell-lt cell-apart i p
 
   pub few-members : (l : List Canister) → All (Inside s) l → Pairs (Apart (spacing s)) l → length l ≤ 16
-  few-members l i p = few-cells (Inside s) (Apart (spacing s)) cell 16 l cell-lt cell-apart i p
-
-  -- along one axis, p being the canister's coordinate there
-  pub few-crossing : (p : Canister → ℕ) (l : List Canister) → All (λ c. p c ≤ span s) l → Pairs (λ c e. Differ (spacing s) (p c) (p e)) l → length l ≤ 4
-  few-crossing p l i r =
-      few-cells (λ c. p c ≤ span s) (λ c e. Differ (spacing s) (p c) (p e)) (λ c. p c / spacing s) 4 l
-      (λ c k. omega (arith, within-div (p c) k)) (λ c e j k h. differ-div (p c) (p e) h) i r
+  few-members l i p = omega (arith, few-product l i p, square (span s / spacing s) (M .dense))
 
   -- a full tile has no place for another
   pub full-refused : (l : List Canister) (c : Canister) → All (Inside s) l → Pairs (Apart (spacing s)) l → length l ≡ 16 → Inside s c → allOf (apart (spacing s) c) l ≡ false

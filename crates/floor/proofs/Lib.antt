@@ -28,4 +28,8 @@ pub mod Clearing
 pub mod Calls
 pub mod Lists
 pub mod Theorem
+pub mod Numbering
+pub mod Calling
 pub mod Trials
+pub mod Cases
+pub mod CasesRound

@@ -7,6 +7,7 @@ use Prim.Native.Nat.{ℕ, _+_, _≤_, _<_}
 use native.Mathlib.Omega.{arith}
 use borrow.Author.Tests.{ne-eqb, le-ltb, lt-ltb}
 use lib.ListN.{length, take, drop}
+use lib.Seq.{take-append-seam}
 use Rattle.laws.specs.Define.{sum, refusal}
 use Rattle.laws.specs.Tests.{test-none}
 use Rattle.wire.specs.Bytes.{Bytes}
@@ -145,3 +146,12 @@ write-whole f buffer w h =
     let e : writeRefusal f (length buffer) ≡ 0 = write-none f (length buffer) w h in
     let z : 0 + length (encode (view f)) ≡ length (encode (view f)) = omega arith in
     (rw e, rw (e, z))
+
+-- what writing left at the front of a buffer loads as the floor that was written
+pub written-then-loads : (f : Floor) (w : wellFormed f ≡ true) (buffer : List ℕ) → length (encode (view f)) ≤ length buffer
+    → loadAnswer (take (writeAnswer f (length buffer) .length) (written f buffer)) ≡ record { refusal = 0; floor = f }
+unfolding writeAnswer written
+written-then-loads f w buffer h =
+    let e : writeRefusal f (length buffer) ≡ 0 = write-none f (length buffer) w h in
+    let front : take (length (encode (view f))) (encode (view f) ++ drop (length (encode (view f))) buffer) ≡ encode (view f) = take-append-seam (encode (view f)) (drop (length (encode (view f))) buffer) in
+    rw (e, front) (written-loads f w)

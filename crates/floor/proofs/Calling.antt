@@ -1,0 +1,142 @@
+-- The calls by their answers, and what of an answer is compared: for the tables of Trials and Cases. What is read begins with the answer's refusal number.
+use mathlib.Core.Bool.{Bool, true, false, cond, _&&_}
+use mathlib.Core.List.{List, [], _∷_, _++_, map}
+use Prim.Native.Nat.{ℕ, zero, suc, _-_, _*_, _^_}
+use lib.Dec.{eqb}
+use lib.ListN.{getD, take, replicate}
+use Rattle.laws.specs.Define.{tab, cat, allOf, anyOf, pairsOf, allBelow, keep, firstOf, sum, bit, refusal}
+use Rattle.floor.specs.declared.Canister.{Canister}
+use Rattle.floor.specs.declared.Settings.{Settings}
+use Rattle.floor.specs.declared.Counters.{Counters}
+use Rattle.floor.specs.declared.Tile.{Tile}
+use Rattle.floor.specs.declared.Floor.{Floor}
+use Rattle.floor.specs.declared.Answer.{Answer}
+use Rattle.floor.specs.declared.Reading.{Reading}
+use Rattle.floor.specs.Sides.{opposite, after, following, chosen}
+use Rattle.floor.specs.Settings.{isHopper, settingsTests, settingsRefusal, settingsPass}
+use Rattle.floor.specs.Grid.{neighbour}
+use Rattle.floor.specs.Model.{numbersOn}
+use Rattle.floor.specs.Memory.{zeroFloor, stateOf, view, head, places, rows, build, pack, isZeroCanister, isZeroTile, headFits, tileFits, tilesFit, fits}
+use Rattle.floor.specs.Well.{hopperSound, runningSound, stoppedSound, faces, headSound, inside, apart, inOrder, membersSound, tileSound, numbersSound, countersSound, sound, wellFormed}
+use Rattle.floor.specs.Route.{nearer, nearest, onward, headingOf, routeTile, route}
+use Rattle.floor.specs.Signal.{requests, clear, hasGap, signalWith, signalBy, signalTile, shownOf, signalOf, signal}
+use Rattle.floor.specs.Move.{wayOf, crosses, shift, land, staying, leaving, insert, insertEach, membersNext, arrivals, moveTile, deliveredBy, move}
+use Rattle.floor.specs.Calls.{refusalOf, answer, freshTile, freshFloor, freshAnswer, bookTests, booked, bookAnswer, stopTests, stopped, stopAnswer, repairTests, repaired, repairAnswer, afterRound, delivered, reportOf, zeroReport, roundAnswer, readTests, readAnswer}
+use Rattle.floor.specs.Bound.{crossing, bound}
+
+-- ---- the calls: the floor of an accepted answer; a refused one counts as the all-zero floor, on which every reading is 30
+unfoldable pub got : Answer → Floor
+got r = cond (eqb (r .refusal) 0) (r .floor) zeroFloor
+
+-- "U 100, l 30, r 10", travel v, "every tile but the hopper a fill tile"
+unfoldable pub settings : ℕ → ℕ → ℕ → ℕ → Settings
+settings W H hopper v = record { columns = W; rows = H; hopper = hopper; sources = 2 ^ (W * H) - 1 - 2 ^ hopper; width = 100; length = 30; gap = 10; travel = v }
+
+unfoldable pub fresh : ℕ → ℕ → ℕ → Floor
+fresh W H hopper = got (freshAnswer (settings W H hopper 20))
+
+unfoldable pub can : ℕ → ℕ → ℕ → Canister
+can number a b = record { number = number; a = a; b = b }
+
+-- canister number n at (a, b) on tile t
+unfoldable pub book : ℕ → ℕ → ℕ → ℕ → Floor → Floor
+book n a b t f = got (bookAnswer f t (can n a b))
+
+unfoldable pub stop : ℕ → Floor → Floor
+stop t f = got (stopAnswer f t)
+
+unfoldable pub repair : ℕ → Floor → Floor
+repair t f = got (repairAnswer f t)
+
+-- n rounds
+unfoldable pub rounds : ℕ → Floor → Floor
+rounds zero f = f
+rounds (suc n) f = let r = roundAnswer f in let g = cond (eqb (r .refusal) 0) (r .floor) zeroFloor in rounds n g
+
+-- ---- what is compared
+unfoldable pub flat : List Canister → List ℕ
+flat [] = []
+flat (c ∷ l) = c .number ∷ c .a ∷ c .b ∷ flat l
+
+-- number, a and b of each canister on tile t
+unfoldable pub on : ℕ → Floor → List ℕ
+on t f = let r = readAnswer f t in r .refusal ∷ flat (take (r .tile .count) (r .members))
+
+-- all that tile t has: running, distance, arrow, turn; number, a and b of each canister
+unfoldable pub tile : ℕ → Floor → List ℕ
+tile t f = let r = readAnswer f t in r .refusal ∷ r .tile .running ∷ r .tile .distance ∷ r .tile .next .code ∷ r .tile .token .code ∷ flat (take (r .tile .count) (r .members))
+
+-- the distances of the tiles below n, after the total of the refusals
+unfoldable pub distances : ℕ → Floor → List ℕ
+distances n f = let l = tab n (readAnswer f) in sum (map (λ r. r .refusal) l) ∷ map (λ r. r .tile .distance) l
+
+unfoldable pub next : ℕ → Floor → List ℕ
+next t f = let r = readAnswer f t in r .refusal ∷ r .tile .next .code ∷ []
+
+unfoldable pub turn : ℕ → Floor → List ℕ
+turn t f = let r = readAnswer f t in r .refusal ∷ r .tile .token .code ∷ []
+
+-- what the next round reports: the numbers delivered; the grant of tile t
+unfoldable pub reported : Floor → List ℕ
+reported f = let r = roundAnswer f in r .refusal ∷ take (r .report .count) (r .report .delivered)
+
+unfoldable pub grant : ℕ → Floor → List ℕ
+grant t f = let r = roundAnswer f in r .refusal ∷ getD (r .report .grants) t 0 ∷ []
+
+-- last, booked and delivered
+unfoldable pub counts : Counters → List ℕ
+counts c = c .last ∷ c .booked ∷ c .delivered ∷ []
+
+-- those of a floor, after the refusal of reading it
+unfoldable pub counted : Floor → List ℕ
+counted f = readAnswer f 0 .refusal ∷ counts (f .counters)
+
+-- whether two lists of numbers are equal
+unfoldable pub same : List ℕ → List ℕ → Bool
+same [] [] = true
+same [] (y ∷ ys) = false
+same (x ∷ xs) [] = false
+same (x ∷ xs) (y ∷ ys) = eqb x y && same xs ys
+
+-- ---- whole floors, field by field
+unfoldable pub setUp : Settings → List ℕ
+setUp s = s .columns ∷ s .rows ∷ s .hopper ∷ s .sources ∷ s .width ∷ s .length ∷ s .gap ∷ s .travel ∷ []
+
+unfoldable pub heads : List Tile → List ℕ
+heads [] = []
+heads (h ∷ l) = h .running ∷ h .distance ∷ h .next .code ∷ h .token .code ∷ h .count ∷ heads l
+
+unfoldable pub sameFloor : Floor → Floor → Bool
+sameFloor f g =
+    same (setUp (f .settings)) (setUp (g .settings)) && (same (counts (f .counters)) (counts (g .counters))
+    && (same (heads (f .tiles)) (heads (g .tiles)) && same (flat (f .canisters)) (flat (g .canisters))))
+
+-- the refusal, then 1 where the answer's floor is f
+unfoldable pub refused : Answer → Floor → List ℕ
+refused r f = r .refusal ∷ cond (sameFloor (r .floor) f) 1 0 ∷ []
+
+-- likewise of a round on f, then 1 where its report is zeros
+unfoldable pub refusedRound : Floor → List ℕ
+refusedRound f =
+    let r = roundAnswer f in
+    r .refusal ∷ cond (sameFloor (r .floor) f) 1 0 ∷ cond (same (r .report .count ∷ r .report .delivered ++ r .report .grants) (replicate 69 0)) 1 0 ∷ []
+
+-- of a reading: the refusal, then 1 where the tile and its sixteen places are zeros
+unfoldable pub refusedReading : Reading → List ℕ
+refusedReading r = r .refusal ∷ cond (same (heads (r .tile ∷ []) ++ flat (r .members)) (replicate 53 0)) 1 0 ∷ []
+
+-- ---- a table: each row is what the answers give, then what is due
+abbrev pub Table : Type 0
+Table = List (List ℕ × List ℕ)
+
+unfoldable pub holds : Table → Bool
+unfolding got settings fresh can book stop repair rounds flat on tile distances next turn reported grant counts counted same setUp heads sameFloor refused refusedRound refusedReading
+    tab cat allOf anyOf pairsOf allBelow keep firstOf sum bit refusal
+    opposite after following chosen isHopper settingsTests settingsRefusal settingsPass neighbour numbersOn
+    zeroFloor stateOf view head places rows build pack isZeroCanister isZeroTile headFits tileFits tilesFit fits
+    hopperSound runningSound stoppedSound faces headSound inside apart inOrder membersSound tileSound numbersSound countersSound sound wellFormed
+    nearer nearest onward headingOf routeTile route requests clear hasGap signalWith signalBy signalTile shownOf signalOf signal
+    wayOf crosses shift land staying leaving insert insertEach membersNext arrivals moveTile deliveredBy move
+    refusalOf answer freshTile freshFloor freshAnswer bookTests booked bookAnswer stopTests stopped stopAnswer repairTests repaired repairAnswer
+    afterRound delivered reportOf zeroReport roundAnswer readTests readAnswer crossing bound
+holds table = allOf (λ r. same (r .0) (r .1)) table
