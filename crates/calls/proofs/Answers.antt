@@ -1,0 +1,63 @@
+-- A refused answer and an accepted one, as the definitions give them.
+use mathlib.Core.Path.{_≡_, sym, _∙_}
+use mathlib.Core.Logic.{_≢_}
+use mathlib.Core.Bool.{Bool, true, false}
+use mathlib.Core.List.{List}
+use Prim.Native.Nat.{ℕ}
+use lib.ListN.{getD}
+use borrow.Author.Tests.{eq-eqb, ne-eqb}
+use Rattle.laws.specs.Define.{tab, refusal}
+use Rattle.floor.specs.declared.Canister.{Canister}
+use Rattle.floor.specs.declared.Settings.{Settings}
+use Rattle.floor.specs.declared.Tile.{Tile}
+use Rattle.floor.specs.declared.Floor.{Floor}
+use Rattle.floor.specs.declared.Answer.{Answer}
+use Rattle.floor.specs.declared.Reading.{Reading}
+use Rattle.floor.specs.Settings.{settingsRefusal, settingsPass}
+use Rattle.floor.specs.Model.{Model, tileOf, membersOf}
+use Rattle.floor.specs.Memory.{zeroCanister, zeroFloor, view, head, pack}
+use Rattle.floor.specs.Well.{wellFormed}
+use Rattle.floor.specs.Calls.{refusalOf, answer, freshFloor, freshAnswer, readTests, readAnswer}
+use Rattle.calls.specs.Refused.{unreadWith}
+
+-- ---- the number of a call that takes a floor
+pub malformed : (f : Floor) (tests : List (Bool × ℕ)) → wellFormed f ≡ false → refusalOf f tests ≡ 30
+unfolding refusalOf refusal
+malformed f tests w = rw w
+
+pub formed : (f : Floor) (tests : List (Bool × ℕ)) (n : ℕ) → wellFormed f ≡ true → n ≡ refusal tests → refusalOf f tests ≡ n
+unfolding refusalOf refusal
+formed f tests n w e = rw w (sym e)
+
+-- ---- book, stop, repair
+pub answer-refused : (f : Floor) (tests : List (Bool × ℕ)) (m : Model) (n : ℕ) → refusalOf f tests ≡ n → n ≢ 0 → _≡_ {A = Answer} (record { refusal = n; floor = f }) (answer f tests m)
+unfolding answer
+answer-refused f tests m n e z = rw (e, ne-eqb n 0 z)
+
+pub answer-accepted : (f g : Floor) (tests : List (Bool × ℕ)) (m : Model) → refusalOf f tests ≡ 0 → g ≡ pack m → _≡_ {A = Answer} (record { refusal = 0; floor = g }) (answer f tests m)
+unfolding answer
+answer-accepted f g tests m e p = rw (e, p)
+
+-- ---- fresh
+pub fresh-refused : (s : Settings) (z : Floor) (n : ℕ) → n ≡ settingsRefusal s → n ≢ 0 → z ≡ zeroFloor → _≡_ {A = Answer} (record { refusal = n; floor = z }) (freshAnswer s)
+unfolding freshAnswer
+fresh-refused s z n e p q = rw (sym e, ne-eqb n 0 p, q)
+
+pub fresh-accepted : (s : Settings) (g : Floor) → settingsRefusal s ≡ 0 → g ≡ pack (freshFloor s) → _≡_ {A = Answer} (record { refusal = 0; floor = g }) (freshAnswer s)
+unfolding freshAnswer
+fresh-accepted s g e p = rw (e, p)
+
+pub fresh-pass : (s : Settings) (n : ℕ) → n ≡ settingsRefusal s → n ≡ 0 → settingsPass s ≡ true
+unfolding settingsPass
+fresh-pass s n e z = eq-eqb _ 0 (sym e ∙ z)
+
+-- ---- reading
+pub read-refused : (f : Floor) (t n : ℕ) (r : Reading) → refusalOf f (readTests (view f) t) ≡ n → n ≢ 0 → r ≡ unreadWith n → r ≡ readAnswer f t
+unfolding readAnswer unreadWith
+read-refused f t n r e z q = rw (e, ne-eqb n 0 z) q
+
+pub read-accepted : (f : Floor) (t : ℕ) (h : Tile) (items : List Canister) → refusalOf f (readTests (view f) t) ≡ 0
+    → h ≡ head (tileOf (view f) t) → items ≡ tab 16 (λ k. getD (membersOf (view f) t) k zeroCanister)
+    → _≡_ {A = Reading} (record { refusal = 0; tile = h; members = items }) (readAnswer f t)
+unfolding readAnswer
+read-accepted f t h items e p q = rw (e, p, q)

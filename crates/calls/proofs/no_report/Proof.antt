@@ -1,0 +1,14 @@
+use mathlib.Core.Path.{refl}
+use Rattle.floor.specs.Calls.{zeroReport}
+use Rattle.calls.proofs.no_report.Statement.{statement}
+use Rattle.calls.proofs.no_report.Tie as tie
+use Rattle.calls.proofs.no_report.Reads as reads
+use Rattle.calls.proofs.no_report.Lts as lts
+
+-- src/lib.rt:169:1
+returns : tie.Need-returns
+unfolding zeroReport
+returns c = refl
+
+pub no-report-spec : {M : Type 1} → statement M
+no-report-spec = tie.close (tie.spec returns)

@@ -1,0 +1,65 @@
+use mathlib.Core.Path.{sym, _∙_}
+use native.Mathlib.Omega.{arith}
+use borrow.Author.Tests.{not-true, not-false}
+use Rattle.floor.specs.Model.{tileOf, withTile}
+use Rattle.floor.specs.Memory.{view}
+use Rattle.floor.specs.Calls.{repairAnswer, repairTests, repaired}
+use Rattle.calls.proofs.Answers.{malformed, formed, answer-refused, answer-accepted}
+use borrow.Author.Needs.{needs}
+use Rattle.calls.proofs.repair.Statement.{statement}
+use Rattle.calls.proofs.repair.Tie as tie
+use Rattle.calls.proofs.repair.Reads as reads
+use Rattle.calls.proofs.repair.Lts as lts
+use Rattle.changes.proofs.repair_refusal.Reads as repair-refusal-reads
+use Rattle.changes.proofs.repaired_floor.Reads as repaired-floor-reads
+use Rattle.soundness.proofs.well_formed.Reads as well-formed-reads
+
+-- src/lib.rt:99:9
+well-formed-requires : tie.Need-well-formed-requires
+well-formed-requires c κs = search needs
+
+-- src/lib.rt:101:9
+returns : tie.Need-returns
+unfolding repairAnswer
+returns c = let g = c .before .before .args in
+    let w = sym (c .before .well-formed .ensures) ∙ not-true _ (c .if1 .taken) in
+    answer-refused g.floor (repairTests (view g.floor) g.tile) (withTile (view g.floor) g.tile (repaired (tileOf (view g.floor) g.tile))) 30 (malformed g.floor (repairTests (view g.floor) g.tile) w) (omega arith)
+
+-- src/lib.rt:106:9
+repair-refusal-requires : tie.Need-repair-refusal-requires
+repair-refusal-requires c κs = sym (c .before .well-formed .ensures) ∙ not-false _ (c .if1 .left)
+
+-- src/lib.rt:108:9
+returns-2 : tie.Need-returns-2
+unfolding repairAnswer
+returns-2 c = let g = c .before .before .before .before .args in
+    let w = sym (c .before .before .before .well-formed .ensures) ∙ not-false _ (c .before .before .if1 .left) in
+    let n = c .before .repair-refusal in
+    answer-refused g.floor (repairTests (view g.floor) g.tile) (withTile (view g.floor) g.tile (repaired (tileOf (view g.floor) g.tile))) (n .result) (formed g.floor (repairTests (view g.floor) g.tile) (n .result) w (n .ensures)) (c .if2 .taken)
+
+-- src/lib.rt:113:9
+repaired-floor-requires : tie.Need-repaired-floor-requires
+repaired-floor-requires c κs = let g = c .before .before .before .before .args in
+    let w = sym (c .before .before .before .well-formed .ensures) ∙ not-false _ (c .before .before .if1 .left) in
+    let n = c .before .repair-refusal in
+    (w, sym (n .ensures) ∙ c .if2 .left)
+
+-- src/lib.rt:96:1
+returns-3 : tie.Need-returns-3
+unfolding repairAnswer
+returns-3 c = let g = c .before .before .before .before .before .args in
+    let w = sym (c .before .before .before .before .well-formed .ensures) ∙ not-false _ (c .before .before .before .if1 .left) in
+    let n = c .before .before .repair-refusal in
+    let a = c .repaired-floor in
+    answer-accepted g.floor (a .result) (repairTests (view g.floor) g.tile) (withTile (view g.floor) g.tile (repaired (tileOf (view g.floor) g.tile))) (formed g.floor (repairTests (view g.floor) g.tile) (n .result) w (n .ensures) ∙ c .before .if2 .left) (a .ensures)
+
+pub repair-spec : {M : Type 1} → statement M
+repair-spec =
+    tie.close
+    (tie.spec
+    well-formed-requires
+    returns
+    repair-refusal-requires
+    returns-2
+    repaired-floor-requires
+    returns-3)

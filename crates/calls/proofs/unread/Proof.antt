@@ -1,0 +1,14 @@
+use mathlib.Core.Path.{refl}
+use Rattle.calls.specs.Refused.{unreadWith}
+use Rattle.calls.proofs.unread.Statement.{statement}
+use Rattle.calls.proofs.unread.Tie as tie
+use Rattle.calls.proofs.unread.Reads as reads
+use Rattle.calls.proofs.unread.Lts as lts
+
+-- src/lib.rt:121:1
+returns : tie.Need-returns
+unfolding unreadWith
+returns c = refl
+
+pub unread-spec : {M : Type 1} → statement M
+unread-spec = tie.close (tie.spec returns)

@@ -1,0 +1,209 @@
+// The calls on a floor. Each takes any bytes, and its contract determines the whole answer on all of them.
+ghost use mathlib.Core.Path.{_≡_};
+ghost use Rattle.floor.specs.Calls.{freshAnswer, bookAnswer, stopAnswer, repairAnswer, readAnswer, zeroReport, roundAnswer};
+ghost use Rattle.calls.specs.Refused.{unreadWith};
+use changes::book_refusal;
+use changes::booked_floor;
+use changes::fresh_floor;
+use changes::read_refusal;
+use changes::repair_refusal;
+use changes::repaired_floor;
+use changes::stop_refusal;
+use changes::stopped_floor;
+use changes::tile_head;
+use changes::tile_members;
+use changes::zero_floor;
+use floor::Answer;
+use floor::Canister;
+use floor::Floor;
+use floor::Reading;
+use floor::Report;
+use floor::Rounded;
+use floor::Settings;
+use floor::Side;
+use floor::Tile;
+use motion::move_floor;
+use settings::settings_refusal;
+use signal::route_and_signal;
+use soundness::well_formed;
+
+// A fresh floor; refused, the all-zero floor.
+pub fn fresh(settings: Settings) -> Answer
+    ensures { λ r. ⌜ r ≡ freshAnswer settings ⌝ }
+{
+    let n = settings_refusal(settings);
+    if n != 0 {
+        let none = zero_floor();
+        return Answer {
+            refusal: n,
+            floor: none,
+        };
+    }
+    let made = fresh_floor(settings);
+    Answer {
+        refusal: 0,
+        floor: made,
+    }
+}
+
+// Books a canister on a fill tile.
+pub fn book(floor: Floor, tile: u32, canister: Canister) -> Answer
+    ensures { λ r. ⌜ r ≡ bookAnswer floor tile canister ⌝ }
+{
+    let well = well_formed(floor);
+    if !well {
+        return Answer {
+            refusal: 30,
+            floor: floor,
+        };
+    }
+    let n = book_refusal(floor, tile, canister);
+    if n != 0 {
+        return Answer {
+            refusal: n,
+            floor: floor,
+        };
+    }
+    let booked = booked_floor(floor, tile, canister);
+    Answer {
+        refusal: 0,
+        floor: booked,
+    }
+}
+
+// Stops a running tile. Its canisters stay on it.
+pub fn stop(floor: Floor, tile: u32) -> Answer
+    ensures { λ r. ⌜ r ≡ stopAnswer floor tile ⌝ }
+{
+    let well = well_formed(floor);
+    if !well {
+        return Answer {
+            refusal: 30,
+            floor: floor,
+        };
+    }
+    let n = stop_refusal(floor, tile);
+    if n != 0 {
+        return Answer {
+            refusal: n,
+            floor: floor,
+        };
+    }
+    let stopped = stopped_floor(floor, tile);
+    Answer {
+        refusal: 0,
+        floor: stopped,
+    }
+}
+
+// Sets a stopped tile running again.
+pub fn repair(floor: Floor, tile: u32) -> Answer
+    ensures { λ r. ⌜ r ≡ repairAnswer floor tile ⌝ }
+{
+    let well = well_formed(floor);
+    if !well {
+        return Answer {
+            refusal: 30,
+            floor: floor,
+        };
+    }
+    let n = repair_refusal(floor, tile);
+    if n != 0 {
+        return Answer {
+            refusal: n,
+            floor: floor,
+        };
+    }
+    let repaired = repaired_floor(floor, tile);
+    Answer {
+        refusal: 0,
+        floor: repaired,
+    }
+}
+
+// A refused reading: zeros.
+fn unread(n: u8) -> Reading
+    ensures { λ r. ⌜ r ≡ unreadWith n ⌝ }
+{
+    let none = Side::NONE;
+    let canister = Canister {
+        number: 0,
+        a: 0,
+        b: 0,
+    };
+    Reading {
+        refusal: n,
+        tile: Tile {
+            running: 0,
+            distance: 0,
+            next: none,
+            token: none,
+            count: 0,
+        },
+        members: [canister; 16],
+    }
+}
+
+// Reads a tile with its canisters.
+pub fn read(floor: Floor, tile: u32) -> Reading
+    ensures { λ r. ⌜ r ≡ readAnswer floor tile ⌝ }
+{
+    let well = well_formed(floor);
+    if !well {
+        return unread(30);
+    }
+    let n = read_refusal(floor, tile);
+    if n != 0 {
+        return unread(n);
+    }
+    let head = tile_head(floor, tile);
+    let members = tile_members(floor, tile);
+    Reading {
+        refusal: 0,
+        tile: head,
+        members: members,
+    }
+}
+
+// A report of zeros.
+fn no_report() -> Report
+    ensures { λ r. ⌜ r ≡ zeroReport ⌝ }
+{
+    Report {
+        grants: [0; 64],
+        count: 0,
+        delivered: [0; 4],
+    }
+}
+
+// One round: Route and Signal, then Move.
+pub fn round(floor: Floor) -> Rounded
+    ensures { λ r. ⌜ r ≡ roundAnswer floor ⌝ }
+{
+    let well = well_formed(floor);
+    if !well {
+        let report = no_report();
+        return Rounded {
+            refusal: 30,
+            floor: floor,
+            report: report,
+        };
+    }
+    let signalled = route_and_signal(floor);
+    let ready = signalled.floor;
+    let grants = signalled.grants;
+    let moved = move_floor(ready, grants);
+    let after = moved.floor;
+    let count = moved.count;
+    let delivered = moved.delivered;
+    let report = Report {
+        grants: grants,
+        count: count,
+        delivered: delivered,
+    };
+    Rounded {
+        refusal: 0,
+        floor: after,
+        report: report,
+    }
+}

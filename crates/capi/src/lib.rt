@@ -1,0 +1,68 @@
+// The calls for C and Rust. Each export ensures what the call that it wraps ensures, and takes any bytes.
+ghost use mathlib.Core.Path.{_≡_};
+ghost use lib.ListN.{length};
+ghost use Rattle.floor.specs.Calls.{freshAnswer, bookAnswer, stopAnswer, repairAnswer, roundAnswer, readAnswer};
+ghost use Rattle.image.specs.Image.{loadAnswer, writeAnswer, written};
+use floor::Answer;
+use floor::Canister;
+use floor::Floor;
+use floor::Reading;
+use floor::Rounded;
+use floor::Settings;
+use image::Written;
+
+#[no_mangle]
+pub extern "C" fn ceromby_fresh(settings: Settings) -> Answer
+    ensures { λ r. ⌜ r ≡ freshAnswer settings ⌝ }
+{
+    calls::fresh(settings)
+}
+
+#[no_mangle]
+pub extern "C" fn ceromby_book(floor: Floor, tile: u32, canister: Canister) -> Answer
+    ensures { λ r. ⌜ r ≡ bookAnswer floor tile canister ⌝ }
+{
+    calls::book(floor, tile, canister)
+}
+
+#[no_mangle]
+pub extern "C" fn ceromby_stop(floor: Floor, tile: u32) -> Answer
+    ensures { λ r. ⌜ r ≡ stopAnswer floor tile ⌝ }
+{
+    calls::stop(floor, tile)
+}
+
+#[no_mangle]
+pub extern "C" fn ceromby_repair(floor: Floor, tile: u32) -> Answer
+    ensures { λ r. ⌜ r ≡ repairAnswer floor tile ⌝ }
+{
+    calls::repair(floor, tile)
+}
+
+#[no_mangle]
+pub extern "C" fn ceromby_round(floor: Floor) -> Rounded
+    ensures { λ r. ⌜ r ≡ roundAnswer floor ⌝ }
+{
+    calls::round(floor)
+}
+
+#[no_mangle]
+pub extern "C" fn ceromby_read(floor: Floor, tile: u32) -> Reading
+    ensures { λ r. ⌜ r ≡ readAnswer floor tile ⌝ }
+{
+    calls::read(floor, tile)
+}
+
+#[no_mangle]
+pub extern "C" fn ceromby_load(bytes: &[u8]) -> Answer
+    ensures { λ r. ⌜ r ≡ loadAnswer (now (bytes .entry)) ⌝ }
+{
+    images::load(bytes)
+}
+
+#[no_mangle]
+pub extern "C" fn ceromby_write(floor: Floor, buffer: &mut [u8]) -> Written
+    ensures { λ r. ⌜ (r ≡ writeAnswer floor (length (now (buffer .entry)))) × (now (buffer .exit) ≡ written floor (now (buffer .entry))) ⌝ }
+{
+    images::write(floor, buffer)
+}

@@ -1,0 +1,175 @@
+-- The code's arrays and records, read as a floor's value and packed.
+use mathlib.Core.Path.{_≡_, refl, sym, ap, _∙_}
+use mathlib.Core.Logic.{_≢_}
+use mathlib.Core.Bool.{true}
+use mathlib.Core.List.{List}
+use Prim.Native.Nat.{ℕ, zero, suc, _+_, _*_, _/_, _%_, _≤_, _<_}
+use native.Mathlib.Omega.{arith}
+use native.Mathlib.Decide.{ℕ-discrete}
+use lib.ListN.{length, getD, set, take, replicate, length-replicate, length-set, getD-replicate}
+use lib.Seq.{getD-set-same, getD-set-other}
+use borrow.Author.Tests.{eq-eqb, ne-eqb}
+use Rattle.laws.specs.Define.{tab}
+use Rattle.laws.specs.Tables.{tab-length, tab-at, Upto, From}
+use Rattle.floor.specs.declared.Canister.{Canister}
+use Rattle.floor.specs.declared.Settings.{Settings}
+use Rattle.floor.specs.declared.Counters.{Counters}
+use Rattle.floor.specs.declared.Tile.{Tile}
+use Rattle.floor.specs.declared.Floor.{Floor}
+use Rattle.floor.specs.declared.Members.{Members}
+use Rattle.floor.specs.Settings.{total, isHopper, settingsPass}
+use Rattle.floor.specs.Model.{TileState, noTile, tileOf, membersOf, withTile, withMembers}
+use Rattle.floor.specs.Memory.{zeroTile, zeroCanister, zeroFloor, headOf, stateOf, view, unused, head, pack}
+use Rattle.floor.specs.Well.{wellFormed}
+use Rattle.floor.specs.Move.{insert}
+use Rattle.floor.specs.Calls.{freshTile, freshFloor, booked, stopped, repaired}
+use Rattle.floor.proofs.Well.{settings-fact}
+use Rattle.floor.proofs.Rows.{view-at}
+use Rattle.floor.proofs.Pack.{shown, place-shown, pack-put, pack-head, pack-tab, well-sound, well-fits, well-few, well-head}
+use Rattle.floor.proofs.Capacity.{sound-small}
+use Rattle.members.specs.Held.{Places, Holds}
+use Rattle.members.proofs.Laws.{holds-list}
+use Rattle.changes.specs.Places.{Put}
+
+-- ---- the loop that writes sixteen places
+pub put-none : (t : ℕ) (items all : List Canister) → length all ≡ 1024 → Put t 0 items all all
+put-none t items all e = (e, (λ i h q k. absurd (omega arith), λ i h q. refl))
+
+pub put-turn : (t k : ℕ) (items all out : List Canister) → t < 64 → k < 16 → Put t k items all out
+    → Put t (k + 1) items all (set out (16 * t + k) (getD items k zeroCanister))
+put-turn t k items all out ht hk p = (length-set out (16 * t + k) (getD items k zeroCanister) ∙ p .0, (own, others))
+  where
+    own : (i : ℕ) → i < 1024 → i / 16 ≡ t → i % 16 < k + 1 → getD (set out (16 * t + k) (getD items k zeroCanister)) i zeroCanister ≡ getD items (i % 16) zeroCanister
+    own i h q l = go (ℕ-discrete i (16 * t + k))
+      where
+        go : Dec (i ≡ 16 * t + k) → getD (set out (16 * t + k) (getD items k zeroCanister)) i zeroCanister ≡ getD items (i % 16) zeroCanister
+        go (yes e) =
+            let r : k ≡ i % 16 = omega arith in
+            ap (λ (j : ℕ). getD (set out (16 * t + k) (getD items k zeroCanister)) j zeroCanister) e
+            ∙ getD-set-same out (16 * t + k) (getD items k zeroCanister) zeroCanister (omega (arith, p .0)) ∙ ap (λ (j : ℕ). getD items j zeroCanister) r
+        go (no e) = getD-set-other out (16 * t + k) i (getD items k zeroCanister) zeroCanister e ∙ p .1 .0 i h q (omega arith)
+
+    others : (i : ℕ) → i < 1024 → i / 16 ≢ t → getD (set out (16 * t + k) (getD items k zeroCanister)) i zeroCanister ≡ getD all i zeroCanister
+    others i h q = getD-set-other out (16 * t + k) i (getD items k zeroCanister) zeroCanister (λ e. absurd (omega arith)) ∙ p .1 .1 i h q
+
+-- ---- a tile of a well-formed floor
+module _ (f : Floor) (t : ℕ) (w : wellFormed f ≡ true) (on : t < total (f .settings)) where
+  pub below-64 : t < 64
+  below-64 = omega (arith, well-few f w)
+
+  pub head-view : headOf f t ≡ head (tileOf (view f) t)
+  head-view = sym (well-head f t w on) ∙ ap head (sym (view-at f t noTile on))
+
+  pub place-view : (k : ℕ) → k < 16 → getD (f .canisters) (16 * t + k) zeroCanister ≡ getD (membersOf (view f) t) k zeroCanister
+  place-view k h =
+      let q : (16 * t + k) / 16 ≡ t = omega arith in
+      let r : (16 * t + k) % 16 ≡ k = omega arith in
+      let e : shown f t ≡ tileOf (view f) t = tab-at (total (f .settings)) (stateOf f) t unused on ∙ sym (view-at f t noTile on) in
+      place-shown f (well-few f w) (well-fits f w) (16 * t + k) (omega (arith, below-64)) ∙ ap (λ (j : ℕ). getD (shown f j .members) ((16 * t + k) % 16) zeroCanister) q
+      ∙ ap (λ (j : ℕ). getD (shown f t .members) j zeroCanister) r ∙ ap (λ (x : TileState). getD (x .members) k zeroCanister) e
+
+  pub few-view : length (membersOf (view f) t) ≤ 16
+  few-view = sound-small (view f) (well-sound f w) t
+
+  pub count-view : (h : Tile) → h ≡ head (tileOf (view f) t) → h .count ≤ 16
+  unfolding head
+  count-view h e = omega (arith, ap (λ (x : Tile). x .count) e, few-view)
+
+  -- a tile's head and its sixteen places, as the code has them
+  pub own-holds : (h : Tile) (items : List Canister) → h ≡ head (tileOf (view f) t) → items ≡ tab 16 (λ k. getD (membersOf (view f) t) k zeroCanister)
+      → Holds (record { count = h .count; items = items }) (membersOf (view f) t)
+  unfolding head
+  own-holds h items e q = (ap (λ (x : Tile). x .count) e, λ i k. ap (λ (l : List Canister). getD l i zeroCanister) q ∙ tab-at 16 (λ k. getD (membersOf (view f) t) k zeroCanister) i zeroCanister k)
+
+  pub own-list : (h : Tile) (items : List Canister) → h ≡ head (tileOf (view f) t) → items ≡ tab 16 (λ k. getD (membersOf (view f) t) k zeroCanister)
+      → take (h .count) items ≡ membersOf (view f) t
+  own-list h items e q =
+      holds-list (record { count = h .count; items = items }) (membersOf (view f) t)
+      (ap length q ∙ tab-length 16 (λ k. getD (membersOf (view f) t) k zeroCanister)) few-view (own-holds h items e q)
+
+  pub own-places : (h : Tile) (items : List Canister) → h ≡ head (tileOf (view f) t) → items ≡ tab 16 (λ k. getD (membersOf (view f) t) k zeroCanister)
+      → Places (take (h .count) items) items
+  own-places h items e q = rw (own-list h items e q) (own-holds h items e q .1)
+
+  -- ---- one tile anew
+  pub stopped-pack : (h : Tile) → h ≡ head (tileOf (view f) t)
+      → _≡_ {A = Floor} (record { settings = f .settings; counters = f .counters; tiles = set (f .tiles) t (record { running = 0; distance = 255; next = record { code = 0 }; token = record { code = 0 }; count = h .count }); canisters = f .canisters })
+      (pack (withTile (view f) t (stopped (tileOf (view f) t))))
+  unfolding stopped head
+  stopped-pack h e =
+      ap (λ (n : ℕ). put (record { running = 0; distance = 255; next = record { code = 0 }; token = record { code = 0 }; count = n })) (ap (λ (x : Tile). x .count) e)
+      ∙ pack-head f (well-few f w) (well-fits f w) t (stopped (tileOf (view f) t)) on (ap (λ (x : TileState). x .members) (view-at f t noTile on))
+    where
+      put : Tile → Floor
+      put x = record { settings = f .settings; counters = f .counters; tiles = set (f .tiles) t x; canisters = f .canisters }
+
+  pub repaired-pack : (h : Tile) → h ≡ head (tileOf (view f) t)
+      → _≡_ {A = Floor} (record { settings = f .settings; counters = f .counters; tiles = set (f .tiles) t (record { running = 1; distance = h .distance; next = h .next; token = h .token; count = h .count }); canisters = f .canisters })
+      (pack (withTile (view f) t (repaired (tileOf (view f) t))))
+  unfolding repaired head
+  repaired-pack h e =
+      ap (λ (x : Tile). put (record { running = 1; distance = x .distance; next = x .next; token = x .token; count = x .count })) e
+      ∙ pack-head f (well-few f w) (well-fits f w) t (repaired (tileOf (view f) t)) on (ap (λ (x : TileState). x .members) (view-at f t noTile on))
+    where
+      put : Tile → Floor
+      put x = record { settings = f .settings; counters = f .counters; tiles = set (f .tiles) t x; canisters = f .canisters }
+
+  pub booked-pack : (c : Canister) (h : Tile) (more : Members) (cs : List Canister)
+      → h ≡ head (tileOf (view f) t) → Holds more (insert c (membersOf (view f) t)) → Put t 16 (more .items) (f .canisters) cs
+      → _≡_ {A = Floor} (record {
+        settings = f .settings;
+        counters = record { last = c .number; booked = f .counters .booked + 1; delivered = f .counters .delivered };
+        tiles = set (f .tiles) t (record { running = h .running; distance = h .distance; next = h .next; token = h .token; count = more .count });
+        canisters = cs;
+      })
+      (pack (booked (view f) t c))
+  unfolding booked head view
+  booked-pack c h more cs e p q =
+      ap (λ (x : Tile). put (record { running = x .running; distance = x .distance; next = x .next; token = x .token; count = more .count })) e
+      ∙ ap (λ (n : ℕ). put (record { running = old .running; distance = old .distance; next = record { code = old .next }; token = record { code = old .token }; count = n })) (p .0)
+      ∙ pack-put f (well-few f w) (well-fits f w) anew t (withMembers old (insert c (old .members))) cs on (q .0)
+      (λ i k j. q .1 .0 i k j (omega arith) ∙ p .1 (i % 16) (omega arith)) (q .1 .1)
+    where
+      old : TileState
+      old = tileOf (view f) t
+
+      anew : Counters
+      anew = record { last = c .number; booked = f .counters .booked + 1; delivered = f .counters .delivered }
+
+      put : Tile → Floor
+      put x = record { settings = f .settings; counters = anew; tiles = set (f .tiles) t x; canisters = cs }
+
+-- ---- a fresh floor
+pub fresh-hopper : (s : Settings) (t : ℕ) → t ≡ s .hopper
+    → _≡_ {A = Tile} (record { running = 1; distance = 0; next = record { code = 0 }; token = record { code = 0 }; count = 0 }) (head (freshTile s t))
+unfolding head freshTile isHopper
+fresh-hopper s t e = rw (eq-eqb t (s .hopper) e)
+
+pub fresh-other : (s : Settings) (t : ℕ) → t ≢ s .hopper
+    → _≡_ {A = Tile} (record { running = 1; distance = 255; next = record { code = 0 }; token = record { code = 0 }; count = 0 }) (head (freshTile s t))
+unfolding head freshTile isHopper
+fresh-other s t e = rw (ne-eqb t (s .hopper) e)
+
+pub zero-tiles : (z : Floor) → z ≡ zeroFloor → (i : ℕ) → getD (z .tiles) i zeroTile ≡ zeroTile
+unfolding zeroFloor
+zero-tiles z e i = ap (λ (x : Floor). getD (x .tiles) i zeroTile) e ∙ same 64 i
+  where
+    same : (n i : ℕ) → getD (replicate n zeroTile) i zeroTile ≡ zeroTile
+    same zero i = refl
+    same (suc n) zero = refl
+    same (suc n) (suc i) = same n i
+
+pub fresh-few : (s : Settings) → settingsPass s ≡ true → total s ≤ 64
+fresh-few s p = settings-fact s .0 p .few
+
+pub fresh-pack : (s : Settings) (z : Floor) (ts : List Tile) → z ≡ zeroFloor → length ts ≡ 64
+    → Upto (total s) (λ t. head (freshTile s t)) zeroTile ts → From (total s) (λ t. zeroTile) zeroTile ts
+    → _≡_ {A = Floor} (record { settings = s; counters = z .counters; tiles = ts; canisters = z .canisters }) (pack (freshFloor s))
+unfolding freshFloor freshTile zeroFloor
+fresh-pack s z ts e l up off =
+    ap (λ (x : Floor). record { settings = s; counters = x .counters; tiles = ts; canisters = x .canisters }) e
+    ∙ pack-tab s (record { last = 0; booked = 0; delivered = 0 }) (freshTile s) ts (replicate 1024 zeroCanister) l (length-replicate 1024 zeroCanister)
+    (λ t _ k. up t k) (λ t _ k. off t k) (λ i k _. none i k) (λ i k _. none i k)
+  where
+    none : (i : ℕ) → i < 1024 → getD (replicate 1024 zeroCanister) i zeroCanister ≡ zeroCanister
+    none i k = getD-replicate 1024 i zeroCanister zeroCanister k

@@ -1,0 +1,28 @@
+use Prim.Native.Nat.{_<_, _≤_}
+use Rattle.changes.proofs.Tests.{read-4, read-0}
+use borrow.Author.Needs.{needs}
+use Rattle.changes.proofs.read_refusal.Statement.{statement}
+use Rattle.changes.proofs.read_refusal.Tie as tie
+use Rattle.changes.proofs.read_refusal.Reads as reads
+use Rattle.changes.proofs.read_refusal.Lts as lts
+use Rattle.settings.proofs.tiles_of.Reads as tiles-of-reads
+
+-- src/lib.rt:314:9
+tiles-of-requires : tie.Need-tiles-of-requires
+tiles-of-requires c κs = search needs
+
+-- src/lib.rt:316:9
+returns : tie.Need-returns
+returns c = let g = c .before .before .before .args in
+    let off : _ ≤ g.tile = c .if1 .taken in
+    read-4 g.floor g.tile (rw (c .before .tiles-of .ensures) at off)
+
+-- src/lib.rt:309:1
+returns-2 : tie.Need-returns-2
+returns-2 c = let g = c .before .before .before .args in
+    let on0 : g.tile < _ = c .if1 .left in
+    let on = rw (c .before .tiles-of .ensures) at on0 in
+    read-0 g.floor g.tile on
+
+pub read-refusal-spec : {M : Type 1} → statement M
+read-refusal-spec = tie.close (tie.spec tiles-of-requires returns returns-2)
