@@ -1,6 +1,7 @@
 //! Fresh floor, booking, stop, repair and reading.
 
 use crate::check::{settings_refusal, well_formed};
+use crate::faults::{self, Fault};
 use crate::refusal;
 use crate::types::{
     Answer, Canister, Counters, Floor, Reading, Settings, Tile, NONE, NO_SIDE, PLACES,
@@ -50,6 +51,8 @@ fn checked_source(floor: &Floor, tile: u32, canister: &Canister) -> Result<usize
         Err(refusal::NUMBER_ZERO)
     } else if canister.a > span || canister.b > span {
         Err(refusal::OUTSIDE)
+    } else if faults::on(Fault::NumberBeforeStopped) && canister.number <= floor.counters.last {
+        Err(refusal::NUMBER_USED)
     } else if floor.tiles[tile].running == 0 {
         Err(refusal::STOPPED)
     } else if canister.number <= floor.counters.last {
@@ -62,7 +65,7 @@ fn checked_source(floor: &Floor, tile: u32, canister: &Canister) -> Result<usize
 }
 
 fn has_room(floor: &Floor, tile: usize, canister: &Canister) -> bool {
-    let spacing = floor.settings.spacing();
+    let spacing = floor.settings.spacing() + u32::from(faults::on(Fault::BookTooStrict));
     floor
         .members(tile)
         .iter()
@@ -74,6 +77,10 @@ fn checked_tile(floor: &Floor, tile: u32) -> Result<usize, u8> {
     if !well_formed(floor) {
         return Err(refusal::MALFORMED);
     }
+    let tile = match faults::on(Fault::TileCut) {
+        true => tile & 255,
+        false => tile,
+    };
     usize::try_from(tile)
         .ok()
         .filter(|tile| *tile < floor.settings.tile_count())
@@ -91,6 +98,10 @@ pub fn stop(floor: &Floor, tile: u32) -> Answer {
                 token: NO_SIDE,
                 count: floor.tiles[tile].count,
             };
+            if faults::on(Fault::StopClears) {
+                after.tiles[tile].count = 0;
+                after.canisters[tile * PLACES..][..PLACES].fill(Canister::ZERO);
+            }
             Answer::accepted(after)
         }
         Err(refusal) => Answer::refused(refusal, floor),

@@ -1,5 +1,6 @@
 //! The rules for settings, and "well formed" on raw memory.
 
+use crate::faults::{self, Fault};
 use crate::grid::{Grid, Side, Spot};
 use crate::refusal;
 use crate::types::{Canister, Floor, Settings, Tile, MAX_TILES, NONE, NO_SIDE, PLACES};
@@ -8,6 +9,8 @@ use crate::types::{Canister, Floor, Settings, Tile, MAX_TILES, NONE, NO_SIDE, PL
 pub fn settings_refusal(settings: &Settings) -> u8 {
     if !grid_fits(settings) {
         refusal::GRID
+    } else if faults::on(Fault::MeasureBeforeSets) && !measures_fit(settings) {
+        refusal::MEASURE
     } else if !sets_fit(settings) {
         refusal::SETS
     } else if !measures_fit(settings) {
@@ -67,7 +70,9 @@ fn tile_fits(floor: &Floor, spot: Spot) -> bool {
             _ => false,
         }
     };
-    state_fits && side_fits(grid, spot, tile.next) && side_fits(grid, spot, tile.token)
+    state_fits
+        && side_fits(grid, spot, tile.next)
+        && (side_fits(grid, spot, tile.token) || faults::on(Fault::TurnUnchecked))
 }
 
 fn running_tile_fits(tile: &Tile, tiles: usize) -> bool {
@@ -93,10 +98,10 @@ fn members_fit(floor: &Floor, tile: usize) -> bool {
     let (used, unused) = floor.places(tile).split_at(count);
     let span = floor.settings.span();
     used.iter()
-        .all(|c| c.number != 0 && c.a <= span && c.b <= span)
+        .all(|c| (c.number != 0 || faults::on(Fault::ZeroHeld)) && c.a <= span && c.b <= span)
         && used.windows(2).all(|pair| pair[0].number < pair[1].number)
         && spaced(used, floor.settings.spacing())
-        && unused.iter().all(|c| *c == Canister::ZERO)
+        && (unused.iter().all(|c| *c == Canister::ZERO) || faults::on(Fault::UnusedUnchecked))
 }
 
 fn spaced(members: &[Canister], spacing: u32) -> bool {
@@ -128,8 +133,12 @@ fn numbers_and_counters_fit(floor: &Floor) -> bool {
     let numbers = &mut numbers[..held];
     numbers.sort_unstable();
     let counters = &floor.counters;
-    numbers.windows(2).all(|pair| pair[0] != pair[1])
+    let total = match faults::on(Fault::SumWraps) {
+        true => u64::from(counters.delivered.wrapping_add(held as u32)),
+        false => u64::from(counters.delivered) + held as u64,
+    };
+    (numbers.windows(2).all(|pair| pair[0] != pair[1]) || faults::on(Fault::RepeatAccepted))
         && numbers.last().is_none_or(|most| *most <= counters.last)
-        && u64::from(counters.booked) == u64::from(counters.delivered) + held as u64
-        && counters.booked <= counters.last
+        && u64::from(counters.booked) == total
+        && (counters.booked <= counters.last || faults::on(Fault::BookedAboveLast))
 }

@@ -3,6 +3,7 @@
 use core::mem::take;
 
 use crate::check::{settings_refusal, well_formed};
+use crate::faults::{self, Fault};
 use crate::refusal;
 use crate::types::{Answer, Canister, Counters, Floor, Settings, Tile, WriteAnswer, PLACES};
 
@@ -25,9 +26,12 @@ pub fn write(floor: &Floor, buffer: &mut [u8]) -> WriteAnswer {
         return refused_write(refusal::MALFORMED);
     }
     let length = image_length(floor);
-    match buffer.get_mut(..length) {
+    match buffer.get_mut(..length + usize::from(faults::on(Fault::ExactBuffer))) {
         Some(target) => {
             Writer { rest: target }.floor(floor);
+            if faults::on(Fault::TailTouched) {
+                buffer[length..].fill(0);
+            }
             WriteAnswer {
                 refusal: refusal::ACCEPTED,
                 length: length as u32,
@@ -117,6 +121,7 @@ pub fn load(bytes: &[u8]) -> Answer {
     let mut floor = Floor::ZERO;
     match load_into(&mut floor, bytes) {
         Ok(()) => Answer::accepted(floor),
+        Err(refusal) if faults::on(Fault::PartialLoad) => Answer::refused(refusal, &floor),
         Err(refusal) => Answer::refused(refusal, &Floor::ZERO),
     }
 }
@@ -129,6 +134,9 @@ fn load_into(floor: &mut Floor, bytes: &[u8]) -> Result<(), u8> {
         tile_from(floor, tile, records.due(TILE)?)?;
     }
     demand(records.due(END)?.is_empty(), refusal::RECORD_SHAPE)?;
+    if faults::on(Fault::LeftoverLast) {
+        demand(well_formed(floor), refusal::IMAGE_MALFORMED)?;
+    }
     demand(records.rest.is_empty(), refusal::IMAGE_ENDS)?;
     demand(well_formed(floor), refusal::IMAGE_MALFORMED)
 }
@@ -155,8 +163,16 @@ impl<'a> Records<'a> {
     /// The body of the next record, which must be whole and of the kind due.
     fn due(&mut self, kind: u16) -> Result<&'a [u8], u8> {
         let head = self.bytes(HEAD)?;
+        let fits = u16_at(head, 2) == kind;
+        if faults::on(Fault::KindBeforeEnd) {
+            demand(fits, refusal::OTHER_KIND)?;
+        }
         let body = self.bytes(usize::from(u16_at(head, 0)))?;
-        demand(u16_at(head, 2) == kind, refusal::OTHER_KIND)?;
+        let other = match faults::on(Fault::KindAsShape) {
+            true => refusal::RECORD_SHAPE,
+            false => refusal::OTHER_KIND,
+        };
+        demand(fits, other)?;
         Ok(body)
     }
 }
@@ -199,6 +215,9 @@ fn tile_from(floor: &mut Floor, tile: usize, body: &[u8]) -> Result<(), u8> {
         usize::from(fields[0]) == tile && count <= PLACES && body.len() == tile_body(count),
         refusal::RECORD_SHAPE,
     )?;
+    if faults::on(Fault::RunningEarly) {
+        demand(fields[1] <= 1, refusal::IMAGE_MALFORMED)?;
+    }
     floor.tiles[tile] = Tile {
         running: fields[1],
         distance: fields[2],

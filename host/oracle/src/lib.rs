@@ -7,6 +7,10 @@
 
 mod calls;
 mod check;
+#[cfg(feature = "faults")]
+pub mod faults;
+#[cfg(not(feature = "faults"))]
+mod faults;
 mod grid;
 mod image;
 pub mod random;

@@ -1,6 +1,7 @@
 //! One round: route, signal, move.
 
 use crate::check::well_formed;
+use crate::faults::{self, Fault};
 use crate::grid::{Grid, Side, Spot};
 use crate::refusal;
 use crate::types::{
@@ -32,7 +33,11 @@ fn route(floor: &Floor) -> [Tile; MAX_TILES] {
     let mut tiles = floor.tiles;
     for spot in grid.spots() {
         if spot.tile != hopper && floor.tiles[spot.tile].running == 1 {
-            let (distance, next) = way(floor, grid, spot);
+            let old = match faults::on(Fault::RouteInPlace) {
+                true => &tiles,
+                false => &floor.tiles,
+            };
+            let (distance, next) = way(old, grid, spot, floor.settings.tile_count());
             tiles[spot.tile].distance = distance;
             tiles[spot.tile].next = next;
         }
@@ -41,19 +46,21 @@ fn route(floor: &Floor) -> [Tile; MAX_TILES] {
 }
 
 /// The distance and arrow that a tile's neighbours give it.
-fn way(floor: &Floor, grid: Grid, spot: Spot) -> (u8, u8) {
+fn way(old: &[Tile; MAX_TILES], grid: Grid, spot: Spot, tiles: usize) -> (u8, u8) {
     let mut least = NONE;
     let mut next = NO_SIDE;
     for side in Side::ALL {
         if let Some(there) = grid.neighbour(spot, side) {
-            let distance = floor.tiles[there].distance;
-            if distance < least {
+            let distance = old[there].distance;
+            let tie = distance == least && distance != NONE;
+            if distance < least || tie && faults::on(Fault::LaterSide) {
                 least = distance;
                 next = side.code();
             }
         }
     }
-    if usize::from(least) + 1 < floor.settings.tile_count() {
+    let uncut = least < NONE - 1 && faults::on(Fault::NoCut);
+    if usize::from(least) + 1 < tiles || uncut {
         (least + 1, next)
     } else {
         (NONE, NO_SIDE)
@@ -66,11 +73,17 @@ fn signal(floor: &Floor, tiles: &mut [Tile; MAX_TILES]) -> [u8; MAX_TILES] {
     let mut grants = [NO_SIDE; MAX_TILES];
     for spot in grid.spots() {
         if tiles[spot.tile].running == 1 {
-            let wants = wanting_sides(grid, tiles, spot);
+            let arrows = match faults::on(Fault::OldArrow) {
+                true => &floor.tiles,
+                false => &*tiles,
+            };
+            let wants = wanting_sides(grid, arrows, spot);
             let (turn, grant) = decide(wants, tiles[spot.tile].token, |side| {
                 has_gap(&floor.settings, floor.members(spot.tile), side)
             });
-            tiles[spot.tile].token = turn;
+            let dropped = faults::on(Fault::HopperTurnDropped)
+                && spot.tile == usize::from(floor.settings.hopper);
+            tiles[spot.tile].token = if dropped { NO_SIDE } else { turn };
             grants[spot.tile] = grant;
         }
     }
@@ -89,12 +102,21 @@ fn wanting_sides(grid: Grid, tiles: &[Tile; MAX_TILES], spot: Spot) -> [bool; 4]
 /// The turn to keep and the side to grant.
 fn decide(wants: [bool; 4], turn: u8, gap: impl Fn(Side) -> bool) -> (u8, u8) {
     let held = Side::from_code(turn).filter(|side| wants[usize::from(side.code()) - 1]);
-    let Some(turn) = held.or_else(|| first_after(wants, turn)) else {
+    let stored = turn;
+    let start = match faults::on(Fault::TurnFromWest) {
+        true => NO_SIDE,
+        false => turn,
+    };
+    let Some(turn) = held.or_else(|| first_after(wants, start)) else {
         return (NO_SIDE, NO_SIDE);
     };
     if gap(turn) {
-        let following = first_after(wants, turn.code()).unwrap_or(turn);
+        let following = first_after(wants, turn.code())
+            .filter(|_| !faults::on(Fault::TurnNotPassed))
+            .unwrap_or(turn);
         (following.code(), turn.code())
+    } else if faults::on(Fault::StoredTurnStays) {
+        (stored, NO_SIDE)
     } else {
         (turn.code(), NO_SIDE)
     }
@@ -112,7 +134,7 @@ fn first_after(wants: [bool; 4], turn: u8) -> Option<Side> {
 
 /// Whether a strip of depth d is free along a side.
 fn has_gap(settings: &Settings, members: &[Canister], side: Side) -> bool {
-    let spacing = settings.spacing();
+    let spacing = settings.spacing() - u32::from(faults::on(Fault::GapShort));
     let width = u32::from(settings.width);
     let need = u32::from(settings.length) + spacing;
     members.iter().all(|canister| {
@@ -197,6 +219,7 @@ fn advance(settings: &Settings, canister: Canister, side: Side) -> (Canister, bo
 
 fn forward(settings: &Settings, along: u16) -> (u16, bool) {
     match along.checked_add(settings.travel) {
+        Some(moved) if moved == settings.span() && faults::on(Fault::CrossAtTouch) => (0, true),
         Some(moved) if moved <= settings.span() => (moved, false),
         _ => (0, true),
     }
@@ -205,7 +228,10 @@ fn forward(settings: &Settings, along: u16) -> (u16, bool) {
 fn backward(settings: &Settings, along: u16) -> (u16, bool) {
     match along.checked_sub(settings.travel) {
         Some(moved) => (moved, false),
-        None => (settings.span(), true),
+        None => (
+            settings.span() - u16::from(faults::on(Fault::LandingShort)),
+            true,
+        ),
     }
 }
 
@@ -213,5 +239,5 @@ fn backward(settings: &Settings, along: u16) -> (u16, bool) {
 fn deliver(floor: &mut Floor, report: &mut Report, number: u32) {
     report.delivered[usize::from(report.count)] = number;
     report.count += 1;
-    floor.counters.delivered += 1;
+    floor.counters.delivered += 1 + u32::from(faults::on(Fault::DeliveredTwice));
 }

@@ -1,5 +1,6 @@
 //! Memory shape of the floor and the answers of the calls.
 
+use crate::faults::{self, Fault};
 use crate::refusal;
 
 /// Most tiles a floor can have.
@@ -164,7 +165,10 @@ impl Settings {
 
     /// d, the least spacing.
     pub fn spacing(&self) -> u32 {
-        u32::from(self.length) + u32::from(self.gap)
+        match faults::on(Fault::SpacingWraps) {
+            true => u32::from(self.length.wrapping_add(self.gap)),
+            false => u32::from(self.length) + u32::from(self.gap),
+        }
     }
 
     /// U - l, the greatest coordinate of a canister; 0 for bad measures.

@@ -1,0 +1,133 @@
+//! The floors to measure on, in both shapes.
+
+use oracle::random::Rng;
+use oracle::{Canister, Counters, Floor, Settings, PLACES};
+
+pub struct Pair {
+    pub name: &'static str,
+    pub theirs: Floor,
+    pub ours: ceromby::Floor,
+    /// A running fill tile, and the place to book there.
+    pub tile: u32,
+    pub place: (u16, u16),
+}
+
+fn settings(columns: u8, rows: u8, hopper: u8) -> Settings {
+    let tiles = u32::from(columns) * u32::from(rows);
+    Settings {
+        columns,
+        rows,
+        hopper,
+        sources: (u64::MAX >> (64 - tiles)) & !(1 << hopper),
+        width: 1_000,
+        length: 200,
+        gap: 50,
+        travel: 150,
+    }
+}
+
+/// As many rising numbers as asked, one by one or spread over 32 bits.
+fn numbers(rng: &mut Rng, count: usize, near: bool) -> Vec<u32> {
+    if near {
+        let first = 5_000_000;
+        return (first..first + count as u32).collect();
+    }
+    let step = (u64::from(u32::MAX) - 1) / count as u64;
+    (0..count as u64)
+        .map(|at| (at * step + rng.below(step) + 1) as u32)
+        .collect()
+}
+
+/// A settled floor with the given count on each tile but the hopper.
+fn filled(settings: Settings, count: usize, near: bool) -> Floor {
+    let mut rng = Rng::new(7);
+    let mut floor = oracle::fresh(settings).floor;
+    for _ in 0..settings.tile_count() {
+        floor = oracle::round(&floor).floor;
+    }
+    let hopper = usize::from(settings.hopper);
+    let tiles: Vec<usize> = (0..settings.tile_count())
+        .filter(|tile| *tile != hopper)
+        .collect();
+    let held = tiles.len() * count;
+    let mut numbers = numbers(&mut rng, held, near);
+    let last = numbers.last().copied().unwrap_or(0);
+    for end in (1..numbers.len()).rev() {
+        numbers.swap(end, rng.below(end as u64 + 1) as usize);
+    }
+    for tile in tiles {
+        let mut mine: Vec<u32> = numbers.drain(..count).collect();
+        mine.sort_unstable();
+        for (at, number) in mine.into_iter().enumerate() {
+            floor.canisters[tile * PLACES + at] = Canister {
+                number,
+                a: (at % 4) as u16 * 250 + 20,
+                b: (at / 4) as u16 * 250 + 20,
+            };
+        }
+        floor.tiles[tile].count = count as u8;
+    }
+    floor.counters = Counters {
+        last,
+        booked: held as u32,
+        delivered: 0,
+    };
+    assert!(oracle::well_formed(&floor));
+    floor
+}
+
+fn ours(floor: &Floor) -> ceromby::Floor {
+    let s = &floor.settings;
+    let c = &floor.counters;
+    ceromby::Floor {
+        settings: ceromby::Settings {
+            columns: s.columns,
+            rows: s.rows,
+            hopper: s.hopper,
+            sources: s.sources,
+            width: s.width,
+            length: s.length,
+            gap: s.gap,
+            travel: s.travel,
+        },
+        counters: ceromby::Counters {
+            last: c.last,
+            booked: c.booked,
+            delivered: c.delivered,
+        },
+        tiles: floor.tiles.map(|tile| ceromby::Tile {
+            running: tile.running,
+            distance: tile.distance,
+            next: ceromby::Side { code: tile.next },
+            token: ceromby::Side { code: tile.token },
+            count: tile.count,
+        }),
+        canisters: floor.canisters.map(|canister| ceromby::Canister {
+            number: canister.number,
+            a: canister.a,
+            b: canister.b,
+        }),
+    }
+}
+
+pub fn both_shapes() -> Vec<Pair> {
+    let small = settings(4, 4, 10);
+    let large = settings(8, 8, 27);
+    let floors = [
+        ("4 x 4 fresh", oracle::fresh(small).floor),
+        ("4 x 4 busy, near", filled(small, 6, true)),
+        ("4 x 4 busy, spread", filled(small, 6, false)),
+        ("8 x 8 full, near", filled(large, 16, true)),
+        ("8 x 8 full, spread", filled(large, 16, false)),
+    ];
+    floors
+        .into_iter()
+        .map(|(name, theirs)| Pair {
+            name,
+            ours: ours(&theirs),
+            theirs,
+            tile: 4,
+            place: (770, 770),
+        })
+        .collect()
+}

@@ -1,0 +1,72 @@
+//! Safe binding to the canister floor's static library. Every call refuses
+//! bad input by itself, so nothing is tested here.
+
+mod types;
+
+pub use types::{
+    Answer, Canister, Counters, Floor, Reading, Report, Rounded, Settings, Side, Tile, Written,
+    LONGEST_IMAGE, MAX_TILES, NONE, PLACES,
+};
+
+mod raw {
+    use crate::types::{Answer, Canister, Floor, Reading, Rounded, Settings, Written};
+
+    extern "C" {
+        pub fn ceromby_fresh(settings: Settings) -> Answer;
+        pub fn ceromby_book(floor: Floor, tile: u32, canister: Canister) -> Answer;
+        pub fn ceromby_stop(floor: Floor, tile: u32) -> Answer;
+        pub fn ceromby_repair(floor: Floor, tile: u32) -> Answer;
+        pub fn ceromby_round(floor: Floor) -> Rounded;
+        pub fn ceromby_read(floor: Floor, tile: u32) -> Reading;
+        pub fn ceromby_load(bytes: *const u8, length: usize) -> Answer;
+        pub fn ceromby_write(floor: Floor, buffer: *mut u8, length: usize) -> Written;
+    }
+}
+
+/// A floor without canisters.
+pub fn fresh(settings: Settings) -> Answer {
+    // SAFETY: plain values in and out.
+    unsafe { raw::ceromby_fresh(settings) }
+}
+
+/// Adds a canister to a tile.
+pub fn book(floor: &Floor, tile: u32, canister: Canister) -> Answer {
+    // SAFETY: plain values in and out.
+    unsafe { raw::ceromby_book(*floor, tile, canister) }
+}
+
+/// Stops a tile.
+pub fn stop(floor: &Floor, tile: u32) -> Answer {
+    // SAFETY: plain values in and out.
+    unsafe { raw::ceromby_stop(*floor, tile) }
+}
+
+/// Sets a stopped tile running.
+pub fn repair(floor: &Floor, tile: u32) -> Answer {
+    // SAFETY: plain values in and out.
+    unsafe { raw::ceromby_repair(*floor, tile) }
+}
+
+/// One round.
+pub fn round(floor: &Floor) -> Rounded {
+    // SAFETY: plain values in and out.
+    unsafe { raw::ceromby_round(*floor) }
+}
+
+/// All that a tile has.
+pub fn read(floor: &Floor, tile: u32) -> Reading {
+    // SAFETY: plain values in and out.
+    unsafe { raw::ceromby_read(*floor, tile) }
+}
+
+/// The floor of an image.
+pub fn load(bytes: &[u8]) -> Answer {
+    // SAFETY: the pointer and length are those of a slice that outlives the call.
+    unsafe { raw::ceromby_load(bytes.as_ptr(), bytes.len()) }
+}
+
+/// Writes an image and leaves the bytes after it.
+pub fn write(floor: &Floor, buffer: &mut [u8]) -> Written {
+    // SAFETY: as in `load`; the borrow is exclusive.
+    unsafe { raw::ceromby_write(*floor, buffer.as_mut_ptr(), buffer.len()) }
+}

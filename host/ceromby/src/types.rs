@@ -1,0 +1,116 @@
+//! The structs of include/ceromby.h.
+
+/// Most tiles a floor can have.
+pub const MAX_TILES: usize = 64;
+/// Canister places of one tile.
+pub const PLACES: usize = 16;
+/// The distance "none".
+pub const NONE: u8 = 255;
+/// Bytes of the longest image.
+pub const LONGEST_IMAGE: usize = 8_748;
+
+#[repr(C)]
+#[derive(Clone, Copy, PartialEq, Eq, Debug)]
+pub struct Canister {
+    pub number: u32,
+    pub a: u16,
+    pub b: u16,
+}
+
+/// 0 none, 1 west, 2 south, 3 north, 4 east.
+#[repr(C)]
+#[derive(Clone, Copy, PartialEq, Eq, Debug)]
+pub struct Side {
+    pub code: u8,
+}
+
+#[repr(C)]
+#[derive(Clone, Copy, PartialEq, Eq, Debug)]
+pub struct Tile {
+    /// 1 running, 0 stopped.
+    pub running: u8,
+    pub distance: u8,
+    /// The arrow.
+    pub next: Side,
+    /// The turn.
+    pub token: Side,
+    pub count: u8,
+}
+
+#[repr(C)]
+#[derive(Clone, Copy, PartialEq, Eq, Debug)]
+pub struct Settings {
+    /// W.
+    pub columns: u8,
+    /// H.
+    pub rows: u8,
+    pub hopper: u8,
+    /// The fill set.
+    pub sources: u64,
+    /// U, side of a tile.
+    pub width: u16,
+    /// l, side of a canister.
+    pub length: u16,
+    /// r, least gap.
+    pub gap: u16,
+    /// v, travel in a round.
+    pub travel: u16,
+}
+
+#[repr(C)]
+#[derive(Clone, Copy, PartialEq, Eq, Debug)]
+pub struct Counters {
+    pub last: u32,
+    pub booked: u32,
+    pub delivered: u32,
+}
+
+/// Canisters of tile t are at places 16 t up to 16 t + count.
+#[repr(C)]
+#[derive(Clone, Copy, PartialEq, Eq, Debug)]
+pub struct Floor {
+    pub settings: Settings,
+    pub counters: Counters,
+    pub tiles: [Tile; MAX_TILES],
+    pub canisters: [Canister; MAX_TILES * PLACES],
+}
+
+#[repr(C)]
+#[derive(Clone, Copy, PartialEq, Eq, Debug)]
+pub struct Report {
+    /// The side each tile granted, 0 for none.
+    pub grants: [u8; MAX_TILES],
+    pub count: u8,
+    pub delivered: [u32; 4],
+}
+
+#[repr(C)]
+#[derive(Clone, Copy, PartialEq, Eq, Debug)]
+pub struct Answer {
+    /// 0 for accepted.
+    pub refusal: u8,
+    pub floor: Floor,
+}
+
+#[repr(C)]
+#[derive(Clone, Copy, PartialEq, Eq, Debug)]
+pub struct Rounded {
+    pub refusal: u8,
+    pub floor: Floor,
+    pub report: Report,
+}
+
+#[repr(C)]
+#[derive(Clone, Copy, PartialEq, Eq, Debug)]
+pub struct Reading {
+    pub refusal: u8,
+    pub tile: Tile,
+    pub members: [Canister; PLACES],
+}
+
+#[repr(C)]
+#[derive(Clone, Copy, PartialEq, Eq, Debug)]
+pub struct Written {
+    pub refusal: u8,
+    pub length: u32,
+}

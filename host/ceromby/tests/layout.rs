@@ -1,0 +1,45 @@
+//! Sizes and offsets against those that the C compiler gave for the header.
+
+use std::mem::{offset_of, size_of};
+
+use ceromby::{
+    Answer, Canister, Counters, Floor, Reading, Report, Rounded, Settings, Side, Tile, Written,
+};
+
+macro_rules! layout {
+    ($($name:literal $type:ident { $($field:ident),* })*) => {{
+        let mut lines = String::new();
+        $(
+            lines += &format!("{} {}\n", $name, size_of::<$type>());
+            $(
+                let offset = offset_of!($type, $field);
+                lines += &format!("{}.{} {}\n", $name, stringify!($field), offset);
+            )*
+        )*
+        lines
+    }};
+}
+
+#[test]
+fn as_in_c() {
+    let ours = layout! {
+        "canister" Canister { number, a, b }
+        "side" Side { code }
+        "tile" Tile { running, distance, next, token, count }
+        "settings" Settings { columns, rows, hopper, sources, width, length, gap, travel }
+        "counters" Counters { last, booked, delivered }
+        "floor" Floor { settings, counters, tiles, canisters }
+        "report" Report { grants, count, delivered }
+        "answer" Answer { refusal, floor }
+        "rounded" Rounded { refusal, floor, report }
+        "reading" Reading { refusal, tile, members }
+        "written" Written { refusal, length }
+    };
+    assert_eq!(ours, include_str!("../../example/layout.txt"));
+}
+
+const _: () = assert!(size_of::<Floor>() == 8_552);
+const _: () = assert!(size_of::<Answer>() == 8_560);
+const _: () = assert!(size_of::<Rounded>() == 8_648);
+const _: () = assert!(size_of::<Reading>() == 136);
+const _: () = assert!(size_of::<Written>() == 8);

@@ -1,0 +1,297 @@
+//! The calls, made by both implementations and compared.
+
+use std::panic::{self, catch_unwind, AssertUnwindSafe};
+use std::sync::atomic::{AtomicBool, Ordering};
+
+use oracle::{Answer, Canister, Floor, Reading, Report, RoundAnswer, Settings, Tile, WriteAnswer};
+
+use crate::convert;
+
+#[derive(Clone, PartialEq, Debug)]
+pub enum Call {
+    Fresh { settings: Settings },
+    Book { tile: u32, canister: Canister },
+    Stop { tile: u32 },
+    Repair { tile: u32 },
+    Round,
+    Read { tile: u32 },
+    Write { size: usize },
+    Load { bytes: Vec<u8> },
+}
+
+pub const NAMES: [&str; 8] = [
+    "fresh", "book", "stop", "repair", "round", "read", "write", "load",
+];
+
+impl Call {
+    /// Its place among `NAMES`.
+    pub fn kind(&self) -> usize {
+        match self {
+            Call::Fresh { .. } => 0,
+            Call::Book { .. } => 1,
+            Call::Stop { .. } => 2,
+            Call::Repair { .. } => 3,
+            Call::Round => 4,
+            Call::Read { .. } => 5,
+            Call::Write { .. } => 6,
+            Call::Load { .. } => 7,
+        }
+    }
+
+    pub fn name(&self) -> &'static str {
+        NAMES[self.kind()]
+    }
+}
+
+impl From<oracle::random::Call> for Call {
+    fn from(call: oracle::random::Call) -> Call {
+        match call {
+            oracle::random::Call::Book { tile, canister } => Call::Book { tile, canister },
+            oracle::random::Call::Stop { tile } => Call::Stop { tile },
+            oracle::random::Call::Repair { tile } => Call::Repair { tile },
+            oracle::random::Call::Round => Call::Round,
+        }
+    }
+}
+
+/// All that a call gives, bytes of the buffer included.
+#[allow(clippy::large_enum_variant)]
+#[derive(PartialEq)]
+pub enum Outcome {
+    Answer(Answer),
+    Round(RoundAnswer),
+    Reading(Reading),
+    Written(WriteAnswer, Vec<u8>),
+}
+
+impl Outcome {
+    pub fn refusal(&self) -> u8 {
+        match self {
+            Outcome::Answer(answer) => answer.refusal,
+            Outcome::Round(answer) => answer.refusal,
+            Outcome::Reading(answer) => answer.refusal,
+            Outcome::Written(answer, _) => answer.refusal,
+        }
+    }
+
+    /// The floor that the next call gets.
+    pub fn floor_after(&self, call: &Call, before: &Floor) -> Floor {
+        match (self, call) {
+            (Outcome::Answer(answer), Call::Fresh { .. } | Call::Load { .. })
+                if answer.refusal != 0 =>
+            {
+                *before
+            }
+            (Outcome::Answer(answer), _) => answer.floor,
+            (Outcome::Round(answer), _) => answer.floor,
+            _ => *before,
+        }
+    }
+}
+
+/// Bytes in a buffer before it is written.
+fn blank(size: usize) -> Vec<u8> {
+    (0..size).map(|at| (at * 7 + 90) as u8).collect()
+}
+
+fn by_library(floor: &Floor, call: &Call) -> Outcome {
+    let theirs = || convert::to_floor(floor);
+    let answer = match call {
+        Call::Fresh { settings } => ceromby::fresh(convert::to_settings(settings)),
+        Call::Book { tile, canister } => {
+            ceromby::book(&theirs(), *tile, convert::to_canister(canister))
+        }
+        Call::Stop { tile } => ceromby::stop(&theirs(), *tile),
+        Call::Repair { tile } => ceromby::repair(&theirs(), *tile),
+        Call::Round => {
+            return Outcome::Round(convert::from_rounded(&ceromby::round(&theirs())));
+        }
+        Call::Read { tile } => {
+            return Outcome::Reading(convert::from_reading(&ceromby::read(&theirs(), *tile)));
+        }
+        Call::Write { size } => {
+            let mut buffer = blank(*size);
+            let answer = ceromby::write(&theirs(), &mut buffer);
+            return Outcome::Written(convert::from_written(&answer), buffer);
+        }
+        Call::Load { bytes } => ceromby::load(bytes),
+    };
+    Outcome::Answer(convert::from_answer(&answer))
+}
+
+fn by_oracle(floor: &Floor, call: &Call) -> Outcome {
+    Outcome::Answer(match call {
+        Call::Fresh { settings } => oracle::fresh(*settings),
+        Call::Book { tile, canister } => oracle::book(floor, *tile, *canister),
+        Call::Stop { tile } => oracle::stop(floor, *tile),
+        Call::Repair { tile } => oracle::repair(floor, *tile),
+        Call::Round => return Outcome::Round(oracle::round(floor)),
+        Call::Read { tile } => return Outcome::Reading(oracle::read(floor, *tile)),
+        Call::Write { size } => {
+            let mut buffer = blank(*size);
+            let answer = oracle::write(floor, &mut buffer);
+            return Outcome::Written(answer, buffer);
+        }
+        Call::Load { bytes } => oracle::load(bytes),
+    })
+}
+
+/// What went wrong.
+#[derive(Clone, Debug)]
+pub struct Trouble {
+    /// The call, or the promise that failed.
+    pub at: &'static str,
+    pub text: String,
+    /// The answers of the library and of the oracle.
+    pub refusals: Option<(u8, u8)>,
+}
+
+impl Trouble {
+    pub fn promise(at: &'static str, text: String) -> Trouble {
+        Trouble {
+            at,
+            text,
+            refusals: None,
+        }
+    }
+
+    /// Whether two troubles may be the same one. A broken promise may show
+    /// as another one in a smaller case.
+    pub fn like(&self, other: &Trouble) -> bool {
+        let promise = self.refusals.is_none();
+        self.refusals == other.refusals && (promise || self.at == other.at)
+    }
+}
+
+/// Set while the oracle works: its panics are told as trouble.
+static QUIET: AtomicBool = AtomicBool::new(false);
+
+pub fn hush_the_oracle() {
+    let usual = panic::take_hook();
+    panic::set_hook(Box::new(move |info| {
+        if !QUIET.load(Ordering::Relaxed) {
+            usual(info);
+        }
+    }));
+}
+
+/// Makes a call with both, compares all they give and sees to refusals.
+pub fn both(floor: &Floor, call: &Call) -> Result<Outcome, Trouble> {
+    let library = by_library(floor, call);
+    QUIET.store(true, Ordering::Relaxed);
+    let oracle = catch_unwind(AssertUnwindSafe(|| by_oracle(floor, call)));
+    QUIET.store(false, Ordering::Relaxed);
+    let Ok(oracle) = oracle else {
+        return Err(Trouble {
+            at: call.name(),
+            text: "the oracle panics".into(),
+            refusals: Some((library.refusal(), 255)),
+        });
+    };
+    if library != oracle {
+        return Err(Trouble {
+            at: call.name(),
+            text: describe(&library, &oracle),
+            refusals: Some((library.refusal(), oracle.refusal())),
+        });
+    }
+    if library.refusal() != 0 && !keeps_all(floor, call, &library) {
+        let text = format!("{} {} changes something", call.name(), library.refusal());
+        return Err(Trouble::promise("refusal", text));
+    }
+    if library.refusal() == 0 && !leaves_rest(floor, call, &library) {
+        let text = format!("{} gives or writes something else", call.name());
+        return Err(Trouble::promise("acceptance", text));
+    }
+    Ok(library)
+}
+
+/// A refusal gives zeros, the same floor and untouched buffers.
+fn keeps_all(floor: &Floor, call: &Call, outcome: &Outcome) -> bool {
+    match (outcome, call) {
+        (Outcome::Answer(answer), Call::Fresh { .. } | Call::Load { .. }) => {
+            answer.floor == Floor::ZERO
+        }
+        (Outcome::Answer(answer), _) => answer.floor == *floor,
+        (Outcome::Round(answer), _) => answer.floor == *floor && answer.report == Report::ZERO,
+        (Outcome::Reading(answer), _) => {
+            answer.tile == Tile::ZERO && answer.members == [Canister::ZERO; 16]
+        }
+        (Outcome::Written(answer, buffer), _) => {
+            answer.length == 0 && *buffer == blank(buffer.len())
+        }
+    }
+}
+
+/// Reading gives what the memory holds; writing leaves the bytes after the image.
+fn leaves_rest(floor: &Floor, call: &Call, outcome: &Outcome) -> bool {
+    match (outcome, call) {
+        (Outcome::Reading(answer), Call::Read { tile }) => {
+            let tile = *tile as usize;
+            tile < floor.settings.tile_count()
+                && answer.tile == floor.tiles[tile]
+                && answer.members == floor.places(tile)
+        }
+        (Outcome::Written(answer, buffer), _) => {
+            let length = answer.length as usize;
+            buffer.get(length..) == blank(buffer.len()).get(length..)
+        }
+        _ => true,
+    }
+}
+
+/// The first few fields that differ, the library's value first.
+fn describe(library: &Outcome, oracle: &Outcome) -> String {
+    let mut fields = Fields(Vec::new());
+    fields.note("answer", &library.refusal(), &oracle.refusal());
+    match (library, oracle) {
+        (Outcome::Answer(one), Outcome::Answer(other)) => fields.floor(&one.floor, &other.floor),
+        (Outcome::Round(one), Outcome::Round(other)) => {
+            fields.each("grant of tile", &one.report.grants, &other.report.grants);
+            fields.note("delivered", &one.report.count, &other.report.count);
+            fields.note("numbers", &one.report.delivered, &other.report.delivered);
+            fields.floor(&one.floor, &other.floor);
+        }
+        (Outcome::Reading(one), Outcome::Reading(other)) => {
+            fields.note("tile", &one.tile, &other.tile);
+            fields.each("member", &one.members, &other.members);
+        }
+        (Outcome::Written(one, bytes), Outcome::Written(other, others)) => {
+            fields.note("length", &one.length, &other.length);
+            fields.each("byte", bytes, others);
+        }
+        _ => {}
+    }
+    let more = fields.0.len().saturating_sub(4);
+    fields.0.truncate(4);
+    if more > 0 {
+        fields.0.push(format!("{more} more"));
+    }
+    fields.0.join("; ")
+}
+
+struct Fields(Vec<String>);
+
+impl Fields {
+    fn note<T: PartialEq + std::fmt::Debug>(&mut self, name: &str, one: &T, other: &T) {
+        if one != other {
+            self.0
+                .push(format!("{name}: library {one:?}, oracle {other:?}"));
+        }
+    }
+
+    fn each<T: PartialEq + std::fmt::Debug>(&mut self, name: &str, ones: &[T], others: &[T]) {
+        for (at, (one, other)) in ones.iter().zip(others).enumerate() {
+            if one != other {
+                self.note(&format!("{name} {at}"), one, other);
+            }
+        }
+    }
+
+    fn floor(&mut self, one: &Floor, other: &Floor) {
+        self.note("settings", &one.settings, &other.settings);
+        self.note("counters", &one.counters, &other.counters);
+        self.each("tile", &one.tiles, &other.tiles);
+        self.each("place", &one.canisters, &other.canisters);
+    }
+}

@@ -1,0 +1,127 @@
+//! Between the binding's structs and the oracle's.
+
+use oracle::{
+    Answer, Canister, Counters, Floor, Reading, Report, RoundAnswer, Settings, Tile, WriteAnswer,
+};
+
+pub fn to_settings(from: &Settings) -> ceromby::Settings {
+    ceromby::Settings {
+        columns: from.columns,
+        rows: from.rows,
+        hopper: from.hopper,
+        sources: from.sources,
+        width: from.width,
+        length: from.length,
+        gap: from.gap,
+        travel: from.travel,
+    }
+}
+
+pub fn to_canister(from: &Canister) -> ceromby::Canister {
+    ceromby::Canister {
+        number: from.number,
+        a: from.a,
+        b: from.b,
+    }
+}
+
+fn to_tile(from: Tile) -> ceromby::Tile {
+    ceromby::Tile {
+        running: from.running,
+        distance: from.distance,
+        next: ceromby::Side { code: from.next },
+        token: ceromby::Side { code: from.token },
+        count: from.count,
+    }
+}
+
+pub fn to_floor(from: &Floor) -> ceromby::Floor {
+    ceromby::Floor {
+        settings: to_settings(&from.settings),
+        counters: ceromby::Counters {
+            last: from.counters.last,
+            booked: from.counters.booked,
+            delivered: from.counters.delivered,
+        },
+        tiles: from.tiles.map(to_tile),
+        canisters: from.canisters.map(|canister| to_canister(&canister)),
+    }
+}
+
+fn from_settings(from: &ceromby::Settings) -> Settings {
+    Settings {
+        columns: from.columns,
+        rows: from.rows,
+        hopper: from.hopper,
+        sources: from.sources,
+        width: from.width,
+        length: from.length,
+        gap: from.gap,
+        travel: from.travel,
+    }
+}
+
+fn from_canister(from: ceromby::Canister) -> Canister {
+    Canister {
+        number: from.number,
+        a: from.a,
+        b: from.b,
+    }
+}
+
+fn from_tile(from: ceromby::Tile) -> Tile {
+    Tile {
+        running: from.running,
+        distance: from.distance,
+        next: from.next.code,
+        token: from.token.code,
+        count: from.count,
+    }
+}
+
+fn from_floor(from: &ceromby::Floor) -> Floor {
+    Floor {
+        settings: from_settings(&from.settings),
+        counters: Counters {
+            last: from.counters.last,
+            booked: from.counters.booked,
+            delivered: from.counters.delivered,
+        },
+        tiles: from.tiles.map(from_tile),
+        canisters: from.canisters.map(from_canister),
+    }
+}
+
+pub fn from_answer(from: &ceromby::Answer) -> Answer {
+    Answer {
+        refusal: from.refusal,
+        floor: from_floor(&from.floor),
+    }
+}
+
+pub fn from_rounded(from: &ceromby::Rounded) -> RoundAnswer {
+    RoundAnswer {
+        refusal: from.refusal,
+        floor: from_floor(&from.floor),
+        report: Report {
+            grants: from.report.grants,
+            count: from.report.count,
+            delivered: from.report.delivered,
+        },
+    }
+}
+
+pub fn from_reading(from: &ceromby::Reading) -> Reading {
+    Reading {
+        refusal: from.refusal,
+        tile: from_tile(from.tile),
+        members: from.members.map(from_canister),
+    }
+}
+
+pub fn from_written(from: &ceromby::Written) -> WriteAnswer {
+    WriteAnswer {
+        refusal: from.refusal,
+        length: from.length,
+    }
+}

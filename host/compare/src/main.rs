@@ -1,0 +1,158 @@
+//! Long random runs of the library against the second implementation.
+
+mod call;
+mod convert;
+#[cfg(feature = "faults")]
+mod faults;
+mod images;
+mod makers;
+mod promise;
+mod runs;
+mod show;
+mod shrink;
+mod tally;
+
+use std::process::ExitCode;
+use std::time::Instant;
+
+use oracle::random::{self, Rng};
+
+use runs::Failure;
+use tally::Tally;
+
+const USAGE: &str = "compare [--seed N] [--calls N] [--images N] [--faults | --fault NAME]";
+
+#[derive(Clone, Copy)]
+struct Plan {
+    seed: u64,
+    calls: u64,
+    images: u64,
+}
+
+/// A failure with the kind of run that met it.
+struct Found {
+    kind: &'static str,
+    failure: Box<Failure>,
+}
+
+/// Cycles of all four kinds until both numbers are reached.
+fn run(plan: Plan, tally: &mut Tally) -> Result<(), Found> {
+    for cycle in 0.. {
+        let more_calls = tally.calls < plan.calls;
+        let more_images = tally.damaged_images < plan.images;
+        if !more_calls && !more_images {
+            break;
+        }
+        let mut rng = Rng::new(Rng::new(plan.seed ^ cycle << 20).draw());
+        let found = |kind| move |failure| Found { kind, failure };
+        if more_calls {
+            for _ in 0..12 {
+                runs::arbitrary(&mut rng, tally).map_err(found("an arbitrary floor"))?;
+            }
+            for _ in 0..10 {
+                runs::damaged(&mut rng, tally).map_err(found("a damaged floor"))?;
+            }
+            runs::list(&mut rng, tally).map_err(found("a list"))?;
+        }
+        if more_images {
+            for _ in 0..8 {
+                let floor = random::floor(&mut rng);
+                for _ in 0..8 {
+                    runs::image(&mut rng, &floor, tally).map_err(found("an image"))?;
+                }
+            }
+        }
+    }
+    Ok(())
+}
+
+fn ordinary(plan: Plan) -> ExitCode {
+    let start = Instant::now();
+    let mut tally = Tally::new();
+    if let Err(found) = run(plan, &mut tally) {
+        let trouble = &found.failure.trouble;
+        println!(
+            "trouble with {} in {} after {} calls and {} images, seed {}",
+            trouble.at, found.kind, tally.calls, tally.damaged_images, plan.seed
+        );
+        println!("{}", trouble.text);
+        let (case, trouble) = shrink::shrink(&found.failure);
+        println!(
+            "smallest case found:\n{}{}",
+            show::case(&case),
+            trouble.text
+        );
+        return ExitCode::FAILURE;
+    }
+    let missing = tally.print();
+    for line in &missing {
+        println!("missing: {line}");
+    }
+    let rest = match missing.len() {
+        0 => String::new(),
+        count => format!(", but {count} of the above never occurred"),
+    };
+    println!(
+        "no difference{rest}; seed {}, {:.1} s",
+        plan.seed,
+        start.elapsed().as_secs_f64()
+    );
+    match missing.is_empty() {
+        true => ExitCode::SUCCESS,
+        false => ExitCode::FAILURE,
+    }
+}
+
+#[cfg(feature = "faults")]
+fn with_faults(plan: Plan, name: Option<&str>) -> ExitCode {
+    faults::run(plan, name)
+}
+
+#[cfg(not(feature = "faults"))]
+fn with_faults(_: Plan, _: Option<&str>) -> ExitCode {
+    eprintln!("--faults needs a build with --features faults");
+    ExitCode::from(2)
+}
+
+fn main() -> ExitCode {
+    let mut plan = Plan {
+        seed: 1,
+        calls: 1_500_000,
+        images: 150_000,
+    };
+    let mut faulty = false;
+    let mut fault = None;
+    let mut words = std::env::args().skip(1);
+    while let Some(word) = words.next() {
+        let field = match word.as_str() {
+            "--seed" => &mut plan.seed,
+            "--calls" => &mut plan.calls,
+            "--images" => &mut plan.images,
+            "--faults" => {
+                faulty = true;
+                continue;
+            }
+            "--fault" => {
+                faulty = true;
+                fault = words.next();
+                continue;
+            }
+            _ => {
+                eprintln!("{USAGE}");
+                return ExitCode::from(2);
+            }
+        };
+        match words.next().and_then(|number| number.parse().ok()) {
+            Some(number) => *field = number,
+            None => {
+                eprintln!("{USAGE}");
+                return ExitCode::from(2);
+            }
+        }
+    }
+    call::hush_the_oracle();
+    match faulty {
+        true => with_faults(plan, fault.as_deref()),
+        false => ordinary(plan),
+    }
+}

@@ -1,0 +1,320 @@
+//! Floors and calls beyond those of `oracle::random`.
+
+use oracle::random::{self, Rng};
+use oracle::{Canister, Counters, Floor, Grid, Settings, Side, Tile, LONGEST_IMAGE, NONE, PLACES};
+
+use crate::call::Call;
+use crate::images;
+
+/// The image of a floor; empty for a malformed one.
+pub fn image(floor: &Floor) -> Vec<u8> {
+    let mut buffer = vec![0; LONGEST_IMAGE + 1];
+    let answer = oracle::write(floor, &mut buffer);
+    buffer.truncate(answer.length as usize);
+    buffer
+}
+
+/// Any call with any arguments, at times several of them wrong.
+pub fn any_call(rng: &mut Rng, floor: &Floor) -> Call {
+    match rng.below(24) {
+        0..=6 => Call::Round,
+        7..=12 => any_booking(rng, floor),
+        13 => Call::Stop {
+            tile: random::any_tile(rng, floor),
+        },
+        14 => Call::Repair {
+            tile: random::any_tile(rng, floor),
+        },
+        15 | 16 => Call::Read {
+            tile: random::any_tile(rng, floor),
+        },
+        17 | 18 => writing(rng, floor),
+        19 => loading(rng, floor),
+        20 => Call::Fresh {
+            settings: random::any_settings(rng),
+        },
+        _ => random::call(rng, floor).into(),
+    }
+}
+
+fn any_booking(rng: &mut Rng, floor: &Floor) -> Call {
+    let last = floor.counters.last;
+    let number = match rng.below(8) {
+        0 => 0,
+        1 => last,
+        2 => rng.range(0, last.into()) as u32,
+        3 => u32::MAX,
+        _ => last.saturating_add(1),
+    };
+    let tile = random::any_tile(rng, floor);
+    let canister = Canister {
+        number,
+        a: coordinate(rng, floor, tile, |canister| canister.a),
+        b: coordinate(rng, floor, tile, |canister| canister.b),
+    };
+    Call::Book { tile, canister }
+}
+
+/// Often at, or just off, a spacing from a canister of the tile.
+fn coordinate(rng: &mut Rng, floor: &Floor, tile: u32, of: impl Fn(&Canister) -> u16) -> u16 {
+    let span = floor.settings.span();
+    let spacing = floor.settings.spacing() as u16;
+    let near = match floor.tiles.get(tile as usize) {
+        Some(held) if held.count > 0 => of(&rng.pick(floor.members(tile as usize))),
+        _ => 0,
+    };
+    let place = match rng.below(16) {
+        0 => 0,
+        1 => span,
+        2 => span + 1,
+        3 => rng.draw() as u16,
+        4..=6 => near.saturating_add(spacing),
+        7 => near.saturating_add(spacing - 1),
+        8 | 9 => near.saturating_sub(spacing),
+        10 => near.saturating_sub(spacing - 1),
+        _ => rng.range(0, span.into()) as u16,
+    };
+    match rng.chance(1, 12) {
+        true => place,
+        false => place.min(span),
+    }
+}
+
+/// A write to a buffer of some size near the image's.
+pub fn writing(rng: &mut Rng, floor: &Floor) -> Call {
+    let length = image(floor).len();
+    let size = match rng.below(8) {
+        0 => 0,
+        1 => length.saturating_sub(1),
+        2 => rng.below(length as u64 + 1) as usize,
+        3 | 4 => length,
+        5 => length + 1,
+        6 => length + rng.below(40) as usize,
+        _ => LONGEST_IMAGE,
+    };
+    Call::Write { size }
+}
+
+/// A load of the floor's image, good or damaged.
+pub fn loading(rng: &mut Rng, floor: &Floor) -> Call {
+    let mut bytes = image(floor);
+    if rng.chance(1, 2) {
+        images::damage(rng, &mut bytes);
+    }
+    Call::Load { bytes }
+}
+
+/// Settings that let sixteen canisters stand on a tile.
+fn dense(rng: &mut Rng) -> Settings {
+    loop {
+        let mut settings = random::settings(rng);
+        if settings.span() / settings.spacing() as u16 == 3 {
+            if rng.chance(1, 2) {
+                (settings.columns, settings.rows) = (8, 8);
+                settings.hopper = rng.below(64) as u8;
+                settings.sources = !(1 << settings.hopper);
+            }
+            return settings;
+        }
+    }
+}
+
+/// Every tile but the hopper filled with sixteen canisters in lines.
+pub fn packed_floor(rng: &mut Rng) -> Floor {
+    let settings = dense(rng);
+    let near = rng.chance(1, 2);
+    packed_with(rng, settings, near)
+}
+
+/// A packed floor with numbers near the last one booked, or spread out.
+pub fn packed_with(rng: &mut Rng, settings: Settings, near: bool) -> Floor {
+    let mut floor = oracle::fresh(settings).floor;
+    let tiles = settings.tile_count();
+    let held = (tiles - 1) * PLACES;
+    let step = if near {
+        1
+    } else {
+        u64::from(u32::MAX) / held as u64
+    };
+    let mut numbers: Vec<u32> = (0..held as u64)
+        .map(|at| (at * step + rng.below(step) + 1) as u32)
+        .collect();
+    let last = numbers.last().copied().unwrap_or(0);
+    for end in (1..numbers.len()).rev() {
+        numbers.swap(end, rng.below(end as u64 + 1) as usize);
+    }
+    let spacing = settings.spacing() as u16;
+    let slack = settings.span() - 3 * spacing;
+    for tile in (0..tiles).filter(|tile| *tile != usize::from(settings.hopper)) {
+        let mut mine: Vec<u32> = numbers.drain(..PLACES).collect();
+        mine.sort_unstable();
+        let shift = rng.pick(&[0, slack, slack / 2]);
+        for (at, number) in mine.into_iter().enumerate() {
+            floor.canisters[tile * PLACES + at] = Canister {
+                number,
+                a: (at % 4) as u16 * spacing + shift,
+                b: (at / 4) as u16 * spacing + shift,
+            };
+        }
+        floor.tiles[tile].count = PLACES as u8;
+    }
+    floor.counters = Counters {
+        last,
+        booked: held as u32,
+        delivered: 0,
+    };
+    floor
+}
+
+/// Two tiles that face each other by stale distances, each with room to grant.
+pub fn facing_floor(rng: &mut Rng) -> Floor {
+    let upright = rng.chance(1, 2);
+    let long = rng.range(5, 8) as u8;
+    let settings = Settings {
+        columns: if upright { 1 } else { long },
+        rows: if upright { long } else { 1 },
+        hopper: 0,
+        sources: 0,
+        width: 100,
+        length: 20,
+        gap: rng.range(1, 10) as u16,
+        travel: rng.range(1, 19) as u16,
+    };
+    let mut floor = oracle::fresh(settings).floor;
+    let one = rng.range(2, u64::from(long) - 2) as usize;
+    let distance = rng.range(1, u64::from(long) - 2) as u8;
+    let (on, back) = if upright { (3, 2) } else { (4, 1) };
+    for (tile, next, number) in [(one, on, 1), (one + 1, back, 2)] {
+        floor.tiles[tile] = Tile {
+            distance,
+            next,
+            count: 1,
+            ..floor.tiles[tile]
+        };
+        floor.canisters[tile * PLACES] = Canister {
+            number,
+            a: rng.range(25, 55) as u16,
+            b: rng.range(25, 55) as u16,
+        };
+    }
+    floor.counters = Counters {
+        last: 2,
+        booked: 2,
+        delivered: 0,
+    };
+    floor
+}
+
+/// Damages a well-formed floor so that it must be refused by 30. False if
+/// the damage drawn doesn't suit the floor, which is then as it was.
+pub fn known_damage(rng: &mut Rng, floor: &mut Floor) -> bool {
+    let tiles = floor.settings.tile_count();
+    let hopper = usize::from(floor.settings.hopper);
+    let span = floor.settings.span();
+    let any = rng.below(tiles as u64) as usize;
+    let count = usize::from(floor.tiles[any].count);
+    let first = any * PLACES;
+    let byte = rng.range(1, 255) as u8;
+    match rng.below(30) {
+        0 => floor.tiles[hopper].running = 0,
+        1 => floor.tiles[hopper].distance = byte,
+        2 => floor.tiles[hopper].next = rng.range(1, 4) as u8,
+        3 => floor.tiles[any].running = rng.range(2, 255) as u8,
+        4 if any != hopper => floor.tiles[any].distance = 0,
+        5 => floor.tiles[any].distance = rng.range(tiles as u64, 254) as u8,
+        6 => floor.tiles[any].next = rng.range(5, 255) as u8,
+        7 => floor.tiles[any].token = rng.range(5, 255) as u8,
+        8 => floor.tiles[any].count = rng.range(17, 255) as u8,
+        9 if count > 0 => floor.tiles[any].count -= 1,
+        10 if count < 16 => floor.tiles[any].count += 1,
+        11 if count > 0 => floor.canisters[first].a = span + 1,
+        12 if count > 0 => floor.canisters[first + count - 1].b = span + 1,
+        13 if count > 0 => floor.canisters[first].number = 0,
+        14 if count > 1 => floor.canisters.swap(first, first + 1),
+        15 if count > 1 => {
+            let place = floor.canisters[first];
+            let other = &mut floor.canisters[first + 1];
+            (other.a, other.b) = (place.a, place.b);
+        }
+        16 if count < 16 => {
+            let place = first + rng.range(count as u64, 15) as usize;
+            match rng.below(3) {
+                0 => floor.canisters[place].number = 1,
+                1 => floor.canisters[place].a = 1,
+                _ => floor.canisters[place].b = 1,
+            }
+        }
+        17 if tiles < 64 => {
+            let tile = rng.range(tiles as u64, 63) as usize;
+            match rng.below(5) {
+                0 => floor.tiles[tile].running = 1,
+                1 => floor.tiles[tile].distance = NONE,
+                2 => floor.tiles[tile].next = 1,
+                3 => floor.tiles[tile].token = 1,
+                _ => floor.tiles[tile].count = 1,
+            }
+        }
+        18 if tiles < 64 => {
+            let place = rng.range((tiles * PLACES) as u64, 1_023) as usize;
+            floor.canisters[place].b = 1;
+        }
+        19 => return repeat_number(rng, floor),
+        20 if count > 0 => floor.counters.last = floor.canisters[first + count - 1].number - 1,
+        21 => floor.counters.booked = floor.counters.booked.wrapping_add(byte.into()),
+        22 => floor.counters.delivered = floor.counters.delivered.wrapping_add(byte.into()),
+        23 if floor.counters.last < u32::MAX => {
+            let held = floor.counters.booked - floor.counters.delivered;
+            floor.counters.booked = floor.counters.last + 1;
+            floor.counters.delivered = floor.counters.booked - held;
+        }
+        24 if floor.counters.booked > floor.counters.delivered => {
+            let held = floor.counters.booked - floor.counters.delivered;
+            floor.counters.booked = held - 1;
+            floor.counters.delivered = u32::MAX;
+        }
+        25 => return face_outside(rng, floor),
+        26 => floor.settings.hopper = rng.range(tiles as u64, 255) as u8,
+        27 => floor.settings.sources |= 1 << hopper,
+        28 => floor.settings.travel = floor.settings.length,
+        29 => floor.settings.gap = u16::MAX - rng.below(300) as u16,
+        _ => return false,
+    }
+    true
+}
+
+/// Gives a canister the number of one on another tile, in rising order still.
+fn repeat_number(rng: &mut Rng, floor: &mut Floor) -> bool {
+    let tiles = floor.settings.tile_count();
+    let held: Vec<usize> = (0..tiles).filter(|t| floor.tiles[*t].count > 0).collect();
+    if held.len() < 2 {
+        return false;
+    }
+    let (one, other) = (rng.pick(&held), rng.pick(&held));
+    if one == other {
+        return false;
+    }
+    let end = |tile: usize| tile * PLACES + usize::from(floor.tiles[tile].count) - 1;
+    let (low, high) = match floor.canisters[end(one)].number < floor.canisters[end(other)].number {
+        true => (end(one), end(other)),
+        false => (end(other), end(one)),
+    };
+    floor.canisters[low].number = floor.canisters[high].number;
+    true
+}
+
+/// Turns an arrow or a turn towards no tile.
+fn face_outside(rng: &mut Rng, floor: &mut Floor) -> bool {
+    let grid = Grid::of(&floor.settings);
+    let spots: Vec<_> = grid.spots().collect();
+    let spot = rng.pick(&spots);
+    let side = rng.pick(&Side::ALL);
+    if grid.neighbour(spot, side).is_some() {
+        return false;
+    }
+    let tile = &mut floor.tiles[spot.tile];
+    match tile.next != 0 && rng.chance(1, 2) {
+        true => tile.next = side.code(),
+        false => tile.token = side.code(),
+    }
+    true
+}

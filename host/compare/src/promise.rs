@@ -1,0 +1,216 @@
+//! Demand 3, judged from the calls and their answers alone.
+
+use std::collections::BTreeSet;
+
+use oracle::{Floor, Grid, Settings, Side};
+
+use crate::call::{both, Call, Outcome, Trouble};
+use crate::tally::Tally;
+
+/// What is known of a list so far.
+pub struct Record {
+    numbers: BTreeSet<u32>,
+    gone: BTreeSet<u32>,
+    running: Vec<bool>,
+    booked: u32,
+    delivered: u32,
+}
+
+fn held(floor: &Floor) -> impl Iterator<Item = u32> + '_ {
+    let tiles = 0..floor.settings.tile_count();
+    tiles
+        .flat_map(|tile| floor.members(tile))
+        .map(|canister| canister.number)
+}
+
+fn broken(text: impl Into<String>) -> Result<(), Trouble> {
+    Err(Trouble::promise("demand 3", text.into()))
+}
+
+impl Record {
+    pub fn of(floor: &Floor) -> Record {
+        let used = &floor.tiles[..floor.settings.tile_count()];
+        Record {
+            numbers: held(floor).collect(),
+            gone: BTreeSet::new(),
+            running: used.iter().map(|tile| tile.running == 1).collect(),
+            booked: floor.counters.booked,
+            delivered: floor.counters.delivered,
+        }
+    }
+
+    pub fn note(&mut self, call: &Call, outcome: &Outcome) -> Result<(), Trouble> {
+        if outcome.refusal() != 0 {
+            return Ok(());
+        }
+        match (call, outcome) {
+            (Call::Book { canister, .. }, _) => {
+                self.booked += 1;
+                if !self.numbers.insert(canister.number) {
+                    return broken(format!("number {} booked twice", canister.number));
+                }
+            }
+            (Call::Stop { tile } | Call::Repair { tile }, _) => {
+                let Some(runs) = self.running.get_mut(*tile as usize) else {
+                    return broken(format!("{} of tile {tile} accepted", call.name()));
+                };
+                *runs = matches!(call, Call::Repair { .. });
+            }
+            (Call::Fresh { .. } | Call::Load { .. }, Outcome::Answer(answer)) => {
+                *self = Record::of(&answer.floor);
+            }
+            (_, Outcome::Round(answer)) => {
+                let numbers = answer.report.delivered();
+                if !numbers.is_sorted_by(|one, other| one < other) {
+                    return broken(format!("delivered numbers {numbers:?}"));
+                }
+                for number in numbers {
+                    self.delivered += 1;
+                    if !self.gone.insert(*number) {
+                        return broken(format!("number {number} delivered twice"));
+                    }
+                }
+            }
+            _ => {}
+        }
+        Ok(())
+    }
+
+    pub fn check(&self, floor: &Floor) -> Result<(), Trouble> {
+        check_places(floor)?;
+        let mut all: Vec<u32> = held(floor).chain(self.gone.iter().copied()).collect();
+        all.sort_unstable();
+        if !all.iter().eq(&self.numbers) {
+            return broken("some number isn't on the floor or delivered exactly once");
+        }
+        let counters = &floor.counters;
+        if (counters.booked, counters.delivered) != (self.booked, self.delivered) {
+            return broken(format!(
+                "counters {counters:?}, but {} booked and {} delivered",
+                self.booked, self.delivered
+            ));
+        }
+        let runs = |tile: usize| floor.tiles[tile].running == 1;
+        if !(0..self.running.len()).all(|tile| runs(tile) == self.running[tile]) {
+            return broken("a tile runs or stands against the last stop or repair of it");
+        }
+        Ok(())
+    }
+}
+
+/// Spacing and borders.
+fn check_places(floor: &Floor) -> Result<(), Trouble> {
+    let settings = &floor.settings;
+    let span = settings.width - settings.length;
+    let spacing = u32::from(settings.length) + u32::from(settings.gap);
+    for tile in 0..settings.tile_count() {
+        let members = floor.members(tile);
+        for (at, one) in members.iter().enumerate() {
+            if one.a > span || one.b > span {
+                return broken(format!("canister {} over the border", one.number));
+            }
+            for other in &members[..at] {
+                let a = u32::from(one.a.abs_diff(other.a));
+                let b = u32::from(one.b.abs_diff(other.b));
+                if a < spacing && b < spacing {
+                    return broken(format!("{} too close to {}", one.number, other.number));
+                }
+            }
+        }
+    }
+    Ok(())
+}
+
+/// Tiles with a live path to the hopper.
+fn live(floor: &Floor) -> Vec<bool> {
+    let grid = Grid::of(&floor.settings);
+    let spots: Vec<_> = grid.spots().collect();
+    let mut live = vec![false; spots.len()];
+    let mut open = vec![usize::from(floor.settings.hopper)];
+    while let Some(tile) = open.pop() {
+        if !live[tile] && floor.tiles[tile].running == 1 {
+            live[tile] = true;
+            let beside = |side| grid.neighbour(spots[tile], side);
+            open.extend(Side::ALL.into_iter().filter_map(beside));
+        }
+    }
+    live
+}
+
+fn numbers_where(floor: &Floor, live: &[bool], wanted: bool) -> BTreeSet<u32> {
+    (0..live.len())
+        .filter(|tile| live[*tile] == wanted)
+        .flat_map(|tile| floor.members(tile))
+        .map(|canister| canister.number)
+        .collect()
+}
+
+/// (C - 1) (1 + K M).
+fn bound(settings: &Settings, waiting: usize) -> u64 {
+    let across = u64::from((settings.width - settings.length) / settings.travel) + 1;
+    (settings.tile_count() as u64 - 1) * (1 + waiting as u64 * across)
+}
+
+/// The bound of a floor, with K counted on tiles with a live path.
+pub fn bound_of(floor: &Floor) -> u64 {
+    bound(
+        &floor.settings,
+        numbers_where(floor, &live(floor), true).len(),
+    )
+}
+
+/// Rounds from here, with `between` before each of them. Within the bound
+/// everything on a tile with a live path is delivered, and nothing else.
+pub fn drain(
+    first: &Floor,
+    tally: &mut Tally,
+    mut between: impl FnMut(&Floor) -> Option<Call>,
+) -> Result<(), Trouble> {
+    let live = live(first);
+    let waiting = numbers_where(first, &live, true);
+    let cut_off = numbers_where(first, &live, false);
+    let most = bound(&first.settings, waiting.len());
+    let mut record = Record::of(first);
+    let mut floor = *first;
+    let mut rounds = 0;
+    while record.gone.len() < waiting.len() {
+        if rounds == most {
+            return Err(Trouble::promise(
+                "the bound",
+                format!(
+                    "after {most} rounds {} of {} delivered",
+                    record.gone.len(),
+                    waiting.len()
+                ),
+            ));
+        }
+        if let Some(call) = between(&floor) {
+            let outcome = made(&floor, &call, &mut record, tally)?;
+            floor = outcome.floor_after(&call, &floor);
+        }
+        let outcome = made(&floor, &Call::Round, &mut record, tally)?;
+        floor = outcome.floor_after(&Call::Round, &floor);
+        rounds += 1;
+    }
+    record.check(&floor)?;
+    if record.gone != waiting || !held(&floor).all(|number| cut_off.contains(&number)) {
+        return broken("a canister without a live path was delivered");
+    }
+    if !waiting.is_empty() {
+        tally.closest = tally.closest.max(rounds as f64 / most as f64);
+    }
+    Ok(())
+}
+
+fn made(
+    floor: &Floor,
+    call: &Call,
+    record: &mut Record,
+    tally: &mut Tally,
+) -> Result<Outcome, Trouble> {
+    let outcome = both(floor, call)?;
+    tally.calls += 1;
+    tally.note(floor, call, &outcome);
+    record.note(call, &outcome)?;
+    Ok(outcome)
+}

@@ -1,0 +1,296 @@
+//! The four kinds of runs.
+
+use oracle::random::{self, Rng};
+use oracle::{Canister, Floor, Settings};
+
+use crate::call::{both, Call, Outcome, Trouble};
+use crate::makers;
+use crate::promise::{self, Record};
+use crate::tally::Tally;
+
+/// A floor and the calls made from it on.
+#[derive(Clone, PartialEq)]
+pub struct Case {
+    pub first: Floor,
+    pub calls: Vec<Call>,
+    /// Rounds follow until all that can go is delivered.
+    pub drain: bool,
+    /// The answer that every call must give.
+    pub must: Option<u8>,
+    /// Whether the first floor is to be taken as well formed.
+    pub sound: bool,
+}
+
+pub struct Failure {
+    pub case: Case,
+    pub trouble: Trouble,
+}
+
+/// A case being made.
+struct Run<'a> {
+    case: Case,
+    floor: Floor,
+    record: Record,
+    tally: &'a mut Tally,
+}
+
+impl<'a> Run<'a> {
+    fn of(case: Case, tally: &'a mut Tally) -> Run<'a> {
+        Run {
+            floor: case.first,
+            record: match case.sound {
+                true => Record::of(&case.first),
+                false => Record::of(&Floor::ZERO),
+            },
+            case,
+            tally,
+        }
+    }
+
+    fn make(&mut self, call: Call) -> Result<Outcome, Trouble> {
+        let made = both(&self.floor, &call);
+        self.tally.calls += 1;
+        let outcome = match made {
+            Ok(outcome) => outcome,
+            Err(trouble) => {
+                self.case.calls.push(call);
+                return Err(trouble);
+            }
+        };
+        self.tally.note(&self.floor, &call, &outcome);
+        let floor = outcome.floor_after(&call, &self.floor);
+        let judged = self.judge(&call, &outcome);
+        self.floor = floor;
+        self.case.calls.push(call);
+        judged.map(|()| outcome)
+    }
+
+    fn judge(&mut self, call: &Call, outcome: &Outcome) -> Result<(), Trouble> {
+        let refusal = outcome.refusal();
+        if self.case.must.is_some_and(|must| must != refusal) {
+            let text = format!(
+                "{} answers {refusal} on a floor that is broken",
+                call.name()
+            );
+            return Err(Trouble::promise("known damage", text));
+        }
+        if !self.case.sound {
+            return Ok(());
+        }
+        // Before the first accepted fresh floor there is none.
+        if refusal == 30 && self.floor != Floor::ZERO {
+            let text = format!("{} finds the floor of a list malformed", call.name());
+            return Err(Trouble::promise("well formed", text));
+        }
+        self.record.note(call, outcome)
+    }
+
+    fn check(&mut self) -> Result<(), Trouble> {
+        match self.case.sound {
+            true => self.record.check(&self.floor),
+            false => Ok(()),
+        }
+    }
+}
+
+/// Makes a case again; demand 3 is checked after every call.
+pub fn replay(case: &Case) -> Option<Trouble> {
+    let mut tally = Tally::new();
+    let empty = Case {
+        calls: Vec::new(),
+        ..case.clone()
+    };
+    let mut run = Run::of(empty, &mut tally);
+    for call in &case.calls {
+        let made = run.make(call.clone()).map(|_| ());
+        if let Err(trouble) = made.and_then(|()| run.check()) {
+            return Some(trouble);
+        }
+    }
+    let floor = run.floor;
+    match case.drain {
+        true => promise::drain(&floor, &mut tally, |_| None).err(),
+        false => None,
+    }
+}
+
+/// The floor before the last call of a case.
+pub fn before_last(case: &Case) -> Floor {
+    let mut floor = case.first;
+    let before = case.calls.len().saturating_sub(1);
+    for call in &case.calls[..before] {
+        if let Ok(outcome) = both(&floor, call) {
+            floor = outcome.floor_after(call, &floor);
+        }
+    }
+    floor
+}
+
+fn begin(first: Floor, sound: bool, must: Option<u8>) -> Case {
+    Case {
+        first,
+        calls: Vec::new(),
+        drain: false,
+        must,
+        sound,
+    }
+}
+
+/// Turns the steps' trouble into a failure with its case.
+fn finish(
+    case: Case,
+    tally: &mut Tally,
+    steps: impl FnOnce(&mut Run) -> Result<(), Trouble>,
+) -> Result<(), Box<Failure>> {
+    let mut run = Run::of(case, tally);
+    match steps(&mut run) {
+        Ok(()) => Ok(()),
+        Err(trouble) => Err(Box::new(Failure {
+            case: run.case,
+            trouble,
+        })),
+    }
+}
+
+/// A fresh floor and a long list of calls.
+pub fn list(rng: &mut Rng, tally: &mut Tally) -> Result<(), Box<Failure>> {
+    finish(begin(Floor::ZERO, true, None), tally, |run| {
+        for _ in 0..rng.below(4) {
+            let settings = random::any_settings(rng);
+            run.make(Call::Fresh { settings })?;
+        }
+        let settings = list_settings(rng);
+        if run.make(Call::Fresh { settings })?.refusal() != 0 {
+            let text = "good settings are refused".into();
+            return Err(Trouble::promise("fresh", text));
+        }
+        for at in 0..rng.range(20, 600) {
+            let floor = run.floor;
+            let call = match rng.below(20) {
+                0 => makers::any_call(rng, &floor),
+                1 => Call::Read {
+                    tile: random::any_tile(rng, &floor),
+                },
+                2 => makers::writing(rng, &floor),
+                3 => makers::loading(rng, &floor),
+                _ => random::call(rng, &floor).into(),
+            };
+            run.make(call)?;
+            if at % 16 == 0 {
+                run.check()?;
+            }
+        }
+        run.check()?;
+        run.tally.lists += 1;
+        let floor = run.floor;
+        if promise::bound_of(&floor) <= 3_000 {
+            run.case.drain = true;
+            promise::drain(&floor, run.tally, |floor| {
+                rng.chance(1, 8)
+                    .then(|| random::refused_call(rng, floor).into())
+            })?;
+            run.tally.drained += 1;
+        }
+        Ok(())
+    })
+}
+
+/// Settings with many fill tiles, so that a list fills its floor.
+fn list_settings(rng: &mut Rng) -> Settings {
+    let mut settings = random::settings(rng);
+    if rng.chance(3, 4) {
+        let tiles = settings.tile_count();
+        settings.sources = (u64::MAX >> (64 - tiles)) & !(1 << settings.hopper);
+    }
+    settings
+}
+
+/// An arbitrary well-formed floor and a few calls.
+pub fn arbitrary(rng: &mut Rng, tally: &mut Tally) -> Result<(), Box<Failure>> {
+    let first = match rng.below(12) {
+        0 => makers::packed_floor(rng),
+        1 => makers::facing_floor(rng),
+        _ => random::floor(rng),
+    };
+    finish(begin(first, true, None), tally, |run| {
+        for _ in 0..rng.range(1, 20) {
+            let floor = run.floor;
+            run.make(makers::any_call(rng, &floor))?;
+        }
+        run.check()
+    })
+}
+
+/// A floor damaged in memory, and every call that takes one.
+pub fn damaged(rng: &mut Rng, tally: &mut Tally) -> Result<(), Box<Failure>> {
+    let (first, known) = match rng.below(8) {
+        0 => (random::garbage_floor(rng), false),
+        1..=3 => (random::nearly_sound_floor(rng), false),
+        _ => {
+            let mut floor = random::floor(rng);
+            while !makers::known_damage(rng, &mut floor) {
+                floor = random::floor(rng);
+            }
+            (floor, true)
+        }
+    };
+    tally.known_damage += u64::from(known);
+    finish(begin(first, false, known.then_some(30)), tally, |run| {
+        let tile = match rng.chance(1, 4) {
+            true => rng.draw() as u32,
+            false => random::any_tile(rng, &first),
+        };
+        let canister = Canister {
+            number: first.counters.last.saturating_add(rng.below(2) as u32),
+            a: rng.range(0, first.settings.span().into()) as u16,
+            b: rng.range(0, first.settings.span().into()) as u16,
+        };
+        let calls = [
+            Call::Book { tile, canister },
+            Call::Stop { tile },
+            Call::Repair { tile },
+            Call::Round,
+            Call::Read { tile },
+            Call::Write {
+                size: rng.pick(&[0, 64, oracle::LONGEST_IMAGE]),
+            },
+        ];
+        for call in calls {
+            run.floor = first;
+            run.case.calls.clear();
+            run.make(call)?;
+        }
+        Ok(())
+    })
+}
+
+/// An image, good or damaged; if it loads, it is written again.
+pub fn image(rng: &mut Rng, floor: &Floor, tally: &mut Tally) -> Result<(), Box<Failure>> {
+    let good = makers::image(floor);
+    let mut bytes = good.clone();
+    if rng.chance(9, 10) {
+        crate::images::damage(rng, &mut bytes);
+    }
+    match bytes == good {
+        true => tally.good_images += 1,
+        false => tally.damaged_images += 1,
+    }
+    let calls = tally.calls;
+    let made = finish(begin(Floor::ZERO, true, None), tally, |run| {
+        let call = Call::Load {
+            bytes: bytes.clone(),
+        };
+        if run.make(call)?.refusal() != 0 {
+            return Ok(());
+        }
+        let size = bytes.len();
+        match run.make(Call::Write { size })? {
+            Outcome::Written(_, again) if again == bytes => Ok(()),
+            _ => Err(Trouble::promise("round trip", "other bytes again".into())),
+        }
+    });
+    if made.is_ok() {
+        tally.calls = calls;
+    }
+    made
+}

@@ -1,0 +1,98 @@
+//! Prints cases.
+
+use std::fmt::Write;
+
+use oracle::{Canister, Floor, Settings, Tile};
+
+use crate::call::Call;
+use crate::runs::Case;
+
+fn settings(s: &Settings) -> String {
+    format!(
+        "W {} H {} hopper {} fill {:#x} U {} l {} r {} v {}",
+        s.columns, s.rows, s.hopper, s.sources, s.width, s.length, s.gap, s.travel
+    )
+}
+
+fn canister(c: &Canister) -> String {
+    format!("{} at ({}, {})", c.number, c.a, c.b)
+}
+
+fn floor(floor: &Floor) -> String {
+    if *floor == Floor::ZERO {
+        return "  the all-zero floor\n".into();
+    }
+    let c = &floor.counters;
+    let mut text = format!(
+        "  {}; last {} booked {} delivered {}\n",
+        settings(&floor.settings),
+        c.last,
+        c.booked,
+        c.delivered
+    );
+    for (at, tile) in floor.tiles.iter().enumerate() {
+        let places = floor.places(at);
+        let held = places.iter().any(|place| *place != Canister::ZERO);
+        if *tile == Tile::ZERO && !held {
+            continue;
+        }
+        let _ = write!(
+            text,
+            "  tile {at}: running {} distance {} arrow {} turn {} count {}",
+            tile.running, tile.distance, tile.next, tile.token, tile.count
+        );
+        for (at, place) in places.iter().enumerate() {
+            if *place != Canister::ZERO {
+                let _ = write!(text, "; [{at}] {}", canister(place));
+            }
+        }
+        text.push('\n');
+    }
+    text
+}
+
+fn call(call: &Call) -> String {
+    match call {
+        Call::Fresh { settings: s } => format!("fresh {}", settings(s)),
+        Call::Book { tile, canister: c } => format!("book on tile {tile}: {}", canister(c)),
+        Call::Stop { tile } => format!("stop tile {tile}"),
+        Call::Repair { tile } => format!("repair tile {tile}"),
+        Call::Round => "round".into(),
+        Call::Read { tile } => format!("read tile {tile}"),
+        Call::Write { size } => format!("write to {size} bytes"),
+        Call::Load { bytes } => {
+            let hex: Vec<String> = bytes.iter().map(|byte| format!("{byte:02x}")).collect();
+            format!("load {} bytes: {}", bytes.len(), hex.join(" "))
+        }
+    }
+}
+
+pub fn case(case: &Case) -> String {
+    let mut text = floor(&case.first);
+    for made in &case.calls {
+        let _ = writeln!(text, "  {}", call(made));
+    }
+    if case.drain {
+        text += "  rounds until all that can go is delivered\n";
+    }
+    text
+}
+
+/// The size of a case in a few words.
+#[cfg(feature = "faults")]
+pub fn size(case: &Case) -> String {
+    match case.calls.last() {
+        Some(Call::Load { bytes }) => format!("{} bytes", bytes.len()),
+        Some(Call::Fresh { settings: s }) => settings(s),
+        _ => {
+            let s = &case.first.settings;
+            let held: u32 = case.first.tiles.iter().map(|t| u32::from(t.count)).sum();
+            let calls = case.calls.len();
+            let more = match calls {
+                0 | 1 => String::new(),
+                _ => format!(", {calls} calls"),
+            };
+            format!("{} x {} tiles, {held} canisters{more}", s.columns, s.rows)
+        }
+    }
+}

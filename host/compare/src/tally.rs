@@ -1,0 +1,127 @@
+//! What the runs met.
+
+use oracle::{Floor, Grid, RoundAnswer, Side};
+
+use crate::call::{Call, Outcome, NAMES};
+
+/// The answers that each call can give, in the order of `NAMES`.
+const ANSWERS: [&[u8]; 8] = [
+    &[0, 1, 2, 3],
+    &[0, 30, 4, 5, 6, 7, 31, 33, 34],
+    &[0, 30, 4, 8, 31],
+    &[0, 30, 4, 32],
+    &[0, 30],
+    &[0, 30, 4],
+    &[0, 30, 13],
+    &[0, 9, 10, 11, 1, 2, 3, 12],
+];
+
+#[derive(Default)]
+pub struct Tally {
+    pub calls: u64,
+    pub good_images: u64,
+    pub damaged_images: u64,
+    pub lists: u64,
+    pub drained: u64,
+    pub closest: f64,
+    pub known_damage: u64,
+    answers: Vec<[u64; 256]>,
+    crossings: [u64; 4],
+    withheld: u64,
+    deliveries: [u64; 5],
+    sixteen: u64,
+    mutual: u64,
+    full: u64,
+}
+
+impl Tally {
+    pub fn new() -> Tally {
+        Tally {
+            answers: vec![[0; 256]; NAMES.len()],
+            ..Tally::default()
+        }
+    }
+
+    pub fn note(&mut self, before: &Floor, call: &Call, outcome: &Outcome) {
+        self.answers[call.kind()][usize::from(outcome.refusal())] += 1;
+        if let Outcome::Round(answer) = outcome {
+            if answer.refusal == 0 {
+                self.note_round(before, answer);
+            }
+        }
+    }
+
+    fn note_round(&mut self, before: &Floor, answer: &RoundAnswer) {
+        let grid = Grid::of(&before.settings);
+        let grants = &answer.report.grants;
+        self.deliveries[usize::from(answer.report.count).min(4)] += 1;
+        let used = &before.tiles[..before.settings.tile_count()];
+        self.sixteen += u64::from(used.iter().any(|tile| tile.count == 16));
+        let held: u32 = used.iter().map(|tile| u32::from(tile.count)).sum();
+        self.full += u64::from(held == 1_008);
+        for spot in grid.spots() {
+            let Some(side) = Side::from_code(grants[spot.tile]) else {
+                self.withheld += u64::from(answer.floor.tiles[spot.tile].token != 0);
+                continue;
+            };
+            let Some(there) = grid.neighbour(spot, side) else {
+                continue;
+            };
+            let back = side.opposite().code();
+            self.mutual += u64::from(spot.tile < there && grants[there] == back);
+            let stays = |number| {
+                let after = answer.floor.members(there);
+                after.iter().any(|canister| canister.number == number)
+            };
+            for canister in before.members(there) {
+                self.crossings[usize::from(back) - 1] += u64::from(!stays(canister.number));
+            }
+        }
+    }
+
+    /// Prints the counts and gives those that are 0.
+    pub fn print(&self) -> Vec<String> {
+        let mut missing = Vec::new();
+        for ((name, answers), counts) in NAMES.iter().zip(ANSWERS).zip(&self.answers) {
+            let mut line = format!("{name:8}");
+            for answer in answers {
+                let count = counts[usize::from(*answer)];
+                line += &format!(" {answer}: {count}");
+                if count == 0 {
+                    missing.push(format!("{name} never answered {answer}"));
+                }
+            }
+            println!("{line}");
+        }
+        let mut event = |name: &str, count: u64| {
+            println!("{name}: {count}");
+            if count == 0 {
+                missing.push(format!("{name}: never"));
+            }
+        };
+        for (side, count) in ["west", "south", "north", "east"]
+            .iter()
+            .zip(self.crossings)
+        {
+            event(&format!("crossings to the {side}"), count);
+        }
+        event("grants withheld for want of a gap", self.withheld);
+        for at_once in 1..=4 {
+            event(
+                &format!("rounds that delivered {at_once}"),
+                self.deliveries[at_once],
+            );
+        }
+        event("rounds with a tile of sixteen", self.sixteen);
+        event("pairs of tiles granting each other", self.mutual);
+        event("rounds on a full 8 x 8 floor (1,008 canisters)", self.full);
+        event("lists held to demand 3", self.lists);
+        event("further lists held to the bound", self.drained);
+        event("floors with damage that must be 30", self.known_damage);
+        event("good images", self.good_images);
+        event("damaged images", self.damaged_images);
+        event("calls", self.calls);
+        println!("rounds used of the bound, at most: {:.3}", self.closest);
+        missing
+    }
+}

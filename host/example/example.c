@@ -1,0 +1,75 @@
+/* Two tiles in a line: fill on tile 0, hopper on tile 1. */
+
+#include <stdio.h>
+#include <string.h>
+
+#include "ceromby.h"
+
+static void show(const char *what, ceromby_floor floor) {
+    ceromby_reading reading = ceromby_read(floor, 0);
+    printf("%s: tile 0 %s, distance ", what, reading.tile.running ? "running" : "stopped");
+    if (reading.tile.distance == CEROMBY_DISTANCE_NONE)
+        printf("none");
+    else
+        printf("%u", reading.tile.distance);
+    printf(", arrow %u, %u canisters", reading.tile.next.code, reading.tile.count);
+    for (unsigned i = 0; i < reading.tile.count; i++)
+        printf(", %lu at (%u, %u)", (unsigned long)reading.members[i].number,
+               reading.members[i].a, reading.members[i].b);
+    printf("\n");
+}
+
+int main(void) {
+    ceromby_settings settings = {
+        .columns = 2, .rows = 1, .hopper = 1, .sources = 1,
+        .width = 100, .length = 30, .gap = 10, .travel = 20,
+    };
+    ceromby_answer answer = ceromby_fresh(settings);
+    printf("fresh: %u\n", answer.refusal);
+    ceromby_floor floor = answer.floor;
+    show("fresh", floor);
+
+    ceromby_canister canister = {.number = 5, .a = 0, .b = 0};
+    answer = ceromby_book(floor, 0, canister);
+    printf("book canister 5: %u\n", answer.refusal);
+    floor = answer.floor;
+
+    for (unsigned round = 1; floor.counters.delivered == 0 && round <= 5; round++) {
+        ceromby_rounded rounded = ceromby_round(floor);
+        if (rounded.refusal != CEROMBY_ACCEPTED)
+            return 1;
+        floor = rounded.floor;
+        printf("round %u, the hopper grants %u", round, rounded.report.grants[1]);
+        for (unsigned i = 0; i < rounded.report.count; i++)
+            printf(", delivered %lu", (unsigned long)rounded.report.delivered[i]);
+        printf("\n");
+        show("  after", floor);
+    }
+
+    answer = ceromby_stop(floor, 0);
+    printf("stop tile 0: %u\n", answer.refusal);
+    floor = answer.floor;
+    show("stopped", floor);
+    printf("stop tile 0 again: %u\n", ceromby_stop(floor, 0).refusal);
+    canister.number = 6;
+    printf("book canister 6: %u\n", ceromby_book(floor, 0, canister).refusal);
+    printf("stop the hopper: %u\n", ceromby_stop(floor, 1).refusal);
+
+    static uint8_t image[CEROMBY_LONGEST_IMAGE];
+    ceromby_written written = ceromby_write(floor, image, sizeof image);
+    printf("write: %u, %lu bytes\n", written.refusal, (unsigned long)written.length);
+    printf("write to 63 bytes: %u\n", ceromby_write(floor, image, 63).refusal);
+    answer = ceromby_load(image, written.length);
+    printf("load: %u, counters %lu %lu %lu\n", answer.refusal,
+           (unsigned long)answer.floor.counters.last,
+           (unsigned long)answer.floor.counters.booked,
+           (unsigned long)answer.floor.counters.delivered);
+    show("loaded", answer.floor);
+    printf("load without the last byte: %u\n", ceromby_load(image, written.length - 1).refusal);
+
+    static uint8_t again[CEROMBY_LONGEST_IMAGE];
+    written = ceromby_write(answer.floor, again, sizeof again);
+    printf("written again: %s\n",
+           memcmp(image, again, written.length) == 0 ? "the same bytes" : "other bytes");
+    return 0;
+}

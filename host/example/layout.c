@@ -1,0 +1,60 @@
+/* Prints the size and field offsets of every struct of the header. */
+
+#include <stdio.h>
+
+#include "ceromby.h"
+
+#define SIZE(type) printf(#type " %zu\n", sizeof(ceromby_##type))
+#define FIELD(type, field) printf(#type "." #field " %zu\n", offsetof(ceromby_##type, field))
+
+int main(void) {
+    SIZE(canister);
+    FIELD(canister, number);
+    FIELD(canister, a);
+    FIELD(canister, b);
+    SIZE(side);
+    FIELD(side, code);
+    SIZE(tile);
+    FIELD(tile, running);
+    FIELD(tile, distance);
+    FIELD(tile, next);
+    FIELD(tile, token);
+    FIELD(tile, count);
+    SIZE(settings);
+    FIELD(settings, columns);
+    FIELD(settings, rows);
+    FIELD(settings, hopper);
+    FIELD(settings, sources);
+    FIELD(settings, width);
+    FIELD(settings, length);
+    FIELD(settings, gap);
+    FIELD(settings, travel);
+    SIZE(counters);
+    FIELD(counters, last);
+    FIELD(counters, booked);
+    FIELD(counters, delivered);
+    SIZE(floor);
+    FIELD(floor, settings);
+    FIELD(floor, counters);
+    FIELD(floor, tiles);
+    FIELD(floor, canisters);
+    SIZE(report);
+    FIELD(report, grants);
+    FIELD(report, count);
+    FIELD(report, delivered);
+    SIZE(answer);
+    FIELD(answer, refusal);
+    FIELD(answer, floor);
+    SIZE(rounded);
+    FIELD(rounded, refusal);
+    FIELD(rounded, floor);
+    FIELD(rounded, report);
+    SIZE(reading);
+    FIELD(reading, refusal);
+    FIELD(reading, tile);
+    FIELD(reading, members);
+    SIZE(written);
+    FIELD(written, refusal);
+    FIELD(written, length);
+    return 0;
+}

@@ -1,0 +1,84 @@
+//! Deliberate faults, to see that the comparison runs find them. Without the
+//! feature `faults` none can be switched on.
+
+#[cfg(feature = "faults")]
+use core::sync::atomic::{AtomicU8, Ordering};
+
+macro_rules! faults {
+    ($($fault:ident $name:literal $text:literal)*) => {
+        #[derive(Clone, Copy, PartialEq, Eq, Debug)]
+        pub enum Fault {
+            $($fault),*
+        }
+
+        #[cfg(feature = "faults")]
+        impl Fault {
+            pub const ALL: &'static [Fault] = &[$(Fault::$fault),*];
+
+            pub fn name(self) -> &'static str {
+                match self {
+                    $(Fault::$fault => $name),*
+                }
+            }
+
+            pub fn text(self) -> &'static str {
+                match self {
+                    $(Fault::$fault => $text),*
+                }
+            }
+        }
+    };
+}
+
+faults! {
+    LaterSide "later-side" "ties between neighbours go to the later side"
+    NoCut "no-cut" "a distance isn't cut at C"
+    RouteInPlace "route-in-place" "route reads distances of this round"
+    OldArrow "old-arrow" "a side wants by the arrow before the round"
+    TurnNotPassed "turn-not-passed" "the turn stays with the side granted"
+    StoredTurnStays "stored-turn-stays" "without a gap the turn before the round stays"
+    TurnFromWest "turn-from-west" "a turn that no longer wants is sought from the west"
+    HopperTurnDropped "hopper-turn-dropped" "the hopper forgets its turn"
+    GapShort "gap-short" "the gap is one short of d"
+    CrossAtTouch "cross-at-touch" "a canister crosses east or north when it touches the border"
+    LandingShort "landing-short" "a canister lands one short of U - l"
+    DeliveredTwice "delivered-twice" "a delivery counts twice"
+    NumberBeforeStopped "number-before-stopped" "33 before 31"
+    BookTooStrict "book-too-strict" "34 at a spacing of exactly d"
+    TileCut "tile-cut" "the tile argument is cut to eight bits"
+    StopClears "stop-clears" "stop takes the canisters off"
+    MeasureBeforeSets "measure-before-sets" "3 before 2"
+    SpacingWraps "spacing-wraps" "l + r in sixteen bits"
+    UnusedUnchecked "unused-unchecked" "unused places of a tile may hold anything"
+    ZeroHeld "zero-held" "a canister on the floor may have number 0"
+    TurnUnchecked "turn-unchecked" "a turn may face no tile"
+    RepeatAccepted "repeat-accepted" "a number may stand on two tiles"
+    SumWraps "sum-wraps" "delivered + those on the floor in 32 bits"
+    BookedAboveLast "booked-above-last" "booked may pass the last number"
+    KindAsShape "kind-as-shape" "11 for 10"
+    KindBeforeEnd "kind-before-end" "10 before 9 in a record"
+    RunningEarly "running-early" "running 2 is refused as soon as it is read"
+    LeftoverLast "leftover-last" "12 before bytes left over"
+    PartialLoad "partial-load" "a refused load gives the part it read"
+    ExactBuffer "exact-buffer" "13 for a buffer of exactly the image's length"
+    TailTouched "tail-touched" "writing clears the bytes after the image"
+}
+
+#[cfg(feature = "faults")]
+static SWITCH: AtomicU8 = AtomicU8::new(0);
+
+/// Switches one fault on, or all off.
+#[cfg(feature = "faults")]
+pub fn switch(fault: Option<Fault>) {
+    SWITCH.store(fault.map_or(0, |fault| fault as u8 + 1), Ordering::Relaxed);
+}
+
+#[cfg(feature = "faults")]
+pub(crate) fn on(fault: Fault) -> bool {
+    SWITCH.load(Ordering::Relaxed) == fault as u8 + 1
+}
+
+#[cfg(not(feature = "faults"))]
+pub(crate) const fn on(_: Fault) -> bool {
+    false
+}

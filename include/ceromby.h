@@ -1,0 +1,151 @@
+/* The canister floor. Every struct goes by value; nothing is kept between calls. */
+
+#ifndef CEROMBY_H
+#define CEROMBY_H
+
+#include <stddef.h>
+#include <stdint.h>
+
+#ifdef __cplusplus
+extern "C" {
+#endif
+
+/* Sides, as stored in ceromby_side.code. */
+#define CEROMBY_SIDE_NONE 0
+#define CEROMBY_SIDE_WEST 1
+#define CEROMBY_SIDE_SOUTH 2
+#define CEROMBY_SIDE_NORTH 3
+#define CEROMBY_SIDE_EAST 4
+
+#define CEROMBY_DISTANCE_NONE 255
+#define CEROMBY_LONGEST_IMAGE 8748
+
+#define CEROMBY_MAX_TILES 64
+#define CEROMBY_PLACES 16 /* canister places of one tile */
+
+#define CEROMBY_ACCEPTED 0
+
+/* Refused because of the input. */
+#define CEROMBY_GRID 1            /* W, H or C outside its range */
+#define CEROMBY_SETS 2            /* hopper not on the floor, or a fill bit for the hopper or for no tile */
+#define CEROMBY_MEASURE 3         /* a measure breaks the rules */
+#define CEROMBY_NO_TILE 4         /* tile not on the floor */
+#define CEROMBY_NOT_A_SOURCE 5    /* booking on a tile outside the fill set */
+#define CEROMBY_NUMBER_ZERO 6     /* canister number 0 */
+#define CEROMBY_OUTSIDE 7         /* a or b above U - l */
+#define CEROMBY_STOP_OF_HOPPER 8  /* stop of the hopper */
+#define CEROMBY_IMAGE_ENDS 9      /* image ends within a record or without its end record, or goes on after it */
+#define CEROMBY_OTHER_KIND 10     /* record of another kind than the one due */
+#define CEROMBY_RECORD_SHAPE 11   /* wrong record length, or a fixed byte wrong */
+#define CEROMBY_IMAGE_MALFORMED 12 /* image complete, floor not well formed */
+#define CEROMBY_SHORT_BUFFER 13   /* buffer shorter than the image to write */
+
+/* Refused because of the state. */
+#define CEROMBY_MALFORMED 30      /* the floor handed in isn't well formed */
+#define CEROMBY_STOPPED 31        /* booking on a stopped tile, or stop of a stopped one */
+#define CEROMBY_RUNNING 32        /* repair of a running tile */
+#define CEROMBY_NUMBER_USED 33    /* canister number not above the last booked */
+#define CEROMBY_TOO_CLOSE 34      /* some canister of the tile differs by less than d in both a and b */
+
+typedef struct ceromby_canister {
+    uint32_t number; /* never 0 on a floor */
+    uint16_t a;      /* south-west corner, from the tile's; eastward */
+    uint16_t b;      /* the same, northward */
+} ceromby_canister;
+
+typedef struct ceromby_side {
+    uint8_t code;
+} ceromby_side;
+
+typedef struct ceromby_tile {
+    uint8_t running;    /* 1 running, 0 stopped */
+    uint8_t distance;   /* to the hopper, 255 none */
+    ceromby_side next;  /* the arrow */
+    ceromby_side token; /* the turn */
+    uint8_t count;      /* canisters on the tile */
+} ceromby_tile;
+
+typedef struct ceromby_settings {
+    uint8_t columns;  /* W */
+    uint8_t rows;     /* H */
+    uint8_t hopper;   /* tile number: column * H + row */
+    uint64_t sources; /* fill set, bit t for tile t */
+    uint16_t width;   /* U, side of a tile */
+    uint16_t length;  /* l, side of a canister */
+    uint16_t gap;     /* r, least gap */
+    uint16_t travel;  /* v, travel in a round */
+} ceromby_settings;
+
+typedef struct ceromby_counters {
+    uint32_t last; /* last number booked */
+    uint32_t booked;
+    uint32_t delivered;
+} ceromby_counters;
+
+/* Canisters of tile t are at places 16 t up to 16 t + count, by rising number.
+   Unused places and tiles are zero. */
+typedef struct ceromby_floor {
+    ceromby_settings settings;
+    ceromby_counters counters;
+    ceromby_tile tiles[CEROMBY_MAX_TILES];
+    ceromby_canister canisters[CEROMBY_MAX_TILES * CEROMBY_PLACES];
+} ceromby_floor;
+
+typedef struct ceromby_report {
+    uint8_t grants[CEROMBY_MAX_TILES]; /* the side each tile granted */
+    uint8_t count;                     /* how many were delivered */
+    uint32_t delivered[4];             /* their numbers, rising */
+} ceromby_report;
+
+/* In every answer, refusal 0 means accepted. */
+typedef struct ceromby_answer {
+    uint8_t refusal;
+    ceromby_floor floor;
+} ceromby_answer;
+
+typedef struct ceromby_rounded {
+    uint8_t refusal;
+    ceromby_floor floor;
+    ceromby_report report;
+} ceromby_rounded;
+
+typedef struct ceromby_reading {
+    uint8_t refusal;
+    ceromby_tile tile;
+    ceromby_canister members[CEROMBY_PLACES];
+} ceromby_reading;
+
+typedef struct ceromby_written {
+    uint8_t refusal;
+    uint32_t length; /* of the image */
+} ceromby_written;
+
+/* A floor without canisters. Refused by 1, 2, 3 with the all-zero floor. */
+ceromby_answer ceromby_fresh(ceromby_settings settings);
+
+/* Adds a canister. Refused by 30, 4, 5, 6, 7, 31, 33, 34. */
+ceromby_answer ceromby_book(ceromby_floor floor, uint32_t tile, ceromby_canister canister);
+
+/* Stops a tile; it keeps its canisters. Refused by 30, 4, 8, 31. */
+ceromby_answer ceromby_stop(ceromby_floor floor, uint32_t tile);
+
+/* Sets a stopped tile running. Refused by 30, 4, 32. */
+ceromby_answer ceromby_repair(ceromby_floor floor, uint32_t tile);
+
+/* One round: route, signal, move. Refused by 30. */
+ceromby_rounded ceromby_round(ceromby_floor floor);
+
+/* All that a tile has. Refused by 30, 4. */
+ceromby_reading ceromby_read(ceromby_floor floor, uint32_t tile);
+
+/* The floor of an image. Refused by 9, 10, 11, 1, 2, 3, 12 with the all-zero floor. */
+ceromby_answer ceromby_load(const uint8_t *bytes, size_t length);
+
+/* Writes an image and leaves the bytes after it. Refused by 30, 13. */
+ceromby_written ceromby_write(ceromby_floor floor, uint8_t *buffer, size_t length);
+
+#ifdef __cplusplus
+}
+#endif
+
+#endif
