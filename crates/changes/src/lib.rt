@@ -6,7 +6,6 @@ ghost use lib.ListN.{getD, take};
 ghost use Rattle.laws.specs.Define.{tab, allOf, refusal};
 ghost use Rattle.floor.specs.Settings.{total, spacing, settingsPass};
 ghost use Rattle.floor.specs.Model.{tileOf, membersOf, withTile};
-ghost use Rattle.floor.specs.Memory as M;
 ghost use Rattle.floor.specs.Memory.{zeroCanister, view, head, pack};
 ghost use Rattle.floor.specs.Well.{apart, wellFormed};
 ghost use Rattle.floor.specs.Calls.{freshTile, freshFloor, bookTests, booked, stopTests, stopped, repairTests, repaired, readTests};
@@ -18,47 +17,10 @@ use floor::Members;
 use floor::Settings;
 use floor::Side;
 use floor::Tile;
+use floor::zero_floor;
 use members::insert;
 use sets::has;
 use settings::tiles_of;
-
-// The all-zero floor.
-pub fn zero_floor() -> Floor
-    ensures { λ r. ⌜ r ≡ M.zeroFloor ⌝ }
-{
-    let none = Side::NONE;
-    let tile = Tile {
-        running: 0,
-        distance: 0,
-        next: none,
-        token: none,
-        count: 0,
-    };
-    let canister = Canister {
-        number: 0,
-        a: 0,
-        b: 0,
-    };
-    Floor {
-        settings: Settings {
-            columns: 0,
-            rows: 0,
-            hopper: 0,
-            sources: 0,
-            width: 0,
-            length: 0,
-            gap: 0,
-            travel: 0,
-        },
-        counters: Counters {
-            last: 0,
-            booked: 0,
-            delivered: 0,
-        },
-        tiles: [tile; 64],
-        canisters: [canister; 1024],
-    }
-}
 
 // A tile of a fresh floor.
 pub fn fresh_tile(s: Settings, t: usize) -> Tile

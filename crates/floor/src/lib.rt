@@ -6,6 +6,7 @@ ghost use Rattle.floor.specs.Settings.{total};
 ghost use Rattle.floor.specs.Sides as S;
 ghost use Rattle.floor.specs.Sides.{inSet};
 ghost use Rattle.floor.specs.Grid as G;
+ghost use Rattle.floor.specs.Memory.{zeroFloor};
 
 // A canister: its number, never 0, and its place, the south-west corner measured from the tile's.
 #[repr(C)]
@@ -179,4 +180,42 @@ pub struct Heading {
 pub struct Signal {
     pub token: u8,
     pub grant: u8,
+}
+
+// The all-zero floor.
+pub fn zero_floor() -> Floor
+    ensures { λ r. ⌜ r ≡ zeroFloor ⌝ }
+{
+    let none = Side::NONE;
+    let tile = Tile {
+        running: 0,
+        distance: 0,
+        next: none,
+        token: none,
+        count: 0,
+    };
+    let canister = Canister {
+        number: 0,
+        a: 0,
+        b: 0,
+    };
+    Floor {
+        settings: Settings {
+            columns: 0,
+            rows: 0,
+            hopper: 0,
+            sources: 0,
+            width: 0,
+            length: 0,
+            gap: 0,
+            travel: 0,
+        },
+        counters: Counters {
+            last: 0,
+            booked: 0,
+            delivered: 0,
+        },
+        tiles: [tile; 64],
+        canisters: [canister; 1024],
+    }
 }

@@ -16,6 +16,7 @@ use floor::Floor;
 use floor::Settings;
 use floor::Side;
 use floor::Tile;
+use floor::zero_floor;
 use settings::settings_refusal;
 use wire::u16_at;
 use wire::u32_at;
@@ -294,44 +295,6 @@ fn canisters_of(s: &[u8], starts: [usize; 64], c: usize) -> [Canister; 1024]
         out[k] = canister_or_zero(s, at, used, k % 16);
     }
     out
-}
-
-// The all-zero floor.
-pub fn zero_floor() -> Floor
-    ensures { λ r. ⌜ r ≡ zeroFloor ⌝ }
-{
-    let none = Side { code: 0 };
-    let tile = Tile {
-        running: 0,
-        distance: 0,
-        next: none,
-        token: none,
-        count: 0,
-    };
-    let can = Canister {
-        number: 0,
-        a: 0,
-        b: 0,
-    };
-    Floor {
-        settings: Settings {
-            columns: 0,
-            rows: 0,
-            hopper: 0,
-            sources: 0,
-            width: 0,
-            length: 0,
-            gap: 0,
-            travel: 0,
-        },
-        counters: Counters {
-            last: 0,
-            booked: 0,
-            delivered: 0,
-        },
-        tiles: [tile; 64],
-        canisters: [can; 1024],
-    }
 }
 
 // A refusal: its number and the all-zero floor.

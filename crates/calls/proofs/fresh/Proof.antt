@@ -6,7 +6,7 @@ use Rattle.calls.proofs.fresh.Tie as tie
 use Rattle.calls.proofs.fresh.Reads as reads
 use Rattle.calls.proofs.fresh.Lts as lts
 use Rattle.changes.proofs.fresh_floor.Reads as fresh-floor-reads
-use Rattle.changes.proofs.zero_floor.Reads as zero-floor-reads
+use Rattle.floor.proofs.zero_floor.Reads as zero-floor-reads
 use Rattle.settings.proofs.settings_refusal.Reads as settings-refusal-reads
 
 -- src/lib.rt:30:9

@@ -14,7 +14,7 @@ use Rattle.changes.proofs.fresh_floor.Tie as tie
 use Rattle.changes.proofs.fresh_floor.Reads as reads
 use Rattle.changes.proofs.fresh_floor.Lts as lts
 use Rattle.changes.proofs.fresh_tile.Reads as fresh-tile-reads
-use Rattle.changes.proofs.zero_floor.Reads as zero-floor-reads
+use Rattle.floor.proofs.zero_floor.Reads as zero-floor-reads
 use Rattle.settings.proofs.tiles_of.Reads as tiles-of-reads
 
 abbrev Inv-loop : tie.InvT-loop

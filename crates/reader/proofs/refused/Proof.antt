@@ -3,7 +3,7 @@ use Rattle.reader.proofs.refused.Statement.{statement}
 use Rattle.reader.proofs.refused.Tie as tie
 use Rattle.reader.proofs.refused.Reads as reads
 use Rattle.reader.proofs.refused.Lts as lts
-use Rattle.reader.proofs.zero_floor.Reads as zero-floor-reads
+use Rattle.floor.proofs.zero_floor.Reads as zero-floor-reads
 
 zero-floor-requires : tie.Need-zero-floor-requires
 zero-floor-requires c κs = search needs

@@ -1,0 +1,109 @@
+//! Random calls for a floor.
+
+use super::*;
+
+/// A call that belongs in a list.
+#[derive(Clone, Copy, PartialEq, Eq, Debug)]
+pub enum Call {
+    Book { tile: u32, canister: Canister },
+    Stop { tile: u32 },
+    Repair { tile: u32 },
+    Round,
+}
+
+/// A call for the given well-formed floor, mostly a sensible one.
+pub fn call(rng: &mut Rng, floor: &Floor) -> Call {
+    match rng.below(20) {
+        0..=10 => Call::Round,
+        11..=16 => Call::Book {
+            tile: booking_tile(rng, floor),
+            canister: booking(rng, floor),
+        },
+        17 => Call::Stop {
+            tile: tile_that(rng, floor, |tile| tile.running == 1),
+        },
+        _ => Call::Repair {
+            tile: tile_that(rng, floor, |tile| tile.running == 0),
+        },
+    }
+}
+
+/// A call that every well-formed floor refuses.
+pub fn refused_call(rng: &mut Rng, floor: &Floor) -> Call {
+    let outside = rng.u32(64, u32::MAX);
+    match rng.below(4) {
+        0 => Call::Stop { tile: outside },
+        1 => Call::Repair { tile: outside },
+        2 => Call::Stop {
+            tile: floor.settings.hopper.into(),
+        },
+        _ => Call::Book {
+            tile: booking_tile(rng, floor),
+            canister: Canister {
+                number: 0,
+                ..booking(rng, floor)
+            },
+        },
+    }
+}
+
+/// Any tile number, on the floor or not.
+pub fn any_tile(rng: &mut Rng, floor: &Floor) -> u32 {
+    let tiles = floor.settings.tile_count().max(1) as u32;
+    match rng.below(8) {
+        0 => tiles,
+        1 => rng.pick(&[64, 255, 256, 1 << 16, u32::MAX]),
+        2 => 256 + rng.u32(0, tiles - 1),
+        _ => rng.u32(0, tiles - 1),
+    }
+}
+
+fn tile_that(rng: &mut Rng, floor: &Floor, fits: impl Fn(&Tile) -> bool) -> u32 {
+    let mut tile = any_tile(rng, floor);
+    if rng.chance(9, 10) {
+        for _ in 0..16 {
+            tile = rng.u32(0, floor.settings.tile_count() as u32 - 1);
+            if fits(&floor.tiles[tile as usize]) {
+                break;
+            }
+        }
+    }
+    tile
+}
+
+fn booking_tile(rng: &mut Rng, floor: &Floor) -> u32 {
+    let mut tile = any_tile(rng, floor);
+    if rng.chance(19, 20) {
+        for _ in 0..16 {
+            tile = rng.u32(0, floor.settings.tile_count() as u32 - 1);
+            if floor.settings.is_source(tile as usize) && floor.tiles[tile as usize].running == 1 {
+                break;
+            }
+        }
+    }
+    tile
+}
+
+fn booking(rng: &mut Rng, floor: &Floor) -> Canister {
+    let settings = &floor.settings;
+    let last = floor.counters.last;
+    let number = match rng.below(30) {
+        0 => 0,
+        1 => last,
+        2 => rng.u32(0, last),
+        _ => last.saturating_add(rng.u32(1, 3)),
+    };
+    let mut canister = Canister {
+        number,
+        a: coordinate(rng, settings),
+        b: coordinate(rng, settings),
+    };
+    match rng.below(40) {
+        0 => canister.a = rng.u16(settings.span() + 1, u16::MAX),
+        1 => canister.b = rng.u16(settings.span() + 1, u16::MAX),
+        2 => canister.a = settings.span() + 1,
+        3 => canister.b = settings.span() + 1,
+        _ => {}
+    }
+    canister
+}
