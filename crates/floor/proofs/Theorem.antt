@@ -71,6 +71,7 @@ module _ (f : Floor) (w : wellFormed f ≡ true) (cs : List Call) (typed : All T
     now = now;
     is-now = refl;
     well = well;
+    same-settings = same;
     within = λ t. subst (λ (s : Settings). allOf (inside s) (membersOf (view now) t) ≡ true) same (r-all (inside (view now .settings)) (Inside (view now .settings)) (inside-fact (view now .settings)) (membersOf (view now) t) .1 (S .inside t));
     spaced = λ t.
         subst (λ (s : Settings). pairsOf (apart (spacing s)) (membersOf (view now) t) ≡ true) same

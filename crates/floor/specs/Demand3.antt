@@ -95,6 +95,7 @@ pub record Promises (f : Floor) (cs : List Call) : Type 0 where
   pub now : Floor
   pub is-now : now ≡ floorAfter f cs
   pub well : wellFormed now ≡ true
+  pub same-settings : now .settings ≡ f .settings
   -- "each a and b is from 0 to U - l"; "two canisters of one tile differ by at least d in a or in b"
   pub within : (t : ℕ) → allOf (inside (f .settings)) (membersOf (view now) t) ≡ true
   pub spaced : (t : ℕ) → pairsOf (apart (spacing (f .settings))) (membersOf (view now) t) ≡ true

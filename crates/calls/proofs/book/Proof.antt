@@ -13,22 +13,18 @@ use Rattle.changes.proofs.book_refusal.Reads as book-refusal-reads
 use Rattle.changes.proofs.booked_floor.Reads as booked-floor-reads
 use Rattle.soundness.proofs.well_formed.Reads as well-formed-reads
 
--- src/lib.rt:49:9
 well-formed-requires : tie.Need-well-formed-requires
 well-formed-requires c κs = search needs
 
--- src/lib.rt:51:9
 returns : tie.Need-returns
 unfolding bookAnswer
 returns c = let g = c .before .before .args in
     let w = sym (c .before .well-formed .ensures) ∙ not-true _ (c .if1 .taken) in
     answer-refused g.floor (bookTests (view g.floor) g.tile g.canister) (booked (view g.floor) g.tile g.canister) 30 (malformed g.floor (bookTests (view g.floor) g.tile g.canister) w) (omega arith)
 
--- src/lib.rt:56:9
 book-refusal-requires : tie.Need-book-refusal-requires
 book-refusal-requires c κs = sym (c .before .well-formed .ensures) ∙ not-false _ (c .if1 .left)
 
--- src/lib.rt:58:9
 returns-2 : tie.Need-returns-2
 unfolding bookAnswer
 returns-2 c = let g = c .before .before .before .before .args in
@@ -36,14 +32,12 @@ returns-2 c = let g = c .before .before .before .before .args in
     let n = c .before .book-refusal in
     answer-refused g.floor (bookTests (view g.floor) g.tile g.canister) (booked (view g.floor) g.tile g.canister) (n .result) (formed g.floor (bookTests (view g.floor) g.tile g.canister) (n .result) w (n .ensures)) (c .if2 .taken)
 
--- src/lib.rt:63:9
 booked-floor-requires : tie.Need-booked-floor-requires
 booked-floor-requires c κs = let g = c .before .before .before .before .args in
     let w = sym (c .before .before .before .well-formed .ensures) ∙ not-false _ (c .before .before .if1 .left) in
     let n = c .before .book-refusal in
     (w, sym (n .ensures) ∙ c .if2 .left)
 
--- src/lib.rt:46:1
 returns-3 : tie.Need-returns-3
 unfolding bookAnswer
 returns-3 c = let g = c .before .before .before .before .before .args in

@@ -9,28 +9,23 @@ use Rattle.changes.proofs.fresh_floor.Reads as fresh-floor-reads
 use Rattle.floor.proofs.zero_floor.Reads as zero-floor-reads
 use Rattle.settings.proofs.settings_refusal.Reads as settings-refusal-reads
 
--- src/lib.rt:30:9
 settings-refusal-requires : tie.Need-settings-refusal-requires
 settings-refusal-requires c κs = search needs
 
--- src/lib.rt:32:13
 zero-floor-requires : tie.Need-zero-floor-requires
 zero-floor-requires c κs = search needs
 
--- src/lib.rt:33:9
 returns : tie.Need-returns
 returns c = let g = c .before .before .before .args in
     let n = c .before .before .settings-refusal in
     let z = c .zero-floor in
     fresh-refused g.settings (z .result) (n .result) (n .ensures) (c .before .if1 .taken) (z .ensures)
 
--- src/lib.rt:38:9
 fresh-floor-requires : tie.Need-fresh-floor-requires
 fresh-floor-requires c κs = let g = c .before .before .args in
     let n = c .before .settings-refusal in
     fresh-pass g.settings (n .result) (n .ensures) (c .if1 .left)
 
--- src/lib.rt:27:1
 returns-2 : tie.Need-returns-2
 returns-2 c = let g = c .before .before .before .args in
     let n = c .before .before .settings-refusal in

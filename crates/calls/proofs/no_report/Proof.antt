@@ -5,7 +5,6 @@ use Rattle.calls.proofs.no_report.Tie as tie
 use Rattle.calls.proofs.no_report.Reads as reads
 use Rattle.calls.proofs.no_report.Lts as lts
 
--- src/lib.rt:169:1
 returns : tie.Need-returns
 unfolding zeroReport
 returns c = refl

@@ -16,30 +16,24 @@ use Rattle.changes.proofs.tile_head.Reads as tile-head-reads
 use Rattle.changes.proofs.tile_members.Reads as tile-members-reads
 use Rattle.soundness.proofs.well_formed.Reads as well-formed-reads
 
--- src/lib.rt:147:9
 well-formed-requires : tie.Need-well-formed-requires
 well-formed-requires c κs = search needs
 
--- src/lib.rt:149:9
 unread-requires : tie.Need-unread-requires
 unread-requires c κs = search needs
 
--- src/lib.rt:149:9
 returns : tie.Need-returns
 returns c = let g = c .before .before .before .args in
     let w = sym (c .before .before .well-formed .ensures) ∙ not-true _ (c .before .if1 .taken) in
     let r = c .unread in
     read-refused g.floor g.tile 30 (r .result) (malformed g.floor (readTests (view g.floor) g.tile) w) (omega arith) (r .ensures)
 
--- src/lib.rt:151:9
 read-refusal-requires : tie.Need-read-refusal-requires
 read-refusal-requires c κs = sym (c .before .well-formed .ensures) ∙ not-false _ (c .if1 .left)
 
--- src/lib.rt:153:9
 unread-requires-2 : tie.Need-unread-requires-2
 unread-requires-2 c κs = search needs
 
--- src/lib.rt:153:9
 returns-2 : tie.Need-returns-2
 returns-2 c = let g = c .before .before .before .before .before .args in
     let w = sym (c .before .before .before .before .well-formed .ensures) ∙ not-false _ (c .before .before .before .if1 .left) in
@@ -47,21 +41,18 @@ returns-2 c = let g = c .before .before .before .before .before .args in
     let r = c .unread2 in
     read-refused g.floor g.tile (n .result) (r .result) (formed g.floor (readTests (view g.floor) g.tile) (n .result) w (n .ensures)) (c .before .if2 .taken) (r .ensures)
 
--- src/lib.rt:155:9
 tile-head-requires : tie.Need-tile-head-requires
 tile-head-requires c κs = let g = c .before .before .before .before .args in
     let w = sym (c .before .before .before .well-formed .ensures) ∙ not-false _ (c .before .before .if1 .left) in
     let n = c .before .read-refusal in
     (w, read-on g.floor g.tile (sym (n .ensures) ∙ c .if2 .left))
 
--- src/lib.rt:156:9
 tile-members-requires : tie.Need-tile-members-requires
 tile-members-requires c κs = let g = c .before .before .before .before .before .args in
     let w = sym (c .before .before .before .before .well-formed .ensures) ∙ not-false _ (c .before .before .before .if1 .left) in
     let n = c .before .before .read-refusal in
     (w, read-on g.floor g.tile (sym (n .ensures) ∙ c .before .if2 .left))
 
--- src/lib.rt:144:1
 returns-3 : tie.Need-returns-3
 returns-3 c = let g = c .before .before .before .before .before .before .args in
     let w = sym (c .before .before .before .before .before .well-formed .ensures) ∙ not-false _ (c .before .before .before .before .if1 .left) in

@@ -14,22 +14,18 @@ use Rattle.changes.proofs.repair_refusal.Reads as repair-refusal-reads
 use Rattle.changes.proofs.repaired_floor.Reads as repaired-floor-reads
 use Rattle.soundness.proofs.well_formed.Reads as well-formed-reads
 
--- src/lib.rt:99:9
 well-formed-requires : tie.Need-well-formed-requires
 well-formed-requires c κs = search needs
 
--- src/lib.rt:101:9
 returns : tie.Need-returns
 unfolding repairAnswer
 returns c = let g = c .before .before .args in
     let w = sym (c .before .well-formed .ensures) ∙ not-true _ (c .if1 .taken) in
     answer-refused g.floor (repairTests (view g.floor) g.tile) (withTile (view g.floor) g.tile (repaired (tileOf (view g.floor) g.tile))) 30 (malformed g.floor (repairTests (view g.floor) g.tile) w) (omega arith)
 
--- src/lib.rt:106:9
 repair-refusal-requires : tie.Need-repair-refusal-requires
 repair-refusal-requires c κs = sym (c .before .well-formed .ensures) ∙ not-false _ (c .if1 .left)
 
--- src/lib.rt:108:9
 returns-2 : tie.Need-returns-2
 unfolding repairAnswer
 returns-2 c = let g = c .before .before .before .before .args in
@@ -37,14 +33,12 @@ returns-2 c = let g = c .before .before .before .before .args in
     let n = c .before .repair-refusal in
     answer-refused g.floor (repairTests (view g.floor) g.tile) (withTile (view g.floor) g.tile (repaired (tileOf (view g.floor) g.tile))) (n .result) (formed g.floor (repairTests (view g.floor) g.tile) (n .result) w (n .ensures)) (c .if2 .taken)
 
--- src/lib.rt:113:9
 repaired-floor-requires : tie.Need-repaired-floor-requires
 repaired-floor-requires c κs = let g = c .before .before .before .before .args in
     let w = sym (c .before .before .before .well-formed .ensures) ∙ not-false _ (c .before .before .if1 .left) in
     let n = c .before .repair-refusal in
     (w, sym (n .ensures) ∙ c .if2 .left)
 
--- src/lib.rt:96:1
 returns-3 : tie.Need-returns-3
 unfolding repairAnswer
 returns-3 c = let g = c .before .before .before .before .before .args in

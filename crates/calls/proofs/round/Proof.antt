@@ -11,33 +11,27 @@ use Rattle.motion.proofs.move_floor.Reads as move-floor-reads
 use Rattle.signal.proofs.route_and_signal.Reads as route-and-signal-reads
 use Rattle.soundness.proofs.well_formed.Reads as well-formed-reads
 
--- src/lib.rt:183:9
 well-formed-requires : tie.Need-well-formed-requires
 well-formed-requires c κs = search needs
 
--- src/lib.rt:185:13
 no-report-requires : tie.Need-no-report-requires
 no-report-requires c κs = search needs
 
--- src/lib.rt:186:9
 returns : tie.Need-returns
 returns c = let g = c .before .before .before .args in
     let w = sym (c .before .before .well-formed .ensures) ∙ not-true _ (c .before .if1 .taken) in
     let r = c .no-report in
     round-refused g.floor (r .result) w (r .ensures)
 
--- src/lib.rt:192:9
 route-and-signal-requires : tie.Need-route-and-signal-requires
 route-and-signal-requires c κs = sym (c .before .well-formed .ensures) ∙ not-false _ (c .if1 .left)
 
--- src/lib.rt:195:9
 move-floor-requires : tie.Need-move-floor-requires
 move-floor-requires c κs = let g = c .before .before .before .before .before .args in
     let w = sym (c .before .before .before .before .well-formed .ensures) ∙ not-false _ (c .before .before .before .if1 .left) in
     let x = c .before .before .route-and-signal in
     move-asks g.floor w (x .result) (x .ensures)
 
--- src/lib.rt:180:1
 returns-2 : tie.Need-returns-2
 returns-2 c = let g = c .before .before .before .before .before .before .before .before .args in
     let w = sym (c .before .before .before .before .before .before .before .well-formed .ensures) ∙ not-false _ (c .before .before .before .before .before .before .if1 .left) in

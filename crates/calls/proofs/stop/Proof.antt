@@ -14,22 +14,18 @@ use Rattle.changes.proofs.stop_refusal.Reads as stop-refusal-reads
 use Rattle.changes.proofs.stopped_floor.Reads as stopped-floor-reads
 use Rattle.soundness.proofs.well_formed.Reads as well-formed-reads
 
--- src/lib.rt:74:9
 well-formed-requires : tie.Need-well-formed-requires
 well-formed-requires c κs = search needs
 
--- src/lib.rt:76:9
 returns : tie.Need-returns
 unfolding stopAnswer
 returns c = let g = c .before .before .args in
     let w = sym (c .before .well-formed .ensures) ∙ not-true _ (c .if1 .taken) in
     answer-refused g.floor (stopTests (view g.floor) g.tile) (withTile (view g.floor) g.tile (stopped (tileOf (view g.floor) g.tile))) 30 (malformed g.floor (stopTests (view g.floor) g.tile) w) (omega arith)
 
--- src/lib.rt:81:9
 stop-refusal-requires : tie.Need-stop-refusal-requires
 stop-refusal-requires c κs = sym (c .before .well-formed .ensures) ∙ not-false _ (c .if1 .left)
 
--- src/lib.rt:83:9
 returns-2 : tie.Need-returns-2
 unfolding stopAnswer
 returns-2 c = let g = c .before .before .before .before .args in
@@ -37,14 +33,12 @@ returns-2 c = let g = c .before .before .before .before .args in
     let n = c .before .stop-refusal in
     answer-refused g.floor (stopTests (view g.floor) g.tile) (withTile (view g.floor) g.tile (stopped (tileOf (view g.floor) g.tile))) (n .result) (formed g.floor (stopTests (view g.floor) g.tile) (n .result) w (n .ensures)) (c .if2 .taken)
 
--- src/lib.rt:88:9
 stopped-floor-requires : tie.Need-stopped-floor-requires
 stopped-floor-requires c κs = let g = c .before .before .before .before .args in
     let w = sym (c .before .before .before .well-formed .ensures) ∙ not-false _ (c .before .before .if1 .left) in
     let n = c .before .stop-refusal in
     (w, sym (n .ensures) ∙ c .if2 .left)
 
--- src/lib.rt:71:1
 returns-3 : tie.Need-returns-3
 unfolding stopAnswer
 returns-3 c = let g = c .before .before .before .before .before .args in

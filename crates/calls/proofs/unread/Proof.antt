@@ -5,7 +5,6 @@ use Rattle.calls.proofs.unread.Tie as tie
 use Rattle.calls.proofs.unread.Reads as reads
 use Rattle.calls.proofs.unread.Lts as lts
 
--- src/lib.rt:121:1
 returns : tie.Need-returns
 unfolding unreadWith
 returns c = refl

@@ -22,30 +22,24 @@ Inv-loop keys heads₀ prev₀ left₀ i₀ heads prev left i = (i ≤ 1024) × 
 abbrev μ-loop : tie.MeasureT-loop
 μ-loop keys heads₀ prev₀ left₀ i₀ heads prev left i = 1024 - i
 
--- src/lib.rt:20:5
 loop-holds : tie.Need-loop-holds Inv-loop2 μ-loop2 Inv-loop μ-loop
 loop-holds c = (omega arith, c .good .0 .1 .0 .1, refl, refl, heads-none (c .args .t1), λ j h. absurd (omega arith), λ j k a b. absurd (omega arith))
 
--- src/lib.rt:21:17
 mul-n : tie.Need-mul-n Inv-loop2 μ-loop2 Inv-loop μ-loop
 mul-n c = search needs
 
--- src/lib.rt:21:17
 array-read-n : tie.Need-array-read-n Inv-loop2 μ-loop2 Inv-loop μ-loop
 array-read-n c = search needs
 
--- src/lib.rt:23:13
 mul-i : tie.Need-mul-i Inv-loop2 μ-loop2 Inv-loop μ-loop
 mul-i c = search needs
 
 add-i : tie.Need-add-i Inv-loop2 μ-loop2 Inv-loop μ-loop
 add-i c = search needs
 
--- src/lib.rt:20:5
 loop-less : tie.Need-loop-less Inv-loop2 μ-loop2 Inv-loop μ-loop
 loop-less c = search needs
 
--- src/lib.rt:20:5
 loop-again : tie.Need-loop-again Inv-loop2 μ-loop2 Inv-loop μ-loop
 loop-again c =
     let l = c .before .before .loop in
@@ -54,23 +48,18 @@ loop-again c =
     let n = l .i / 16 * 16 + 16 in
     (omega arith, l .inv .1, l .inv .2, l .inv .3, heads-zero g.t1 (l .heads) (l .i) n z (l .inv .4), prevs-zero g.t1 (l .prev) (l .i) n z (l .inv .5), unlike-zero g.t1 (l .i) n z (l .inv .6))
 
--- src/lib.rt:25:21
 cast-h : tie.Need-cast-h Inv-loop2 μ-loop2 Inv-loop μ-loop
 cast-h c = search needs
 
--- src/lib.rt:26:25
 mul-first : tie.Need-mul-first Inv-loop2 μ-loop2 Inv-loop μ-loop
 mul-first c = search needs
 
--- src/lib.rt:26:25
 array-read-first : tie.Need-array-read-first Inv-loop2 μ-loop2 Inv-loop μ-loop
 array-read-first c = search needs
 
--- src/lib.rt:27:17
 wide-requires : tie.Need-wide-requires Inv-loop2 μ-loop2 Inv-loop μ-loop
 wide-requires c κs = search needs
 
--- src/lib.rt:28:13
 loop2-holds : tie.Need-loop2-holds Inv-loop2 μ-loop2 Inv-loop μ-loop
 loop2-holds c =
     let l = c .before .before .before .loop in
@@ -79,19 +68,15 @@ loop2-holds c =
     let u : Unseen g.t1 (at g.t1 (l .i)) (c .wide .result) (l .i) = subst (λ (x : ℕ). Unseen g.t1 (at g.t1 (l .i)) x (l .i)) (sym (c .wide .ensures)) (unseen-start g.t1 (l .heads) (at g.t1 (l .i)) (l .i) pos (l .inv .4)) in
     (omega arith, u .0, l .inv .1, l .inv .2, l .inv .3, u)
 
--- src/lib.rt:29:25
 sub-q : tie.Need-sub-q Inv-loop2 μ-loop2 Inv-loop μ-loop
 sub-q c = search needs
 
--- src/lib.rt:30:20
 mul-if2 : tie.Need-mul-if2 Inv-loop2 μ-loop2 Inv-loop μ-loop
 mul-if2 c = search needs
 
--- src/lib.rt:30:20
 array-read-if2 : tie.Need-array-read-if2 Inv-loop2 μ-loop2 Inv-loop μ-loop
 array-read-if2 c = search needs
 
--- src/lib.rt:31:21
 returns : tie.Need-returns Inv-loop2 μ-loop2 Inv-loop μ-loop
 returns c =
     let l = c .before .before .loop2 in
@@ -100,27 +85,21 @@ returns c =
     let pos : 0 < at g.t1 (o .i) = omega (arith, c .before .before .before .before .if1 .left) in
     (λ _. told-equal g.t1 (l .p - 1) (o .i) (omega arith) (omega arith) (c .if2 .taken) pos, λ e. absurd (omega (arith, e)))
 
--- src/lib.rt:34:21
 returns-2 : tie.Need-returns-2 Inv-loop2 μ-loop2 Inv-loop μ-loop
 returns-2 c = (λ e. absurd (omega (arith, e)), λ e. absurd (omega (arith, e)))
 
--- src/lib.rt:36:17
 sub-left : tie.Need-sub-left Inv-loop2 μ-loop2 Inv-loop μ-loop
 sub-left c = search needs
 
--- src/lib.rt:37:30
 mul-before : tie.Need-mul-before Inv-loop2 μ-loop2 Inv-loop μ-loop
 mul-before c = search needs
 
--- src/lib.rt:37:30
 array-read-before : tie.Need-array-read-before Inv-loop2 μ-loop2 Inv-loop μ-loop
 array-read-before c = search needs
 
--- src/lib.rt:38:17
 wide-requires-2 : tie.Need-wide-requires-2 Inv-loop2 μ-loop2 Inv-loop μ-loop
 wide-requires-2 c κs = search needs
 
--- src/lib.rt:28:13
 loop2-less : tie.Need-loop2-less Inv-loop2 μ-loop2 Inv-loop μ-loop
 loop2-less c =
     let l = c .before .before .before .before .loop2 in
@@ -129,7 +108,6 @@ loop2-less c =
     let some : 0 < l .p = omega arith in
     omega (arith, c .wide2 .ensures, prev-below g.t1 (o .prev) (at g.t1 (o .i)) (l .p) (l .p - 1) (o .i) (o .inv .5) (l .inv .5) some refl)
 
--- src/lib.rt:28:13
 loop2-again : tie.Need-loop2-again Inv-loop2 μ-loop2 Inv-loop μ-loop
 loop2-again c =
     let l = c .before .before .before .before .loop2 in
@@ -141,39 +119,30 @@ loop2-again c =
     let u : Unseen g.t1 (at g.t1 (o .i)) (c .wide2 .result) (o .i) = subst (λ (x : ℕ). Unseen g.t1 (at g.t1 (o .i)) x (o .i)) (sym (c .wide2 .ensures)) next in
     (l .inv .0, u .0, l .inv .2, l .inv .3, l .inv .4, u)
 
--- src/lib.rt:40:13
 mul-prev : tie.Need-mul-prev Inv-loop2 μ-loop2 Inv-loop μ-loop
 mul-prev c = search needs
 
--- src/lib.rt:40:13
 array-write-prev : tie.Need-array-write-prev Inv-loop2 μ-loop2 Inv-loop μ-loop
 array-write-prev c = search needs
 
--- src/lib.rt:41:25
 add-heads : tie.Need-add-heads Inv-loop2 μ-loop2 Inv-loop μ-loop
 add-heads c = search needs
 
--- src/lib.rt:41:24
 cast-heads : tie.Need-cast-heads Inv-loop2 μ-loop2 Inv-loop μ-loop
 cast-heads c = search needs
 
--- src/lib.rt:41:13
 mul-heads : tie.Need-mul-heads Inv-loop2 μ-loop2 Inv-loop μ-loop
 mul-heads c = search needs
 
--- src/lib.rt:41:13
 array-write-heads : tie.Need-array-write-heads Inv-loop2 μ-loop2 Inv-loop μ-loop
 array-write-heads c = search needs
 
--- src/lib.rt:42:13
 add-i-2 : tie.Need-add-i-2 Inv-loop2 μ-loop2 Inv-loop μ-loop
 add-i-2 c = search needs
 
--- src/lib.rt:20:5
 loop-less-2 : tie.Need-loop-less-2 Inv-loop2 μ-loop2 Inv-loop μ-loop
 loop-less-2 c = search needs
 
--- src/lib.rt:20:5
 loop-again-2 : tie.Need-loop-again-2 Inv-loop2 μ-loop2 Inv-loop μ-loop
 loop-again-2 c =
     let l = c .before .loop2 in
@@ -184,7 +153,6 @@ loop-again-2 c =
     let new : Unseen g.t1 (at g.t1 (o .i)) 0 (o .i) = subst (λ (x : ℕ). Unseen g.t1 (at g.t1 (o .i)) x (o .i)) none (l .inv .5) in
     (omega arith, o .inv .1, simp length-set (o .inv .2), simp length-set (o .inv .3), heads-step g.t1 (o .heads) (o .i) (omega arith) pos (o .inv .4), prevs-step g.t1 (o .heads) (o .prev) (o .i) (omega arith) (o .inv .4) (o .inv .5), unlike-step g.t1 (o .i) new (o .inv .6))
 
--- src/lib.rt:13:1
 returns-3 : tie.Need-returns-3 Inv-loop2 μ-loop2 Inv-loop μ-loop
 returns-3 c =
     let l = c .before .loop in

@@ -7,23 +7,18 @@ use Rattle.chains.proofs.numbers_differ.Lts as lts
 use Rattle.chains.proofs.chained.Reads as chained-reads
 use Rattle.unique.proofs.all_differ.Reads as all-differ-reads
 
--- src/lib.rt:53:9
 chained-requires : tie.Need-chained-requires
 chained-requires c κs = search needs
 
--- src/lib.rt:55:9
 returns : tie.Need-returns
 returns c = sym (c .before .chained .ensures .0 (c .if1 .taken))
 
--- src/lib.rt:58:9
 returns-2 : tie.Need-returns-2
 returns-2 c = sym (c .before .before .chained .ensures .1 (c .if2 .taken))
 
--- src/lib.rt:60:5
 all-differ-requires : tie.Need-all-differ-requires
 all-differ-requires c κs = search needs
 
--- src/lib.rt:49:1
 returns-3 : tie.Need-returns-3
 returns-3 c = search needs
 

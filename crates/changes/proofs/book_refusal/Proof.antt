@@ -19,25 +19,20 @@ use Rattle.changes.proofs.tile_members.Reads as tile-members-reads
 use Rattle.sets.proofs.has.Reads as has-reads
 use Rattle.settings.proofs.tiles_of.Reads as tiles-of-reads
 
--- src/lib.rt:153:9
 tiles-of-requires : tie.Need-tiles-of-requires
 tiles-of-requires c κs = search needs
 
--- src/lib.rt:155:31
 cast-has : tie.Need-cast-has
 cast-has c = search needs
 
--- src/lib.rt:155:9
 has-requires : tie.Need-has-requires
 has-requires c κs = search needs
 
--- src/lib.rt:157:9
 returns : tie.Need-returns
 returns c = let g = c .before .before .before .before .args in
     let off : _ ≤ g.tile = leb-true _ g.tile (c .if1 .taken) in
     book-4 g.floor g.tile g.canister (rw (c .before .before .tiles-of .ensures) at off)
 
--- src/lib.rt:160:9
 returns-2 : tie.Need-returns-2
 returns-2 c = let g = c .before .before .before .before .before .args in
     let on0 : g.tile < _ = leb-false _ g.tile (c .before .if1 .left) in
@@ -46,7 +41,6 @@ returns-2 c = let g = c .before .before .before .before .before .args in
     let b = rw m at (c .before .before .has .ensures) in
     book-5 g.floor g.tile g.canister on (sym b ∙ not-true _ (c .if2 .taken))
 
--- src/lib.rt:163:9
 returns-3 : tie.Need-returns-3
 returns-3 c = let g = c .before .before .before .before .before .before .before .args in
     let on0 : g.tile < _ = leb-false _ g.tile (c .before .before .before .if1 .left) in
@@ -55,11 +49,9 @@ returns-3 c = let g = c .before .before .before .before .before .before .before 
     let b = rw m at (c .before .before .before .before .has .ensures) in
     book-6 g.floor g.tile g.canister on (sym b ∙ not-false _ (c .before .before .if2 .left)) (c .if3 .taken)
 
--- src/lib.rt:165:16
 sub-span : tie.Need-sub-span
 sub-span c = let M = well-measured (c .before .before .before .before .before .before .before .before .args .floor) (c .before .before .before .before .before .before .before .before .pre) in omega (arith, M .short)
 
--- src/lib.rt:168:9
 returns-4 : tie.Need-returns-4
 returns-4 c = let g = c .before .before .before .before .before .before .before .before .before .before .before .args in
     let on0 : g.tile < _ = leb-false _ g.tile (c .before .before .before .before .before .before .before .if1 .left) in
@@ -70,14 +62,12 @@ returns-4 c = let g = c .before .before .before .before .before .before .before 
     let z = c .before .before .before .before .if3 .left in
     book-7 g.floor g.tile g.canister on bit z (within-no g.floor g.canister (not-true _ (c .if4 .taken)))
 
--- src/lib.rt:170:9
 tile-head-requires : tie.Need-tile-head-requires
 tile-head-requires c κs = let g = c .before .before .before .before .before .before .before .before .before .before .before .args in
     let on0 : g.tile < _ = leb-false _ g.tile (c .before .before .before .before .before .before .before .if1 .left) in
     let on = rw (c .before .before .before .before .before .before .before .before .before .tiles-of .ensures) at on0 in
     (c .before .before .before .before .before .before .before .before .before .before .before .pre, on)
 
--- src/lib.rt:174:9
 returns-5 : tie.Need-returns-5
 returns-5 c = let g = c .before .before .before .before .before .before .before .before .before .before .before .before .before .before .before .before .args in
     let on0 : g.tile < _ = leb-false _ g.tile (c .before .before .before .before .before .before .before .before .before .before .before .before .if1 .left) in
@@ -90,7 +80,6 @@ returns-5 c = let g = c .before .before .before .before .before .before .before 
     let h = c .before .before .before .before .tile-head in
     book-31 g.floor g.tile g.canister on bit z i (h .result) (h .ensures) (eqb-false (h .result .running) 1 (not-true _ (c .if5 .taken)))
 
--- src/lib.rt:177:9
 returns-6 : tie.Need-returns-6
 returns-6 c = let g = c .before .before .before .before .before .before .before .before .before .before .before .before .before .before .before .before .before .args in
     let on0 : g.tile < _ = leb-false _ g.tile (c .before .before .before .before .before .before .before .before .before .before .before .before .before .if1 .left) in
@@ -104,18 +93,15 @@ returns-6 c = let g = c .before .before .before .before .before .before .before 
     let u = eqb-true (h .result .running) 1 (not-false _ (c .before .if5 .left)) in
     book-33 g.floor g.tile g.canister on bit z i (h .result) (h .ensures) u (leb-true _ _ (c .if6 .taken))
 
--- src/lib.rt:179:9
 tile-members-requires : tie.Need-tile-members-requires
 tile-members-requires c κs = let g = c .before .before .before .before .before .before .before .before .before .before .before .before .before .before .before .before .before .args in
     let on0 : g.tile < _ = leb-false _ g.tile (c .before .before .before .before .before .before .before .before .before .before .before .before .before .if1 .left) in
     let on = rw (c .before .before .before .before .before .before .before .before .before .before .before .before .before .before .before .tiles-of .ensures) at on0 in
     (c .before .before .before .before .before .before .before .before .before .before .before .before .before .before .before .before .before .pre, on)
 
--- src/lib.rt:180:45
 cast-has-room : tie.Need-cast-has-room
 cast-has-room c = search needs
 
--- src/lib.rt:180:9
 has-room-requires : tie.Need-has-room-requires
 has-room-requires c κs = let g = c .before .before .before .before .before .before .before .before .before .before .before .before .before .before .before .before .before .before .before .args in
     let on0 : g.tile < _ = leb-false _ g.tile (c .before .before .before .before .before .before .before .before .before .before .before .before .before .before .before .if1 .left) in
@@ -123,7 +109,6 @@ has-room-requires c κs = let g = c .before .before .before .before .before .bef
     let h = c .before .before .before .before .before .before .before .tile-head in
     count-view g.floor g.tile (c .before .before .before .before .before .before .before .before .before .before .before .before .before .before .before .before .before .before .before .pre) on (h .result) (h .ensures)
 
--- src/lib.rt:182:9
 returns-7 : tie.Need-returns-7
 returns-7 c = let g = c .before .before .before .before .before .before .before .before .before .before .before .before .before .before .before .before .before .before .before .before .before .args in
     let on0 : g.tile < _ = leb-false _ g.tile (c .before .before .before .before .before .before .before .before .before .before .before .before .before .before .before .before .before .if1 .left) in
@@ -141,7 +126,6 @@ returns-7 c = let g = c .before .before .before .before .before .before .before 
     let same = ap (allOf (apart (spacing (g.floor .settings)) g.canister)) own in
     book-34 g.floor g.tile g.canister on bit z i (h .result) (h .ensures) u l (sym (r .ensures ∙ same) ∙ not-true _ (c .if7 .taken))
 
--- src/lib.rt:148:1
 returns-8 : tie.Need-returns-8
 returns-8 c = let g = c .before .before .before .before .before .before .before .before .before .before .before .before .before .before .before .before .before .before .before .before .before .args in
     let on0 : g.tile < _ = leb-false _ g.tile (c .before .before .before .before .before .before .before .before .before .before .before .before .before .before .before .before .before .if1 .left) in

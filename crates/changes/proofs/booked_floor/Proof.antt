@@ -12,21 +12,18 @@ use Rattle.changes.proofs.tile_head.Reads as tile-head-reads
 use Rattle.changes.proofs.tile_members.Reads as tile-members-reads
 use Rattle.members.proofs.insert.Reads as insert-reads
 
--- src/lib.rt:202:9
 tile-head-requires : tie.Need-tile-head-requires
 tile-head-requires c κs = let g = c .args in
     let p = c .pre in
     let on = book-on g.floor g.tile g.canister (p .1) in
     (p .0, on)
 
--- src/lib.rt:203:9
 tile-members-requires : tie.Need-tile-members-requires
 tile-members-requires c κs = let g = c .before .args in
     let p = c .before .pre in
     let on = book-on g.floor g.tile g.canister (p .1) in
     (p .0, on)
 
--- src/lib.rt:208:9
 insert-requires : tie.Need-insert-requires
 insert-requires c κs = let g = c .before .before .args in
     let p = c .before .before .pre in
@@ -37,31 +34,26 @@ insert-requires c κs = let g = c .before .before .args in
       own-places g.floor g.tile (p .0) on (h .result) (i .result) (h .ensures) (i .ensures),
     )
 
--- src/lib.rt:211:9
 put-members-requires : tie.Need-put-members-requires
 put-members-requires c κs = let g = c .before .before .before .before .before .args in
     let p = c .before .before .before .before .before .pre in
     let on = book-on g.floor g.tile g.canister (p .1) in
     below-64 g.floor g.tile (p .0) on
 
--- src/lib.rt:217:17
 add-t17 : tie.Need-add-t17
 add-t17 c = let g = c .before .before .before .before .before .before .before .before .before .before .args in
     let p = c .before .before .before .before .before .before .before .before .before .before .pre in
     search (needs, book-fits g.floor g.tile g.canister (p .1) (p .0))
 
--- src/lib.rt:222:5
 mul-t19 : tie.Need-mul-t19
 mul-t19 c = search needs
 
--- src/lib.rt:222:5
 element-set-from-after : tie.Need-element-set-from-after
 element-set-from-after c = let g = c .before .before .before .before .before .before .before .before .before .before .args in
     let p = c .before .before .before .before .before .before .before .before .before .before .pre in
     let on = book-on g.floor g.tile g.canister (p .1) in
     omega (arith, below-64 g.floor g.tile (p .0) on, tiles-length g.floor _ (c .before .before .before .before .before .before .before .before .before .before .good .0))
 
--- src/lib.rt:197:1
 returns : tie.Need-returns
 returns c = let g = c .before .before .before .before .before .before .before .before .before .before .args in
     let p = c .before .before .before .before .before .before .before .before .before .before .pre in

@@ -23,41 +23,32 @@ Inv-loop s all next tiles₀ t₀ tiles t = (t ≤ all) × (all ≤ 64) × (leng
 abbrev μ-loop : tie.MeasureT-loop
 μ-loop s all next tiles₀ t₀ tiles t = all - t
 
--- src/lib.rt:84:9
 tiles-of-requires : tie.Need-tiles-of-requires Inv-loop μ-loop
 tiles-of-requires c κs = search needs
 
--- src/lib.rt:85:9
 zero-floor-requires : tie.Need-zero-floor-requires Inv-loop μ-loop
 zero-floor-requires c κs = search needs
 
--- src/lib.rt:87:5
 loop-holds : tie.Need-loop-holds Inv-loop μ-loop
 loop-holds c = let z = c .before .zero-floor in
     let few = fresh-few (c .before .before .before .args .s) (c .before .before .before .pre) in
     (omega arith, omega (arith, few, c .before .before .tiles-of .ensures), tiles-length (z .result) _ (z .ok), λ i h. absurd (omega arith), λ i h. zero-tiles (z .result) (z .ensures) i)
 
--- src/lib.rt:88:20
 fresh-tile-requires : tie.Need-fresh-tile-requires Inv-loop μ-loop
 fresh-tile-requires c κs = search needs
 
--- src/lib.rt:88:9
 mul-tiles : tie.Need-mul-tiles Inv-loop μ-loop
 mul-tiles c = search needs
 
--- src/lib.rt:88:9
 array-set-from-tiles : tie.Need-array-set-from-tiles Inv-loop μ-loop
 array-set-from-tiles c = search needs
 
--- src/lib.rt:87:9
 add-t : tie.Need-add-t Inv-loop μ-loop
 add-t c = search needs
 
--- src/lib.rt:87:5
 loop-less : tie.Need-loop-less Inv-loop μ-loop
 loop-less c = search needs
 
--- src/lib.rt:87:5
 loop-again : tie.Need-loop-again Inv-loop μ-loop
 loop-again c = let l = c .before .before .loop in
     let g = c .before .before .before .before .before .before .args in (
@@ -68,7 +59,6 @@ loop-again c = let l = c .before .before .loop in
       rest-turn (l .t) (λ k. zeroTile) zeroTile (l .tiles) _ (l .inv .4),
     )
 
--- src/lib.rt:80:1
 returns : tie.Need-returns Inv-loop μ-loop
 returns c = let l = c .before .loop in
     let g = c .before .before .before .before .before .args in

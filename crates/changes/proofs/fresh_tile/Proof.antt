@@ -5,15 +5,12 @@ use Rattle.changes.proofs.fresh_tile.Tie as tie
 use Rattle.changes.proofs.fresh_tile.Reads as reads
 use Rattle.changes.proofs.fresh_tile.Lts as lts
 
--- src/lib.rt:68:18
 cast-hopper : tie.Need-cast-hopper
 cast-hopper c = search needs
 
--- src/lib.rt:64:1
 returns : tie.Need-returns
 returns c = let g = c .before .before .args in fresh-hopper g.s g.t (c .if1 .taken)
 
--- src/lib.rt:64:1
 returns-2 : tie.Need-returns-2
 returns-2 c = let g = c .before .before .args in fresh-other g.s g.t (c .if1 .left)
 

@@ -20,37 +20,29 @@ Inv-loop s c n items ok₀ k₀ ok k = (k ≤ n) × (n ≤ 16) × (length items 
 abbrev μ-loop : tie.MeasureT-loop
 μ-loop s c n items ok₀ k₀ ok k = n - k
 
--- src/lib.rt:140:5
 loop-holds : tie.Need-loop-holds Inv-loop μ-loop
 loop-holds c = let g = c .args in (omega arith, c .pre, c .good .1 .1 .0 .1 .0 .1, sym (all-zero (apart (spacing g.s) g.c) g.t3))
 
--- src/lib.rt:141:38
 mul-stands-apart : tie.Need-mul-stands-apart Inv-loop μ-loop
 mul-stands-apart c = search needs
 
--- src/lib.rt:141:38
 array-copy-out-stands-apart : tie.Need-array-copy-out-stands-apart Inv-loop μ-loop
 array-copy-out-stands-apart c = search needs
 
--- src/lib.rt:141:13
 stands-apart-requires : tie.Need-stands-apart-requires Inv-loop μ-loop
 stands-apart-requires c κs = search needs
 
--- src/lib.rt:140:9
 add-k : tie.Need-add-k Inv-loop μ-loop
 add-k c = search needs
 
--- src/lib.rt:140:5
 loop-less : tie.Need-loop-less Inv-loop μ-loop
 loop-less c = search needs
 
--- src/lib.rt:140:5
 loop-again : tie.Need-loop-again Inv-loop μ-loop
 loop-again c = let l = c .before .before .before .loop in
     let g = c .before .before .before .before .args in
     (omega arith, l .inv .1, l .inv .2, all-step (apart (spacing g.s) g.c) g.t3 (l .k) zeroCanister (omega arith) (l .inv .3) (c .stands-apart .ensures))
 
--- src/lib.rt:135:1
 returns : tie.Need-returns Inv-loop μ-loop
 returns c = let l = c .before .loop in
     let g = c .before .before .args in

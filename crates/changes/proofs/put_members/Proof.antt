@@ -16,49 +16,38 @@ Inv-loop t items out₀ k₀ out k = (k ≤ 16) × (length items ≡ 16) × Put 
 abbrev μ-loop : tie.MeasureT-loop
 μ-loop t items out₀ k₀ out k = 16 - k
 
--- src/lib.rt:190:5
 loop-holds : tie.Need-loop-holds Inv-loop μ-loop
 loop-holds c = let g = c .args in (omega arith, c .good .1 .1 .0 .1 .0 .1, put-none g.t g.t3 g.all (c .good .0 .1 .0 .1))
 
--- src/lib.rt:191:27
 mul-out : tie.Need-mul-out Inv-loop μ-loop
 mul-out c = search needs
 
--- src/lib.rt:191:27
 array-copy-out-out : tie.Need-array-copy-out-out Inv-loop μ-loop
 array-copy-out-out c = search needs
 
--- src/lib.rt:191:13
 mul-out-2 : tie.Need-mul-out-2 Inv-loop μ-loop
 mul-out-2 c = search needs
 
--- src/lib.rt:191:13
 add-out : tie.Need-add-out Inv-loop μ-loop
 add-out c = search needs
 
--- src/lib.rt:191:9
 mul-out-3 : tie.Need-mul-out-3 Inv-loop μ-loop
 mul-out-3 c = search needs
 
--- src/lib.rt:191:9
 array-set-from-out : tie.Need-array-set-from-out Inv-loop μ-loop
 array-set-from-out c = search needs
 
--- src/lib.rt:190:9
 add-k : tie.Need-add-k Inv-loop μ-loop
 add-k c = search needs
 
--- src/lib.rt:190:5
 loop-less : tie.Need-loop-less Inv-loop μ-loop
 loop-less c = search needs
 
--- src/lib.rt:190:5
 loop-again : tie.Need-loop-again Inv-loop μ-loop
 loop-again c = let l = c .before .before .loop in
     let g = c .before .before .before .args in
     (omega arith, l .inv .1, put-turn g.t (l .k) g.t3 g.all (l .out) (c .before .before .before .pre) (omega arith) (l .inv .2))
 
--- src/lib.rt:185:1
 returns : tie.Need-returns Inv-loop μ-loop
 returns c = let l = c .before .loop in
     let e : l .k ≡ 16 = omega arith in

@@ -7,17 +7,14 @@ use Rattle.changes.proofs.read_refusal.Reads as reads
 use Rattle.changes.proofs.read_refusal.Lts as lts
 use Rattle.settings.proofs.tiles_of.Reads as tiles-of-reads
 
--- src/lib.rt:314:9
 tiles-of-requires : tie.Need-tiles-of-requires
 tiles-of-requires c κs = search needs
 
--- src/lib.rt:316:9
 returns : tie.Need-returns
 returns c = let g = c .before .before .before .args in
     let off : _ ≤ g.tile = c .if1 .taken in
     read-4 g.floor g.tile (rw (c .before .tiles-of .ensures) at off)
 
--- src/lib.rt:309:1
 returns-2 : tie.Need-returns-2
 returns-2 c = let g = c .before .before .before .args in
     let on0 : g.tile < _ = c .if1 .left in

@@ -8,24 +8,20 @@ use Rattle.changes.proofs.repair_refusal.Lts as lts
 use Rattle.changes.proofs.tile_head.Reads as tile-head-reads
 use Rattle.settings.proofs.tiles_of.Reads as tiles-of-reads
 
--- src/lib.rt:277:9
 tiles-of-requires : tie.Need-tiles-of-requires
 tiles-of-requires c κs = search needs
 
--- src/lib.rt:279:9
 returns : tie.Need-returns
 returns c = let g = c .before .before .before .args in
     let off : _ ≤ g.tile = c .if1 .taken in
     repair-4 g.floor g.tile (rw (c .before .tiles-of .ensures) at off)
 
--- src/lib.rt:281:9
 tile-head-requires : tie.Need-tile-head-requires
 tile-head-requires c κs = let g = c .before .before .before .args in
     let on0 : g.tile < _ = c .if1 .left in
     let on = rw (c .before .tiles-of .ensures) at on0 in
     (c .before .before .before .pre, on)
 
--- src/lib.rt:283:9
 returns-2 : tie.Need-returns-2
 returns-2 c = let g = c .before .before .before .before .before .before .args in
     let on0 : g.tile < _ = c .before .before .before .if1 .left in
@@ -33,7 +29,6 @@ returns-2 c = let g = c .before .before .before .before .before .before .args in
     let h = c .before .before .tile-head in
     repair-32 g.floor g.tile on (h .result) (h .ensures) (c .if2 .taken)
 
--- src/lib.rt:272:1
 returns-3 : tie.Need-returns-3
 returns-3 c = let g = c .before .before .before .before .before .before .args in
     let on0 : g.tile < _ = c .before .before .before .if1 .left in

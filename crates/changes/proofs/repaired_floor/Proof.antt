@@ -9,21 +9,17 @@ use Rattle.changes.proofs.repaired_floor.Reads as reads
 use Rattle.changes.proofs.repaired_floor.Lts as lts
 use Rattle.changes.proofs.tile_head.Reads as tile-head-reads
 
--- src/lib.rt:294:9
 tile-head-requires : tie.Need-tile-head-requires
 tile-head-requires c κs = let g = c .args in (c .pre .0, repair-on g.floor g.tile (c .pre .1))
 
--- src/lib.rt:298:5
 mul-t9 : tie.Need-mul-t9
 mul-t9 c = search needs
 
--- src/lib.rt:298:5
 element-set-from-after : tie.Need-element-set-from-after
 element-set-from-after c = let g = c .before .before .before .args in
     let p = c .before .before .before .pre in
     omega (arith, below-64 g.floor g.tile (p .0) (repair-on g.floor g.tile (p .1)), tiles-length g.floor _ (c .before .before .before .good .0))
 
--- src/lib.rt:289:1
 returns : tie.Need-returns
 returns c = let g = c .before .before .before .args in
     let p = c .before .before .before .pre in

@@ -8,35 +8,29 @@ use Rattle.changes.proofs.stop_refusal.Lts as lts
 use Rattle.changes.proofs.tile_head.Reads as tile-head-reads
 use Rattle.settings.proofs.tiles_of.Reads as tiles-of-reads
 
--- src/lib.rt:238:9
 tiles-of-requires : tie.Need-tiles-of-requires
 tiles-of-requires c κs = search needs
 
--- src/lib.rt:240:9
 returns : tie.Need-returns
 returns c = let g = c .before .before .before .args in
     let off : _ ≤ g.tile = c .if1 .taken in
     stop-4 g.floor g.tile (rw (c .before .tiles-of .ensures) at off)
 
--- src/lib.rt:242:16
 cast-if2 : tie.Need-cast-if2
 cast-if2 c = search needs
 
--- src/lib.rt:243:9
 returns-2 : tie.Need-returns-2
 returns-2 c = let g = c .before .before .before .before .before .args in
     let on0 : g.tile < _ = c .before .before .if1 .left in
     let on = rw (c .before .before .before .tiles-of .ensures) at on0 in
     stop-8 g.floor g.tile on (c .if2 .taken)
 
--- src/lib.rt:245:9
 tile-head-requires : tie.Need-tile-head-requires
 tile-head-requires c κs = let g = c .before .before .before .before .before .args in
     let on0 : g.tile < _ = c .before .before .if1 .left in
     let on = rw (c .before .before .before .tiles-of .ensures) at on0 in
     (c .before .before .before .before .before .pre, on)
 
--- src/lib.rt:247:9
 returns-3 : tie.Need-returns-3
 returns-3 c = let g = c .before .before .before .before .before .before .before .before .args in
     let on0 : g.tile < _ = c .before .before .before .before .before .if1 .left in
@@ -44,7 +38,6 @@ returns-3 c = let g = c .before .before .before .before .before .before .before 
     let h = c .before .before .tile-head in
     stop-31 g.floor g.tile on (c .before .before .before .if2 .left) (h .result) (h .ensures) (c .if3 .taken)
 
--- src/lib.rt:233:1
 returns-4 : tie.Need-returns-4
 returns-4 c = let g = c .before .before .before .before .before .before .before .before .args in
     let on0 : g.tile < _ = c .before .before .before .before .before .if1 .left in

@@ -7,15 +7,12 @@ use Rattle.changes.proofs.tile_head.Tie as tie
 use Rattle.changes.proofs.tile_head.Reads as reads
 use Rattle.changes.proofs.tile_head.Lts as lts
 
--- src/lib.rt:101:5
 mul-result : tie.Need-mul-result
 mul-result c = search needs
 
--- src/lib.rt:101:5
 element-copy-out-result : tie.Need-element-copy-out-result
 element-copy-out-result c = let g = c .args in omega (arith, below-64 g.t1 g.tile (c .pre .0) (c .pre .1), tiles-length g.t1 _ (c .good .0))
 
--- src/lib.rt:96:1
 returns : tie.Need-returns
 returns c = let g = c .before .args in head-view g.t1 g.tile (c .before .pre .0) (c .before .pre .1)
 

@@ -19,45 +19,35 @@ Inv-loop tile floor t items₀ k₀ items k = (k ≤ 16) × (length items ≡ 16
 abbrev μ-loop : tie.MeasureT-loop
 μ-loop tile floor t items₀ k₀ items k = 16 - k
 
--- src/lib.rt:116:5
 loop-holds : tie.Need-loop-holds Inv-loop μ-loop
 loop-holds c = (omega arith, length-replicate 16 zeroCanister, λ i h. absurd (omega arith))
 
--- src/lib.rt:117:36
 mul-items : tie.Need-mul-items Inv-loop μ-loop
 mul-items c = search needs
 
--- src/lib.rt:117:36
 add-items : tie.Need-add-items Inv-loop μ-loop
 add-items c = search needs
 
--- src/lib.rt:117:20
 mul-items-2 : tie.Need-mul-items-2 Inv-loop μ-loop
 mul-items-2 c = search needs
 
--- src/lib.rt:117:20
 element-copy-out-items : tie.Need-element-copy-out-items Inv-loop μ-loop
 element-copy-out-items c = let g = c .before .before .args in
     let p = c .before .before .pre in
     omega (arith, below-64 g.t1 g.tile (p .0) (p .1), canisters-length g.t1 _ (c .before .before .good .0))
 
--- src/lib.rt:117:9
 mul-items-3 : tie.Need-mul-items-3 Inv-loop μ-loop
 mul-items-3 c = search needs
 
--- src/lib.rt:117:9
 array-set-from-items : tie.Need-array-set-from-items Inv-loop μ-loop
 array-set-from-items c = search needs
 
--- src/lib.rt:116:9
 add-k : tie.Need-add-k Inv-loop μ-loop
 add-k c = search needs
 
--- src/lib.rt:116:5
 loop-less : tie.Need-loop-less Inv-loop μ-loop
 loop-less c = search needs
 
--- src/lib.rt:116:5
 loop-again : tie.Need-loop-again Inv-loop μ-loop
 loop-again c = let l = c .before .before .loop in
     let g = c .before .before .before .args in (
@@ -66,7 +56,6 @@ loop-again c = let l = c .before .before .loop in
       upto-turn (l .k) (λ j. getD (g.t1 .canisters) (16 * g.tile + j) zeroCanister) zeroCanister (l .items) _ (omega arith) (l .inv .2) refl,
     )
 
--- src/lib.rt:105:1
 returns : tie.Need-returns Inv-loop μ-loop
 returns c = let l = c .before .loop in
     let g = c .before .before .args in

@@ -13,26 +13,21 @@ use Rattle.reader.proofs.read_image.Reads as read-image-reads
 use Rattle.reader.proofs.refused.Reads as refused-reads
 use Rattle.soundness.proofs.well_formed.Reads as well-formed-reads
 
--- src/lib.rt:18:9
 read-image-requires : tie.Need-read-image-requires
 read-image-requires c κs = search needs
 
--- src/lib.rt:20:9
 returns : tie.Need-returns
 returns c =
     let x = c .before .before .before .before .args .bytes .now in
     let e = c .before .before .read-image .ensures in
     e ∙ load-refuses x (λ z. c .if1 .taken (ap (λ (a : Answer). a .refusal) e ∙ z))
 
--- src/lib.rt:23:9
 well-formed-requires : tie.Need-well-formed-requires
 well-formed-requires c κs = search needs
 
--- src/lib.rt:25:9
 refused-requires : tie.Need-refused-requires
 refused-requires c κs = search needs
 
--- src/lib.rt:25:9
 returns-2 : tie.Need-returns-2
 returns-2 c =
     let x = c .before .before .before .before .before .before .before .before .args .bytes .now in
@@ -41,7 +36,6 @@ returns-2 c =
     let w = sym (ap (λ (a : Answer). wellFormed (a .floor)) e) ∙ sym (c .before .before .well-formed .ensures) ∙ not-true _ (c .before .if2 .taken) in
     c .refused .ensures ∙ load-malformed x z w
 
--- src/lib.rt:15:1
 returns-3 : tie.Need-returns-3
 returns-3 c =
     let x = c .before .before .before .before .before .before .before .args .bytes .now in

@@ -20,41 +20,33 @@ use Rattle.writer.proofs.write_image.Reads as write-image-reads
 made : ℕ → Written
 made k = record { refusal = 0; length = k }
 
--- src/lib.rt:34:9
 well-formed-requires : tie.Need-well-formed-requires
 well-formed-requires c κs = search needs
 
--- src/lib.rt:36:9
 returns : tie.Need-returns
 returns c = write-malformed (c .before .before .before .args .floor) (c .before .before .before .args .buffer .now) (sym (c .before .well-formed .ensures) ∙ not-true _ (c .if1 .taken))
 
--- src/lib.rt:38:9
 image-length-requires : tie.Need-image-length-requires
 image-length-requires c κs = sym (c .before .well-formed .ensures) ∙ not-false _ (c .if1 .left)
 
--- src/lib.rt:39:23
 cast-if2 : tie.Need-cast-if2
 cast-if2 c = search needs
 
--- src/lib.rt:40:9
 returns-2 : tie.Need-returns-2
 returns-2 c =
     let w = sym (c .before .before .before .well-formed .ensures) ∙ not-false _ (c .before .before .if1 .left) in
     let n = c .before .image-length .ensures in
     write-short (c .before .before .before .before .before .args .floor) (c .before .before .before .before .before .args .buffer .now) w (omega (arith, n, c .if2 .taken))
 
--- src/lib.rt:42:5
 write-image-requires : tie.Need-write-image-requires
 write-image-requires c κs =
     let w = sym (c .before .before .before .before .well-formed .ensures) ∙ not-false _ (c .before .before .before .if1 .left) in
     let n = c .before .before .image-length .ensures in
     (w, omega (arith, n, c .before .if2 .left))
 
--- src/lib.rt:31:1
 same-length : tie.Need-same-length
 same-length c = search needs
 
--- src/lib.rt:31:1
 returns-3 : tie.Need-returns-3
 unfolding made
 returns-3 c =

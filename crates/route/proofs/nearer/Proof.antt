@@ -6,12 +6,10 @@ use Rattle.route.proofs.nearer.Tie as tie
 use Rattle.route.proofs.nearer.Reads as reads
 use Rattle.route.proofs.nearer.Lts as lts
 
--- src/lib.rt:22:9
 returns : tie.Need-returns
 unfolding R.nearer
 returns c = let g = c .before .before .args in pick-yes _ g.b (lt-ltb g.distance (g.b .distance) (c .if1 .taken))
 
--- src/lib.rt:18:1
 returns-2 : tie.Need-returns-2
 unfolding R.nearer
 returns-2 c = let g = c .before .before .args in pick-no (record { distance = g.distance; side = g.side }) g.b (le-ltb g.distance (g.b .distance) (c .if1 .left))

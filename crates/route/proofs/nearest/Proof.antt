@@ -6,19 +6,15 @@ use Rattle.route.proofs.nearest.Reads as reads
 use Rattle.route.proofs.nearest.Lts as lts
 use Rattle.route.proofs.nearer.Reads as nearer-reads
 
--- src/lib.rt:38:19
 nearer-requires : tie.Need-nearer-requires
 nearer-requires c κs = search needs
 
--- src/lib.rt:38:12
 nearer-requires-2 : tie.Need-nearer-requires-2
 nearer-requires-2 c κs = search needs
 
--- src/lib.rt:38:5
 nearer-requires-3 : tie.Need-nearer-requires-3
 nearer-requires-3 c κs = search needs
 
--- src/lib.rt:31:1
 returns : tie.Need-returns
 unfolding R.nearest
 returns c = cc

@@ -8,24 +8,19 @@ use Rattle.route.proofs.onward.Tie as tie
 use Rattle.route.proofs.onward.Reads as reads
 use Rattle.route.proofs.onward.Lts as lts
 
--- src/lib.rt:46:16
 cast-next : tie.Need-cast-next
 cast-next c = search needs
 
--- src/lib.rt:46:16
 add-next : tie.Need-add-next
 add-next c = search needs
 
--- src/lib.rt:49:23
 cast-t6 : tie.Need-cast-t6
 cast-t6 c = search needs
 
--- src/lib.rt:48:9
 returns : tie.Need-returns
 unfolding R.onward
 returns c = let g = c .before .before .args in pick-yes _ (record { distance = 255; side = 0 }) (lt-ltb (g.b .distance + 1) g.all (c .if1 .taken))
 
--- src/lib.rt:42:1
 returns-2 : tie.Need-returns-2
 unfolding R.onward
 returns-2 c = let g = c .before .before .args in pick-no (record { distance = g.b .distance + 1; side = g.b .side }) _ (le-ltb (g.b .distance + 1) g.all (c .if1 .left))

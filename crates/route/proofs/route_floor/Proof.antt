@@ -6,11 +6,9 @@ use Rattle.route.proofs.route_floor.Reads as reads
 use Rattle.route.proofs.route_floor.Lts as lts
 use Rattle.route.proofs.route_pass.Reads as route-pass-reads
 
--- src/lib.rt:130:9
 route-pass-requires : tie.Need-route-pass-requires
 route-pass-requires c κs = let s = c .before .before in ranged (s .args .f .settings) (s .pre .0)
 
--- src/lib.rt:124:1
 returns : tie.Need-returns
 returns c =
     let s = c .before .before .before in

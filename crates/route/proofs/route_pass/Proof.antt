@@ -21,87 +21,66 @@ Inv-loop s tiles all d out₀ t₀ out t = (t ≤ all) × (all ≤ 64) × (lengt
 abbrev μ-loop : tie.MeasureT-loop
 μ-loop s tiles all d out₀ t₀ out t = all - t
 
--- src/lib.rt:110:15
 cast-all : tie.Need-cast-all Inv-loop μ-loop
 cast-all c = search needs
 
--- src/lib.rt:110:36
 cast-all-2 : tie.Need-cast-all-2 Inv-loop μ-loop
 cast-all-2 c = search needs
 
--- src/lib.rt:110:15
 mul-all : tie.Need-mul-all Inv-loop μ-loop
 mul-all c = search needs
 
--- src/lib.rt:111:13
 distances-requires : tie.Need-distances-requires Inv-loop μ-loop
 distances-requires c κs = c .before .before .pre .2
 
--- src/lib.rt:113:5
 loop-holds : tie.Need-loop-holds Inv-loop μ-loop
 loop-holds c = let s = c .before .before .before in let n = s .good .1 .0 .1 .0 .1 in (omega arith, s .pre .2, n, redone-none (routedAt (s .args .s) (s .args .t2)) (s .args .t2) n)
 
--- src/lib.rt:114:22
 neighbour-requires : tie.Need-neighbour-requires Inv-loop μ-loop
 neighbour-requires c κs = let s = c .before .before .before .before .before in (s .pre .0, s .pre .1, s .pre .2, omega arith)
 
--- src/lib.rt:114:20
 array-read-west : tie.Need-array-read-west Inv-loop μ-loop
 array-read-west c = let s = c .before .before .before .before .before .before in near-read (s .args .s) 1 (c .before .before .loop .t) (omega arith) (s .pre .2) (c .neighbour .ensures)
 
--- src/lib.rt:115:23
 neighbour-requires-2 : tie.Need-neighbour-requires-2 Inv-loop μ-loop
 neighbour-requires-2 c κs = let s = c .before .before .before .before .before .before in (s .pre .0, s .pre .1, s .pre .2, omega arith)
 
--- src/lib.rt:115:21
 array-read-south : tie.Need-array-read-south Inv-loop μ-loop
 array-read-south c = let s = c .before .before .before .before .before .before .before in near-read (s .args .s) 2 (c .before .before .before .loop .t) (omega arith) (s .pre .2) (c .neighbour2 .ensures)
 
--- src/lib.rt:116:23
 neighbour-requires-3 : tie.Need-neighbour-requires-3 Inv-loop μ-loop
 neighbour-requires-3 c κs = let s = c .before .before .before .before .before .before .before in (s .pre .0, s .pre .1, s .pre .2, omega arith)
 
--- src/lib.rt:116:21
 array-read-north : tie.Need-array-read-north Inv-loop μ-loop
 array-read-north c = let s = c .before .before .before .before .before .before .before .before in near-read (s .args .s) 3 (c .before .before .before .before .loop .t) (omega arith) (s .pre .2) (c .neighbour3 .ensures)
 
--- src/lib.rt:117:22
 neighbour-requires-4 : tie.Need-neighbour-requires-4 Inv-loop μ-loop
 neighbour-requires-4 c κs = let s = c .before .before .before .before .before .before .before .before in (s .pre .0, s .pre .1, s .pre .2, omega arith)
 
--- src/lib.rt:117:20
 array-read-east : tie.Need-array-read-east Inv-loop μ-loop
 array-read-east c = let s = c .before .before .before .before .before .before .before .before .before in near-read (s .args .s) 4 (c .before .before .before .before .before .loop .t) (omega arith) (s .pre .2) (c .neighbour4 .ensures)
 
--- src/lib.rt:118:35
 mul-route-tile : tie.Need-mul-route-tile Inv-loop μ-loop
 mul-route-tile c = search needs
 
--- src/lib.rt:118:35
 array-copy-out-route-tile : tie.Need-array-copy-out-route-tile Inv-loop μ-loop
 array-copy-out-route-tile c = search needs
 
--- src/lib.rt:118:18
 route-tile-requires : tie.Need-route-tile-requires Inv-loop μ-loop
 route-tile-requires c κs = c .before .before .before .before .before .before .before .before .before .before .pre .2
 
--- src/lib.rt:118:9
 mul-out : tie.Need-mul-out Inv-loop μ-loop
 mul-out c = search needs
 
--- src/lib.rt:118:9
 array-set-from-out : tie.Need-array-set-from-out Inv-loop μ-loop
 array-set-from-out c = search needs
 
--- src/lib.rt:113:9
 add-t : tie.Need-add-t Inv-loop μ-loop
 add-t c = search needs
 
--- src/lib.rt:113:5
 loop-less : tie.Need-loop-less Inv-loop μ-loop
 loop-less c = search needs
 
--- src/lib.rt:113:5
 loop-again : tie.Need-loop-again Inv-loop μ-loop
 loop-again c =
     let l = c .before .before .before .before .before .before .before .loop in
@@ -118,7 +97,6 @@ loop-again c =
     let v = routed-read g.s g.t2 (l .t) (r .ensures) w so n e in
     (omega arith, l .inv .1, l .inv .2, redone-turn (routedAt g.s g.t2) g.t2 (l .out) (l .t) (r .result) (omega arith) (l .inv .3) v)
 
--- src/lib.rt:106:1
 returns : tie.Need-returns Inv-loop μ-loop
 returns c =
     let l = c .before .loop in

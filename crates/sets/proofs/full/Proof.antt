@@ -9,19 +9,15 @@ use Rattle.sets.proofs.full.Tie as tie
 use Rattle.sets.proofs.full.Reads as reads
 use Rattle.sets.proofs.full.Lts as lts
 
--- src/lib.rt:38:9
 returns : tie.Need-returns
 returns c = ap (λ (x : ℕ). 2 ^ x - 1) (sym (c .if1 .taken))
 
--- src/lib.rt:40:6
 shl-result : tie.Need-shl-result
 shl-result c = search needs
 
--- src/lib.rt:40:5
 sub-result : tie.Need-sub-result
 sub-result c = let h : c .before .args .n < 64 = omega (arith, c .before .pre, c .if1 .left) in rw (one-shl (c .before .args .n) h) (pow-pos (c .before .args .n))
 
--- src/lib.rt:33:1
 returns-2 : tie.Need-returns-2
 returns-2 c = let h : c .before .args .n < 64 = omega (arith, c .before .pre, c .if1 .left) in ap (λ (x : ℕ). x - 1) (one-shl (c .before .args .n) h)
 

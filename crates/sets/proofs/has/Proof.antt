@@ -5,11 +5,9 @@ use Rattle.sets.proofs.has.Tie as tie
 use Rattle.sets.proofs.has.Reads as reads
 use Rattle.sets.proofs.has.Lts as lts
 
--- src/lib.rt:13:6
 shr-result : tie.Need-shr-result
 shr-result c = search needs
 
--- src/lib.rt:9:1
 returns : tie.Need-returns
 returns c = test-bit (c .args .s) (c .args .t)
 

@@ -5,11 +5,9 @@ use Rattle.sets.proofs.with.Tie as tie
 use Rattle.sets.proofs.with.Reads as reads
 use Rattle.sets.proofs.with.Lts as lts
 
--- src/lib.rt:21:10
 shl-result : tie.Need-shl-result
 shl-result c = search needs
 
--- src/lib.rt:17:1
 returns : tie.Need-returns
 returns c = λ k. rw (one-shl (c .args .t) (c .pre)) (with-bit (c .args .s) (c .args .t) k)
 

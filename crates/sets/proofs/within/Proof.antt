@@ -8,17 +8,14 @@ use Rattle.sets.proofs.within.Tie as tie
 use Rattle.sets.proofs.within.Reads as reads
 use Rattle.sets.proofs.within.Lts as lts
 
--- src/lib.rt:49:9
 returns : tie.Need-returns
 returns c =
     let h : c .before .args .s < 2 ^ 64 = search needs in
     rw (c .if1 .taken) (sym (lt-ltb (c .before .args .s) (2 ^ 64) h))
 
--- src/lib.rt:51:5
 shr-result : tie.Need-shr-result
 shr-result c = search needs
 
--- src/lib.rt:44:1
 returns-2 : tie.Need-returns-2
 returns-2 c = shr-none (c .before .args .s) (c .before .args .n)
 

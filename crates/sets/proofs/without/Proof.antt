@@ -7,19 +7,15 @@ use Rattle.sets.proofs.without.Reads as reads
 use Rattle.sets.proofs.without.Lts as lts
 use Rattle.sets.proofs.has.Reads as has-reads
 
--- src/lib.rt:29:8
 has-requires : tie.Need-has-requires
 has-requires c κs = search needs
 
--- src/lib.rt:29:25
 shl-result : tie.Need-shl-result
 shl-result c = search needs
 
--- src/lib.rt:25:1
 returns : tie.Need-returns
 returns c = let g = c .before .before .args in λ k. rw (one-shl g.t (c .before .before .pre)) (without-bit g.s g.t k (sym (c .before .has .ensures) ∙ c .if1 .taken))
 
--- src/lib.rt:25:1
 returns-2 : tie.Need-returns-2
 returns-2 c = let g = c .before .before .args in λ k. without-none g.s g.t k (sym (c .before .has .ensures) ∙ c .if1 .left)
 

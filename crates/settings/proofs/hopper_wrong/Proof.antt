@@ -10,23 +10,18 @@ use Rattle.settings.proofs.hopper_wrong.Lts as lts
 use Rattle.sets.proofs.has.Reads as has-reads
 use Rattle.sets.proofs.within.Reads as within-reads
 
--- src/lib.rt:32:15
 mul-all : tie.Need-mul-all
 mul-all c = record { fits = lt-of-le-of-lt (few-tiles (c .before .args .s) (c .before .pre)) (lit< tt) }
 
--- src/lib.rt:34:9
 returns : tie.Need-returns
 returns c = hopper-off (c .before .before .before .args .s) (c .if1 .taken)
 
--- src/lib.rt:36:9
 has-requires : tie.Need-has-requires
 has-requires c κs = omega (arith, few-tiles (c .before .before .before .args .s) (c .before .before .before .pre), c .if1 .left)
 
--- src/lib.rt:37:9
 within-requires : tie.Need-within-requires
 within-requires c κs = few-tiles (c .before .before .before .before .args .s) (c .before .before .before .before .pre)
 
--- src/lib.rt:28:1
 returns-2 : tie.Need-returns-2
 returns-2 c = hopper-on (c .before .before .before .before .before .args .s) (c .before .before .if1 .left) (c .before .has .ensures) (c .within .ensures)
 

@@ -9,50 +9,40 @@ use Rattle.settings.proofs.measures_wrong.Reads as reads
 use Rattle.settings.proofs.measures_wrong.Lts as lts
 use Rattle.settings.proofs.rules_wrong.Reads as rules-wrong-reads
 
--- src/lib.rt:54:8
 rules-wrong-requires : tie.Need-rules-wrong-requires
 rules-wrong-requires c κs = search needs
 
--- src/lib.rt:55:9
 returns : tie.Need-returns
 unfolding measuresWrong
 returns c =
     let e : rulesWrong (c .before .before .args .s) ≡ true = sym (c .before .rules-wrong .ensures) ∙ c .if1 .taken in
     rw e
 
--- src/lib.rt:57:14
 cast-d : tie.Need-cast-d
 cast-d c = search needs
 
--- src/lib.rt:57:34
 cast-d-2 : tie.Need-cast-d-2
 cast-d-2 c = search needs
 
--- src/lib.rt:57:13
 add-d : tie.Need-add-d
 add-d c = search needs
 
--- src/lib.rt:58:17
 cast-span : tie.Need-cast-span
 cast-span c = search needs
 
--- src/lib.rt:58:36
 cast-span-2 : tie.Need-cast-span-2
 cast-span-2 c = search needs
 
--- src/lib.rt:58:16
 sub-span : tie.Need-sub-span
 sub-span c =
     let e : rulesWrong (c .before .before .before .before .before .before .args .s) ≡ false = sym (c .before .before .before .before .before .rules-wrong .ensures) ∙ c .before .before .before .before .if1 .left in
     omega (arith, rules-length (c .before .before .before .before .before .before .args .s) e)
 
--- src/lib.rt:59:9
 div-result : tie.Need-div-result
 div-result c =
     let e : rulesWrong (c .before .before .before .before .before .before .args .s) ≡ false = sym (c .before .before .before .before .before .rules-wrong .ensures) ∙ c .before .before .before .before .if1 .left in
     omega (arith, rules-length (c .before .before .before .before .before .before .args .s) e)
 
--- src/lib.rt:51:1
 returns-2 : tie.Need-returns-2
 unfolding measuresWrong
 returns-2 c =

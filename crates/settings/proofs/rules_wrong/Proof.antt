@@ -6,23 +6,18 @@ use Rattle.settings.proofs.rules_wrong.Tie as tie
 use Rattle.settings.proofs.rules_wrong.Reads as reads
 use Rattle.settings.proofs.rules_wrong.Lts as lts
 
--- src/lib.rt:45:14
 cast-d : tie.Need-cast-d
 cast-d c = search needs
 
--- src/lib.rt:45:34
 cast-d-2 : tie.Need-cast-d-2
 cast-d-2 c = search needs
 
--- src/lib.rt:45:13
 add-d : tie.Need-add-d
 add-d c = search needs
 
--- src/lib.rt:46:17
 cast-width : tie.Need-cast-width
 cast-width c = search needs
 
--- src/lib.rt:42:1
 returns : tie.Need-returns
 unfolding rulesWrong
 returns c = refl

@@ -10,22 +10,18 @@ use Rattle.settings.proofs.hopper_wrong.Reads as hopper-wrong-reads
 use Rattle.settings.proofs.measures_wrong.Reads as measures-wrong-reads
 use Rattle.settings.proofs.sizes_wrong.Reads as sizes-wrong-reads
 
--- src/lib.rt:66:8
 sizes-wrong-requires : tie.Need-sizes-wrong-requires
 sizes-wrong-requires c κs = search needs
 
--- src/lib.rt:67:9
 returns : tie.Need-returns
 returns c =
     let s = c .before .before .args .s in
     let e : sizesWrong s ≡ true = sym (c .before .sizes-wrong .ensures) ∙ c .if1 .taken in
     rw (refusal-groups s, e)
 
--- src/lib.rt:69:8
 hopper-wrong-requires : tie.Need-hopper-wrong-requires
 hopper-wrong-requires c κs = sym (c .before .sizes-wrong .ensures) ∙ c .if1 .left
 
--- src/lib.rt:70:9
 returns-2 : tie.Need-returns-2
 returns-2 c =
     let s = c .before .before .before .before .args .s in
@@ -33,11 +29,9 @@ returns-2 c =
     let q : hopperWrong s ≡ true = sym (c .before .hopper-wrong .ensures) ∙ c .if2 .taken in
     rw (refusal-groups s, e, q)
 
--- src/lib.rt:72:8
 measures-wrong-requires : tie.Need-measures-wrong-requires
 measures-wrong-requires c κs = search needs
 
--- src/lib.rt:73:9
 returns-3 : tie.Need-returns-3
 returns-3 c =
     let s = c .before .before .before .before .before .before .args .s in
@@ -46,7 +40,6 @@ returns-3 c =
     let r : measuresWrong s ≡ true = sym (c .before .measures-wrong .ensures) ∙ c .if3 .taken in
     rw (refusal-groups s, e, q, r)
 
--- src/lib.rt:63:1
 returns-4 : tie.Need-returns-4
 returns-4 c =
     let s = c .before .before .before .before .before .before .args .s in

@@ -6,11 +6,9 @@ use Rattle.settings.proofs.sizes_wrong.Reads as reads
 use Rattle.settings.proofs.sizes_wrong.Lts as lts
 use Rattle.settings.proofs.tiles_of.Reads as tiles-of-reads
 
--- src/lib.rt:26:9
 tiles-of-requires : tie.Need-tiles-of-requires
 tiles-of-requires c κs = search needs
 
--- src/lib.rt:21:1
 returns : tie.Need-returns
 unfolding sizesWrong
 returns c = rw (c .tiles-of .ensures)

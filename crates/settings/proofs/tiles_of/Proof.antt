@@ -8,15 +8,12 @@ use Rattle.settings.proofs.tiles_of.Tie as tie
 use Rattle.settings.proofs.tiles_of.Reads as reads
 use Rattle.settings.proofs.tiles_of.Lts as lts
 
--- src/lib.rt:16:6
 cast-result : tie.Need-cast-result
 cast-result c = search needs
 
--- src/lib.rt:16:29
 cast-result-2 : tie.Need-cast-result-2
 cast-result-2 c = search needs
 
--- src/lib.rt:16:5
 mul-result : tie.Need-mul-result
 mul-result c =
     let s = c .before .before .args .s in
@@ -24,7 +21,6 @@ mul-result c =
     let y : s .rows ≤ 255 = omega arith in
     record { fits = lt-of-le-of-lt (mul-le-mul x y) (lit< tt) }
 
--- src/lib.rt:13:1
 returns : tie.Need-returns
 returns c = search needs
 

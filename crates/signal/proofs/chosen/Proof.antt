@@ -9,19 +9,15 @@ use Rattle.signal.proofs.chosen.Lts as lts
 use Rattle.floor.proofs.Side.among.Reads as among-reads
 use Rattle.floor.proofs.Side.following.Reads as following-reads
 
--- src/lib.rt:65:8
 among-requires : tie.Need-among-requires
 among-requires c κs = search needs
 
--- src/lib.rt:66:9
 returns : tie.Need-returns
 returns c = let g = c .before .before .args in chosen-kept (inSet g.set) (g.token .code) (sym (c .before .among .ensures) ∙ c .if1 .taken)
 
--- src/lib.rt:68:5
 following-requires : tie.Need-following-requires
 following-requires c κs = search needs
 
--- src/lib.rt:61:1
 returns-2 : tie.Need-returns-2
 returns-2 c = let g = c .before .before .before .args in c .following .ensures ∙ chosen-next (inSet g.set) (g.token .code) (sym (c .before .before .among .ensures) ∙ c .before .if1 .left)
 

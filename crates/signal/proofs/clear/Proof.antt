@@ -5,63 +5,48 @@ use Rattle.signal.proofs.clear.Tie as tie
 use Rattle.signal.proofs.clear.Reads as reads
 use Rattle.signal.proofs.clear.Lts as lts
 
--- src/lib.rt:75:18
 cast-length : tie.Need-cast-length
 cast-length c = search needs
 
--- src/lib.rt:76:28
 cast-spacing : tie.Need-cast-spacing
 cast-spacing c = search needs
 
--- src/lib.rt:76:19
 add-spacing : tie.Need-add-spacing
 add-spacing c = search needs
 
--- src/lib.rt:77:17
 cast-width : tie.Need-cast-width
 cast-width c = search needs
 
--- src/lib.rt:78:13
 cast-a : tie.Need-cast-a
 cast-a c = search needs
 
--- src/lib.rt:79:13
 cast-b : tie.Need-cast-b
 cast-b c = search needs
 
--- src/lib.rt:84:14
 add-result : tie.Need-add-result
 add-result c = search needs
 
--- src/lib.rt:84:14
 add-result-2 : tie.Need-add-result-2
 add-result-2 c = search needs
 
--- src/lib.rt:85:14
 add-result-3 : tie.Need-add-result-3
 add-result-3 c = search needs
 
--- src/lib.rt:85:14
 add-result-4 : tie.Need-add-result-4
 add-result-4 c = search needs
 
--- src/lib.rt:72:1
 returns : tie.Need-returns
 returns c = let g = c .before .before .before .before .before .before .args in clear-west g.s (g.side .code) g.c (c .match .keys1)
 
--- src/lib.rt:72:1
 returns-2 : tie.Need-returns-2
 returns-2 c = let g = c .before .before .before .before .before .before .args in clear-south g.s (g.side .code) g.c (c .match .keys2)
 
--- src/lib.rt:72:1
 returns-3 : tie.Need-returns-3
 returns-3 c = let g = c .before .before .before .before .before .before .args in clear-north g.s (g.side .code) g.c (c .match .keys3)
 
--- src/lib.rt:72:1
 returns-4 : tie.Need-returns-4
 returns-4 c = let g = c .before .before .before .before .before .before .args in clear-east g.s (g.side .code) g.c (c .match .keys4)
 
--- src/lib.rt:72:1
 returns-5 : tie.Need-returns-5
 returns-5 c = let g = c .before .before .before .before .before .before .args in let r = c .match .rest in clear-none g.s (g.side .code) g.c (r .0 .0 .0 .1) (r .0 .0 .1) (r .0 .1) (r .1)
 

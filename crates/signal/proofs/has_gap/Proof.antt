@@ -20,42 +20,33 @@ Inv-loop s side n items ok₀ k₀ ok k = (k ≤ n) × (n ≤ 16) × (length ite
 abbrev μ-loop : tie.MeasureT-loop
 μ-loop s side n items ok₀ k₀ ok k = n - k
 
--- src/lib.rt:95:13
 cast-n : tie.Need-cast-n Inv-loop μ-loop
 cast-n c = search needs
 
--- src/lib.rt:98:5
 loop-holds : tie.Need-loop-holds Inv-loop μ-loop
 loop-holds c = let s = c .before .before in (omega arith, s .pre, items-length (s .args .members) _ (s .good .1 .1 .0), sym (all-zero (G.clear (s .args .s) (s .args .side .code)) (s .args .members .items)))
 
--- src/lib.rt:99:34
 mul-clear : tie.Need-mul-clear Inv-loop μ-loop
 mul-clear c = search needs
 
--- src/lib.rt:99:34
 array-copy-out-clear : tie.Need-array-copy-out-clear Inv-loop μ-loop
 array-copy-out-clear c = search needs
 
--- src/lib.rt:99:13
 clear-requires : tie.Need-clear-requires Inv-loop μ-loop
 clear-requires c κs = search needs
 
--- src/lib.rt:98:9
 add-k : tie.Need-add-k Inv-loop μ-loop
 add-k c = search needs
 
--- src/lib.rt:98:5
 loop-less : tie.Need-loop-less Inv-loop μ-loop
 loop-less c = search needs
 
--- src/lib.rt:98:5
 loop-again : tie.Need-loop-again Inv-loop μ-loop
 loop-again c =
     let l = c .before .before .before .loop in
     let g = c .before .before .before .before .before .before .args in
     (omega arith, l .inv .1, l .inv .2, all-step (G.clear g.s (g.side .code)) (g.members .items) (l .k) zeroCanister (omega arith) (l .inv .3) (c .clear .ensures))
 
--- src/lib.rt:91:1
 returns : tie.Need-returns Inv-loop μ-loop
 unfolding G.hasGap
 returns c =

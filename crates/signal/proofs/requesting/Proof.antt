@@ -6,23 +6,18 @@ use Rattle.signal.proofs.requesting.Reads as reads
 use Rattle.signal.proofs.requesting.Lts as lts
 use Rattle.signal.proofs.only_if.Reads as only-if-reads
 
--- src/lib.rt:57:5
 only-if-requires : tie.Need-only-if-requires
 only-if-requires c κs = search needs
 
--- src/lib.rt:57:29
 only-if-requires-2 : tie.Need-only-if-requires-2
 only-if-requires-2 c κs = search needs
 
--- src/lib.rt:57:54
 only-if-requires-3 : tie.Need-only-if-requires-3
 only-if-requires-3 c κs = search needs
 
--- src/lib.rt:57:79
 only-if-requires-4 : tie.Need-only-if-requires-4
 only-if-requires-4 c κs = search needs
 
--- src/lib.rt:54:1
 returns : tie.Need-returns
 returns c =
     let g = c .before .before .before .before .args in

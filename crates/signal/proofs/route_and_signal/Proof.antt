@@ -7,15 +7,12 @@ use Rattle.signal.proofs.route_and_signal.Lts as lts
 use Rattle.route.proofs.route_floor.Reads as route-floor-reads
 use Rattle.signal.proofs.signal_floor.Reads as signal-floor-reads
 
--- src/lib.rt:238:9
 route-floor-requires : tie.Need-route-floor-requires
 route-floor-requires c κs = let f = c .args .f in (well-settings f (c .pre), well-fits f (c .pre))
 
--- src/lib.rt:239:5
 signal-floor-requires : tie.Need-signal-floor-requires
 signal-floor-requires c κs = let r = c .route-floor in signal-asks (c .before .args .f) (c .before .pre) (r .result) (r .ensures)
 
--- src/lib.rt:234:1
 returns : tie.Need-returns
 returns c = let r = c .before .route-floor in after-route (c .before .before .args .f) (c .before .before .pre) (r .result) (r .ensures) (c .signal-floor .ensures)
 

@@ -20,54 +20,42 @@ Inv-loop tiles all d₀ t₀ d t = (t ≤ all) × (all ≤ 64) × (length tiles 
 abbrev μ-loop : tie.MeasureT-loop
 μ-loop tiles all d₀ t₀ d t = all - t
 
--- src/lib.rt:156:15
 cast-all : tie.Need-cast-all Inv-loop μ-loop
 cast-all c = search needs
 
--- src/lib.rt:156:36
 cast-all-2 : tie.Need-cast-all-2 Inv-loop μ-loop
 cast-all-2 c = search needs
 
--- src/lib.rt:156:15
 mul-all : tie.Need-mul-all Inv-loop μ-loop
 mul-all c = search needs
 
--- src/lib.rt:158:5
 loop-holds : tie.Need-loop-holds Inv-loop μ-loop
 loop-holds c = let s = c .before .before in (omega arith, s .pre, s .good .1 .0 .1 .0 .1, refl, within-none (shownIn (s .args .t2)) 0 65)
 
--- src/lib.rt:159:20
 mul-tile : tie.Need-mul-tile Inv-loop μ-loop
 mul-tile c = search needs
 
--- src/lib.rt:159:20
 array-copy-out-tile : tie.Need-array-copy-out-tile Inv-loop μ-loop
 array-copy-out-tile c = search needs
 
--- src/lib.rt:160:16
 shown-next-requires : tie.Need-shown-next-requires Inv-loop μ-loop
 shown-next-requires c κs = search needs
 
--- src/lib.rt:160:9
 array-write-d : tie.Need-array-write-d Inv-loop μ-loop
 array-write-d c = search needs
 
--- src/lib.rt:158:9
 add-t : tie.Need-add-t Inv-loop μ-loop
 add-t c = search needs
 
--- src/lib.rt:158:5
 loop-less : tie.Need-loop-less Inv-loop μ-loop
 loop-less c = search needs
 
--- src/lib.rt:158:5
 loop-again : tie.Need-loop-again Inv-loop μ-loop
 loop-again c =
     let l = c .before .before .before .loop in
     let g = c .before .before .before .before .before .before .args in
     (omega arith, l .inv .1, l .inv .2, simp length-set (l .inv .3), within-turn (shownIn g.t2) 0 (l .d) 65 (l .t) (c .shown-next .result) (omega arith) (c .shown-next .ensures) (l .inv .4))
 
--- src/lib.rt:152:1
 returns : tie.Need-returns Inv-loop μ-loop
 returns c =
     let l = c .before .loop in

@@ -5,11 +5,9 @@ use Rattle.signal.proofs.shown_next.Tie as tie
 use Rattle.signal.proofs.shown_next.Reads as reads
 use Rattle.signal.proofs.shown_next.Lts as lts
 
--- src/lib.rt:145:1
 returns : tie.Need-returns
 returns c = let g = c .before .args in pick-yes g.next 0 (lt-ltb 0 g.count (c .if1 .taken))
 
--- src/lib.rt:145:1
 returns-2 : tie.Need-returns-2
 returns-2 c = let g = c .before .args in pick-no g.next 0 (le-ltb 0 g.count (c .if1 .left))
 

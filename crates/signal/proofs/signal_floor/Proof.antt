@@ -7,7 +7,6 @@ use Rattle.signal.proofs.signal_floor.Reads as reads
 use Rattle.signal.proofs.signal_floor.Lts as lts
 use Rattle.signal.proofs.signal_pass.Reads as signal-pass-reads
 
--- src/lib.rt:222:9
 signal-pass-requires : tie.Need-signal-pass-requires
 signal-pass-requires c κs =
     let s = c .before .before .before in
@@ -15,7 +14,6 @@ signal-pass-requires c κs =
     let r = ranged (f .settings) (s .pre .0) in
     (r, s .pre .2, few-on f (r .2) (s .pre .1))
 
--- src/lib.rt:215:1
 returns : tie.Need-returns
 returns c =
     let s = c .before .before .before .before .before .before in

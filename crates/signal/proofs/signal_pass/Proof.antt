@@ -33,23 +33,18 @@ Inv-loop s tiles canisters all show out₀ grants₀ t₀ out grants t = (t ≤ 
 abbrev μ-loop : tie.MeasureT-loop
 μ-loop s tiles canisters all show out₀ grants₀ t₀ out grants t = all - t
 
--- src/lib.rt:185:15
 cast-all : tie.Need-cast-all Inv-loop2 μ-loop2 Inv-loop μ-loop
 cast-all c = search needs
 
--- src/lib.rt:185:36
 cast-all-2 : tie.Need-cast-all-2 Inv-loop2 μ-loop2 Inv-loop μ-loop
 cast-all-2 c = search needs
 
--- src/lib.rt:185:15
 mul-all : tie.Need-mul-all Inv-loop2 μ-loop2 Inv-loop μ-loop
 mul-all c = search needs
 
--- src/lib.rt:186:16
 shown-requires : tie.Need-shown-requires Inv-loop2 μ-loop2 Inv-loop μ-loop
 shown-requires c κs = c .before .before .pre .0 .2
 
--- src/lib.rt:189:5
 loop-holds : tie.Need-loop-holds Inv-loop2 μ-loop2 Inv-loop μ-loop
 loop-holds c =
     let s = c .before .before .before in
@@ -57,43 +52,33 @@ loop-holds c =
     let n = s .good .1 .0 .1 .0 .1 in
     (omega arith, s .pre .0 .2, n, s .good .1 .1 .0 .1 .0 .1, redone-none (M.tileAt g.s g.t2 g.t3) g.t2 n, granted-none (M.grantAt g.s g.t2 g.t3))
 
--- src/lib.rt:191:9
 loop2-holds : tie.Need-loop2-holds Inv-loop2 μ-loop2 Inv-loop μ-loop
 loop2-holds c = let l = c .before .loop in (omega arith, omega arith, refl, l .inv .3, l .inv .2, refl)
 
--- src/lib.rt:192:34
 mul-items : tie.Need-mul-items Inv-loop2 μ-loop2 Inv-loop μ-loop
 mul-items c = search needs
 
--- src/lib.rt:192:34
 add-items : tie.Need-add-items Inv-loop2 μ-loop2 Inv-loop μ-loop
 add-items c = search needs
 
--- src/lib.rt:192:24
 mul-items-2 : tie.Need-mul-items-2 Inv-loop2 μ-loop2 Inv-loop μ-loop
 mul-items-2 c = search needs
 
--- src/lib.rt:192:24
 array-copy-out-items : tie.Need-array-copy-out-items Inv-loop2 μ-loop2 Inv-loop μ-loop
 array-copy-out-items c = search needs
 
--- src/lib.rt:192:13
 mul-items-3 : tie.Need-mul-items-3 Inv-loop2 μ-loop2 Inv-loop μ-loop
 mul-items-3 c = search needs
 
--- src/lib.rt:192:13
 array-set-from-items : tie.Need-array-set-from-items Inv-loop2 μ-loop2 Inv-loop μ-loop
 array-set-from-items c = search needs
 
--- src/lib.rt:191:13
 add-k : tie.Need-add-k Inv-loop2 μ-loop2 Inv-loop μ-loop
 add-k c = search needs
 
--- src/lib.rt:191:9
 loop2-less : tie.Need-loop2-less Inv-loop2 μ-loop2 Inv-loop μ-loop
 loop2-less c = search needs
 
--- src/lib.rt:191:9
 loop2-again : tie.Need-loop2-again Inv-loop2 μ-loop2 Inv-loop μ-loop
 loop2-again c =
     let l = c .before .before .loop2 in
@@ -101,75 +86,57 @@ loop2-again c =
     let g = c .before .before .before .before .before .before .before .before .args in
     (omega arith, l .inv .1, simp length-set (l .inv .2), l .inv .3, l .inv .4, copy-turn (l .items) g.t3 (16 * o .t) (l .k) zeroCanister (omega arith) (omega arith) (l .inv .5))
 
--- src/lib.rt:194:20
 mul-tile : tie.Need-mul-tile Inv-loop2 μ-loop2 Inv-loop μ-loop
 mul-tile c = search needs
 
--- src/lib.rt:194:20
 array-copy-out-tile : tie.Need-array-copy-out-tile Inv-loop2 μ-loop2 Inv-loop μ-loop
 array-copy-out-tile c = search needs
 
--- src/lib.rt:200:25
 neighbour-requires : tie.Need-neighbour-requires Inv-loop2 μ-loop2 Inv-loop μ-loop
 neighbour-requires c κs = let s = c .before .before .before .before .before .before .before .before .before in (s .pre .0 .0, s .pre .0 .1, s .pre .0 .2, omega arith)
 
--- src/lib.rt:200:20
 array-read-west : tie.Need-array-read-west Inv-loop2 μ-loop2 Inv-loop μ-loop
 array-read-west c = let s = c .before .before .before .before .before .before .before .before .before .before in near-read (s .args .s) 1 (c .before .before .before .before .before .before .loop .t) (omega arith) (s .pre .0 .2) (c .neighbour .ensures)
 
--- src/lib.rt:201:26
 neighbour-requires-2 : tie.Need-neighbour-requires-2 Inv-loop2 μ-loop2 Inv-loop μ-loop
 neighbour-requires-2 c κs = let s = c .before .before .before .before .before .before .before .before .before .before in (s .pre .0 .0, s .pre .0 .1, s .pre .0 .2, omega arith)
 
--- src/lib.rt:201:21
 array-read-south : tie.Need-array-read-south Inv-loop2 μ-loop2 Inv-loop μ-loop
 array-read-south c = let s = c .before .before .before .before .before .before .before .before .before .before .before in near-read (s .args .s) 2 (c .before .before .before .before .before .before .before .loop .t) (omega arith) (s .pre .0 .2) (c .neighbour2 .ensures)
 
--- src/lib.rt:202:26
 neighbour-requires-3 : tie.Need-neighbour-requires-3 Inv-loop2 μ-loop2 Inv-loop μ-loop
 neighbour-requires-3 c κs = let s = c .before .before .before .before .before .before .before .before .before .before .before in (s .pre .0 .0, s .pre .0 .1, s .pre .0 .2, omega arith)
 
--- src/lib.rt:202:21
 array-read-north : tie.Need-array-read-north Inv-loop2 μ-loop2 Inv-loop μ-loop
 array-read-north c = let s = c .before .before .before .before .before .before .before .before .before .before .before .before in near-read (s .args .s) 3 (c .before .before .before .before .before .before .before .before .loop .t) (omega arith) (s .pre .0 .2) (c .neighbour3 .ensures)
 
--- src/lib.rt:203:25
 neighbour-requires-4 : tie.Need-neighbour-requires-4 Inv-loop2 μ-loop2 Inv-loop μ-loop
 neighbour-requires-4 c κs = let s = c .before .before .before .before .before .before .before .before .before .before .before .before in (s .pre .0 .0, s .pre .0 .1, s .pre .0 .2, omega arith)
 
--- src/lib.rt:203:20
 array-read-east : tie.Need-array-read-east Inv-loop2 μ-loop2 Inv-loop μ-loop
 array-read-east c = let s = c .before .before .before .before .before .before .before .before .before .before .before .before .before in near-read (s .args .s) 4 (c .before .before .before .before .before .before .before .before .before .loop .t) (omega arith) (s .pre .0 .2) (c .neighbour4 .ensures)
 
--- src/lib.rt:204:13
 signal-tile-requires : tie.Need-signal-tile-requires Inv-loop2 μ-loop2 Inv-loop μ-loop
 signal-tile-requires c κs = let s = c .before .before .before .before .before .before .before .before .before .before .before .before .before in let t = c .before .before .before .before .before .before .before .before .before .loop .t in (s .pre .1 t (omega arith), s .pre .2 t (omega arith))
 
--- src/lib.rt:205:18
 with-token-requires : tie.Need-with-token-requires Inv-loop2 μ-loop2 Inv-loop μ-loop
 with-token-requires c κs = search needs
 
--- src/lib.rt:205:9
 mul-out : tie.Need-mul-out Inv-loop2 μ-loop2 Inv-loop μ-loop
 mul-out c = search needs
 
--- src/lib.rt:205:9
 array-set-from-out : tie.Need-array-set-from-out Inv-loop2 μ-loop2 Inv-loop μ-loop
 array-set-from-out c = search needs
 
--- src/lib.rt:206:9
 array-write-grants : tie.Need-array-write-grants Inv-loop2 μ-loop2 Inv-loop μ-loop
 array-write-grants c = search needs
 
--- src/lib.rt:189:9
 add-t : tie.Need-add-t Inv-loop2 μ-loop2 Inv-loop μ-loop
 add-t c = search needs
 
--- src/lib.rt:189:5
 loop-less : tie.Need-loop-less Inv-loop2 μ-loop2 Inv-loop μ-loop
 loop-less c = search needs
 
--- src/lib.rt:189:5
 loop-again : tie.Need-loop-again Inv-loop2 μ-loop2 Inv-loop μ-loop
 unfolding M.tileAt M.grantAt
 loop-again c =
@@ -198,7 +165,6 @@ loop-again c =
       granted-turn (M.grantAt g.s g.t2 g.t3) (o .grants) (o .t) (r .result .grant) here (o .inv .5) (ap (λ (x : Signal). x .grant) v),
     )
 
--- src/lib.rt:181:1
 returns : tie.Need-returns Inv-loop2 μ-loop2 Inv-loop μ-loop
 returns c =
     let l = c .before .loop in

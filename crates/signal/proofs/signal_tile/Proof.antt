@@ -18,7 +18,6 @@ use Rattle.signal.proofs.chosen.Reads as chosen-reads
 use Rattle.signal.proofs.has_gap.Reads as has-gap-reads
 use Rattle.signal.proofs.requesting.Reads as requesting-reads
 
--- src/lib.rt:120:9
 returns : tie.Need-returns
 returns c =
     let g = c .before .args in
@@ -26,15 +25,12 @@ returns c =
     let p = G.requests g.west g.south g.north g.east in
     signal-stopped g.s (eqb g.running 1) (g.token .code) l p (ne-eqb g.running 1 (c .if1 .taken))
 
--- src/lib.rt:125:9
 requesting-requires : tie.Need-requesting-requires
 requesting-requires c κs = search needs
 
--- src/lib.rt:126:9
 chosen-requires : tie.Need-chosen-requires
 chosen-requires c κs = (c .before .before .pre .0, c .requesting .ensures .0)
 
--- src/lib.rt:128:9
 returns-2 : tie.Need-returns-2
 returns-2 c =
     let g = c .before .before .before .before .before .args in
@@ -44,17 +40,14 @@ returns-2 c =
     let e : S.chosen p (g.token .code) ≡ c .before .before .chosen .result .code = sym (c .before .before .chosen .ensures ∙ ap (λ (p : ℕ → Bool). S.chosen p (g.token .code)) (c .before .before .before .requesting .ensures .1)) in
     signal-none g.s (eqb g.running 1) (g.token .code) l p r (e ∙ c .if2 .taken)
 
--- src/lib.rt:130:9
 has-gap-requires : tie.Need-has-gap-requires
 has-gap-requires c κs = c .before .before .before .before .before .pre .1
 
--- src/lib.rt:132:13
 following-requires : tie.Need-following-requires
 following-requires c κs =
     let s = c .before .before .before .before .before .before .before in
     (rw (c .before .before .before .before .chosen .ensures) (chosen-le (inSet (c .before .before .before .before .before .requesting .result)) (s .args .token .code) (s .pre .0)), c .before .before .before .before .before .requesting .ensures .0)
 
--- src/lib.rt:133:9
 returns-3 : tie.Need-returns-3
 returns-3 c =
     let g = c .before .before .before .before .before .before .before .before .args in
@@ -66,7 +59,6 @@ returns-3 c =
     let e : S.chosen p (g.token .code) ≡ k = sym (c .before .before .before .before .before .chosen .ensures ∙ ap (λ (p : ℕ → Bool). S.chosen p (g.token .code)) q) in
     signal-grants g.s (eqb g.running 1) (g.token .code) l p k r e (c .before .before .before .if2 .left) (c .following .ensures ∙ ap (λ (p : ℕ → Bool). S.following p k) q) (sym (c .before .before .has-gap .ensures) ∙ c .before .if3 .taken)
 
--- src/lib.rt:106:1
 returns-4 : tie.Need-returns-4
 returns-4 c =
     let g = c .before .before .before .before .before .before .before .args in

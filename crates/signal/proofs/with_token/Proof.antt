@@ -5,7 +5,6 @@ use Rattle.signal.proofs.with_token.Tie as tie
 use Rattle.signal.proofs.with_token.Reads as reads
 use Rattle.signal.proofs.with_token.Lts as lts
 
--- src/lib.rt:166:1
 returns : tie.Need-returns
 unfolding tokened
 returns c = refl

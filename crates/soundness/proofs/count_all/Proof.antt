@@ -17,43 +17,34 @@ Inv-loop tiles sum₀ k₀ sum k = (k ≤ 64) × (length tiles ≡ 64) × (sum �
 abbrev μ-loop : tie.MeasureT-loop
 μ-loop tiles sum₀ k₀ sum k = 64 - k
 
--- src/lib.rt:218:5
 loop-holds : tie.Need-loop-holds Inv-loop μ-loop
 unfolding counted
 loop-holds c = (omega arith, c .good .0 .1 .0 .1, omega arith, refl)
 
--- src/lib.rt:219:17
 mul-h : tie.Need-mul-h Inv-loop μ-loop
 mul-h c = search needs
 
--- src/lib.rt:219:17
 array-copy-out-h : tie.Need-array-copy-out-h Inv-loop μ-loop
 array-copy-out-h c = search needs
 
--- src/lib.rt:220:17
 cast-n : tie.Need-cast-n Inv-loop μ-loop
 cast-n c = search needs
 
--- src/lib.rt:221:15
 add-sum : tie.Need-add-sum Inv-loop μ-loop
 add-sum c = search needs
 
--- src/lib.rt:218:9
 add-k : tie.Need-add-k Inv-loop μ-loop
 add-k c = search needs
 
--- src/lib.rt:218:5
 loop-less : tie.Need-loop-less Inv-loop μ-loop
 loop-less c = search needs
 
--- src/lib.rt:218:5
 loop-again : tie.Need-loop-again Inv-loop μ-loop
 loop-again c =
     let l = c .before .before .before .loop in
     let g = c .before .before .before .before .args in
     (omega arith, l .inv .1, omega arith, omega (arith, counted-more g.t1 (l .k), l .inv .3))
 
--- src/lib.rt:214:1
 returns : tie.Need-returns Inv-loop μ-loop
 returns c =
     let l = c .before .loop in

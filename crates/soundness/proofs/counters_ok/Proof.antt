@@ -7,19 +7,15 @@ use Rattle.soundness.proofs.counters_ok.Tie as tie
 use Rattle.soundness.proofs.counters_ok.Reads as reads
 use Rattle.soundness.proofs.counters_ok.Lts as lts
 
--- src/lib.rt:230:16
 cast-sum : tie.Need-cast-sum
 cast-sum c = search needs
 
--- src/lib.rt:230:15
 add-sum : tie.Need-add-sum
 add-sum c = search needs
 
--- src/lib.rt:231:18
 cast-booked : tie.Need-cast-booked
 cast-booked c = search needs
 
--- src/lib.rt:227:1
 returns : tie.Need-returns
 returns c =
     let g = c .before .before .before .args in

@@ -19,42 +19,33 @@ Inv-loop canisters keys₀ k₀ keys k = (k ≤ 1024) × (length canisters ≡ 1
 abbrev μ-loop : tie.MeasureT-loop
 μ-loop canisters keys₀ k₀ keys k = 1024 - k
 
--- src/lib.rt:240:5
 loop-holds : tie.Need-loop-holds Inv-loop μ-loop
 loop-holds c = (omega arith, c .good .0 .1 .0 .1, refl, λ i h. absurd (omega arith))
 
--- src/lib.rt:241:17
 mul-c : tie.Need-mul-c Inv-loop μ-loop
 mul-c c = search needs
 
--- src/lib.rt:241:17
 array-copy-out-c : tie.Need-array-copy-out-c Inv-loop μ-loop
 array-copy-out-c c = search needs
 
--- src/lib.rt:242:9
 mul-keys : tie.Need-mul-keys Inv-loop μ-loop
 mul-keys c = search needs
 
--- src/lib.rt:242:9
 array-write-keys : tie.Need-array-write-keys Inv-loop μ-loop
 array-write-keys c = search needs
 
--- src/lib.rt:240:9
 add-k : tie.Need-add-k Inv-loop μ-loop
 add-k c = search needs
 
--- src/lib.rt:240:5
 loop-less : tie.Need-loop-less Inv-loop μ-loop
 loop-less c = search needs
 
--- src/lib.rt:240:5
 loop-again : tie.Need-loop-again Inv-loop μ-loop
 loop-again c =
     let l = c .before .before .loop in
     let g = c .before .before .before .args in
     (omega arith, l .inv .1, simp length-set (l .inv .2), upto-turn (l .k) (λ i. getD g.t1 i zeroCanister .number) 0 (l .keys) _ (omega arith) (l .inv .3) refl)
 
--- src/lib.rt:236:1
 returns : tie.Need-returns Inv-loop μ-loop
 returns c =
     let l = c .before .loop in

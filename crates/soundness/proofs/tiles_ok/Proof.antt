@@ -27,47 +27,36 @@ Inv-loop s last tiles canisters zero ok₀ t₀ ok t = (t ≤ 64) × (length can
 abbrev μ-loop : tie.MeasureT-loop
 μ-loop s last tiles canisters zero ok₀ t₀ ok t = 64 - t
 
--- src/lib.rt:202:5
 loop-holds : tie.Need-loop-holds Inv-loop2 μ-loop2 Inv-loop μ-loop
 loop-holds c = (omega arith, c .good .1 .1 .1 .0 .1 .0 .1, c .good .1 .1 .0 .1 .0 .1, sym (below-zero _))
 
--- src/lib.rt:204:9
 loop2-holds : tie.Need-loop2-holds Inv-loop2 μ-loop2 Inv-loop μ-loop
 loop2-holds c = let l = c .before .loop in (omega arith, omega arith, refl, l .inv .1, l .inv .2, refl, l .inv .3)
 
--- src/lib.rt:205:34
 mul-items : tie.Need-mul-items Inv-loop2 μ-loop2 Inv-loop μ-loop
 mul-items c = search needs
 
--- src/lib.rt:205:34
 add-items : tie.Need-add-items Inv-loop2 μ-loop2 Inv-loop μ-loop
 add-items c = search needs
 
--- src/lib.rt:205:24
 mul-items-2 : tie.Need-mul-items-2 Inv-loop2 μ-loop2 Inv-loop μ-loop
 mul-items-2 c = search needs
 
--- src/lib.rt:205:24
 array-copy-out-items : tie.Need-array-copy-out-items Inv-loop2 μ-loop2 Inv-loop μ-loop
 array-copy-out-items c = search needs
 
--- src/lib.rt:205:13
 mul-items-3 : tie.Need-mul-items-3 Inv-loop2 μ-loop2 Inv-loop μ-loop
 mul-items-3 c = search needs
 
--- src/lib.rt:205:13
 array-set-from-items : tie.Need-array-set-from-items Inv-loop2 μ-loop2 Inv-loop μ-loop
 array-set-from-items c = search needs
 
--- src/lib.rt:204:13
 add-k : tie.Need-add-k Inv-loop2 μ-loop2 Inv-loop μ-loop
 add-k c = search needs
 
--- src/lib.rt:204:9
 loop2-less : tie.Need-loop2-less Inv-loop2 μ-loop2 Inv-loop μ-loop
 loop2-less c = search needs
 
--- src/lib.rt:204:9
 loop2-again : tie.Need-loop2-again Inv-loop2 μ-loop2 Inv-loop μ-loop
 loop2-again c =
     let l = c .before .before .loop2 in
@@ -75,27 +64,21 @@ loop2-again c =
     let g = c .before .before .before .before .before .args in
     (omega arith, l .inv .1, simp length-set (l .inv .2), l .inv .3, l .inv .4, copy-turn (l .items) g.t4 (16 * o .t) (l .k) zeroCanister (omega arith) (omega arith) (l .inv .5), l .inv .6)
 
--- src/lib.rt:207:39
 mul-tile-ok : tie.Need-mul-tile-ok Inv-loop2 μ-loop2 Inv-loop μ-loop
 mul-tile-ok c = search needs
 
--- src/lib.rt:207:39
 array-copy-out-tile-ok : tie.Need-array-copy-out-tile-ok Inv-loop2 μ-loop2 Inv-loop μ-loop
 array-copy-out-tile-ok c = search needs
 
--- src/lib.rt:207:13
 tile-ok-requires : tie.Need-tile-ok-requires Inv-loop2 μ-loop2 Inv-loop μ-loop
 tile-ok-requires c κs = c .before .before .before .before .before .pre
 
--- src/lib.rt:202:9
 add-t : tie.Need-add-t Inv-loop2 μ-loop2 Inv-loop μ-loop
 add-t c = search needs
 
--- src/lib.rt:202:5
 loop-less : tie.Need-loop-less Inv-loop2 μ-loop2 Inv-loop μ-loop
 loop-less c = search needs
 
--- src/lib.rt:202:5
 loop-again : tie.Need-loop-again Inv-loop2 μ-loop2 Inv-loop μ-loop
 unfolding tilesTest
 loop-again c =
@@ -107,7 +90,6 @@ loop-again c =
     let test = tileTest g.s g.last (o .t) (getD g.t3 (o .t) zeroTile) in
     (omega arith, l .inv .3, l .inv .4, below-step (tilesTest g.s g.last g.t3 g.t4) (o .t) (l .inv .6) (_∙_ {b = test (l .items)} (c .tile-ok .ensures) (ap test e)))
 
--- src/lib.rt:192:1
 returns : tie.Need-returns Inv-loop2 μ-loop2 Inv-loop μ-loop
 returns c =
     let l = c .before .loop in

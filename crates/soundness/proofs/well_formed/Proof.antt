@@ -20,11 +20,9 @@ use Rattle.soundness.proofs.keys_of.Reads as keys-of-reads
 use Rattle.soundness.proofs.tiles_ok.Reads as tiles-ok-reads
 use Rattle.chains.proofs.numbers_differ.Reads as numbers-differ-reads
 
--- src/lib.rt:255:9
 settings-refusal-requires : tie.Need-settings-refusal-requires
 settings-refusal-requires c κs = search needs
 
--- src/lib.rt:257:9
 returns : tie.Need-returns
 returns c =
     let f = c .before .before .before .args .f in
@@ -32,13 +30,11 @@ returns c =
     let off : settingsPass (f .settings) ≡ false = pass-not (f .settings) _ (c .before .settings-refusal .ensures) (c .if1 .taken) in
     well-refused f (tiles-length f _ g) (canisters-length f _ g) off
 
--- src/lib.rt:262:9
 tiles-ok-requires : tie.Need-tiles-ok-requires
 tiles-ok-requires c κs =
     let f = c .before .before .before .before .before .before .args .f in
     pass-sized (f .settings) (pass-of (f .settings) _ (c .before .before .before .before .settings-refusal .ensures) (c .before .before .before .if1 .left))
 
--- src/lib.rt:264:9
 returns-2 : tie.Need-returns-2
 returns-2 c =
     let f = c .before .before .before .before .before .before .before .before .args .f in
@@ -47,19 +43,15 @@ returns-2 c =
     let some : allBelow (testOf f) 64 ≡ false = sym (c .before .tiles-ok .ensures) ∙ not-true _ (c .if2 .taken) in
     well-unlike f (tiles-length f _ g) (canisters-length f _ g) on some
 
--- src/lib.rt:266:9
 count-all-requires : tie.Need-count-all-requires
 count-all-requires c κs = search needs
 
--- src/lib.rt:267:9
 counters-ok-requires : tie.Need-counters-ok-requires
 counters-ok-requires c κs = search needs
 
--- src/lib.rt:268:9
 keys-of-requires : tie.Need-keys-of-requires
 keys-of-requires c κs = search needs
 
--- src/lib.rt:269:9
 numbers-differ-requires : tie.Need-numbers-differ-requires
 numbers-differ-requires c κs =
     let f = c .before .before .before .before .before .before .before .before .before .before .before .args .f in
@@ -67,7 +59,6 @@ numbers-differ-requires c κs =
     let all : allBelow (testOf f) 64 ≡ true = sym (c .before .before .before .before .tiles-ok .ensures) ∙ not-false _ (c .before .before .before .if2 .left) in
     subst (λ (l : List ℕ). Runs l) (sym (c .keys-of .ensures)) (keys-run f all (canisters-length f _ g))
 
--- src/lib.rt:251:1
 returns-3 : tie.Need-returns-3
 returns-3 c =
     let f = c .before .before .before .before .before .before .before .before .before .before .before .before .args .f in

@@ -7,15 +7,12 @@ use Rattle.tiletest.proofs.faces_ok.Lts as lts
 use Rattle.floor.proofs.Side.neighbour.Reads as neighbour-reads
 use Rattle.settings.proofs.tiles_of.Reads as tiles-of-reads
 
--- src/lib.rt:63:9
 tiles-of-requires : tie.Need-tiles-of-requires
 tiles-of-requires c κs = search needs
 
--- src/lib.rt:64:9
 neighbour-requires : tie.Need-neighbour-requires
 neighbour-requires c κs = let p = c .before .pre in (p .0 .0, p .0 .1, p .0 .2, p .1)
 
--- src/lib.rt:59:1
 returns : tie.Need-returns
 unfolding faces
 returns c = cc

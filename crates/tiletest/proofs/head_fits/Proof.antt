@@ -13,11 +13,9 @@ use Rattle.tiletest.proofs.head_fits.Lts as lts
 use Rattle.settings.proofs.tiles_of.Reads as tiles-of-reads
 use Rattle.tiletest.proofs.zero_tile.Reads as zero-tile-reads
 
--- src/lib.rt:99:9
 tiles-of-requires : tie.Need-tiles-of-requires
 tiles-of-requires c κs = search needs
 
--- src/lib.rt:101:9
 returns : tie.Need-returns
 unfolding headFits
 returns c =
@@ -26,11 +24,9 @@ returns c =
     let on : g.t < total g.s = rw (c .before .before .tiles-of .ensures) at on0 in
     pick-yes (leb (g.h .count) 16) (isZeroTile g.h) (lt-ltb g.t (total g.s) on)
 
--- src/lib.rt:103:5
 zero-tile-requires : tie.Need-zero-tile-requires
 zero-tile-requires c κs = search needs
 
--- src/lib.rt:96:1
 returns-2 : tie.Need-returns-2
 unfolding headFits
 returns-2 c =

@@ -8,19 +8,15 @@ use Rattle.tiletest.proofs.head_ok.Lts as lts
 use Rattle.tiletest.proofs.faces_ok.Reads as faces-ok-reads
 use Rattle.tiletest.proofs.state_ok.Reads as state-ok-reads
 
--- src/lib.rt:87:9
 state-ok-requires : tie.Need-state-ok-requires
 state-ok-requires c κs = search needs
 
--- src/lib.rt:90:9
 faces-ok-requires : tie.Need-faces-ok-requires
 faces-ok-requires c κs = c .before .before .before .pre
 
--- src/lib.rt:91:9
 faces-ok-requires-2 : tie.Need-faces-ok-requires-2
 faces-ok-requires-2 c κs = c .before .before .before .before .pre
 
--- src/lib.rt:83:1
 returns : tie.Need-returns
 unfolding headSound stateSound
 returns c = cc

@@ -5,7 +5,6 @@ use Rattle.tiletest.proofs.hopper_ok.Tie as tie
 use Rattle.tiletest.proofs.hopper_ok.Reads as reads
 use Rattle.tiletest.proofs.hopper_ok.Lts as lts
 
--- src/lib.rt:35:1
 returns : tie.Need-returns
 unfolding hopperSound
 returns c = refl

@@ -7,11 +7,9 @@ use Rattle.tiletest.proofs.member_ok.Tie as tie
 use Rattle.tiletest.proofs.member_ok.Reads as reads
 use Rattle.tiletest.proofs.member_ok.Lts as lts
 
--- src/lib.rt:111:16
 sub-span : tie.Need-sub-span
 sub-span c = omega (arith, c .before .pre)
 
--- src/lib.rt:107:1
 returns : tie.Need-returns
 unfolding memberSound inside
 returns c = refl

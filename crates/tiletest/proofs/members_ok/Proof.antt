@@ -19,40 +19,32 @@ Inv-loop s last n items ok₀ k₀ ok k = (k ≤ n) × (n ≤ 16) × (length ite
 abbrev μ-loop : tie.MeasureT-loop
 μ-loop s last n items ok₀ k₀ ok k = n - k
 
--- src/lib.rt:147:5
 loop-holds : tie.Need-loop-holds Inv-loop μ-loop
 loop-holds c =
     let g = c .args in
     (omega arith, c .pre .0, c .good .1 .1 .0 .1 .0 .1, sym (all-zero (memberSound g.s g.last) g.t3))
 
--- src/lib.rt:148:38
 mul-member-ok : tie.Need-mul-member-ok Inv-loop μ-loop
 mul-member-ok c = search needs
 
--- src/lib.rt:148:38
 array-copy-out-member-ok : tie.Need-array-copy-out-member-ok Inv-loop μ-loop
 array-copy-out-member-ok c = search needs
 
--- src/lib.rt:148:13
 member-ok-requires : tie.Need-member-ok-requires Inv-loop μ-loop
 member-ok-requires c κs = c .before .before .before .pre .1
 
--- src/lib.rt:147:9
 add-k : tie.Need-add-k Inv-loop μ-loop
 add-k c = search needs
 
--- src/lib.rt:147:5
 loop-less : tie.Need-loop-less Inv-loop μ-loop
 loop-less c = search needs
 
--- src/lib.rt:147:5
 loop-again : tie.Need-loop-again Inv-loop μ-loop
 loop-again c =
     let l = c .before .before .before .loop in
     let g = c .before .before .before .before .args in
     (omega arith, l .inv .1, l .inv .2, all-step (memberSound g.s g.last) g.t3 (l .k) zeroCanister (omega arith) (l .inv .3) (c .member-ok .ensures))
 
--- src/lib.rt:142:1
 returns : tie.Need-returns Inv-loop μ-loop
 returns c =
     let l = c .before .loop in

@@ -26,46 +26,36 @@ Inv-loop s n items ok₀ j₀ ok j = (j ≤ n) × (n ≤ 16) × (length items �
 abbrev μ-loop : tie.MeasureT-loop
 μ-loop s n items ok₀ j₀ ok j = n - j
 
--- src/lib.rt:160:5
 loop-holds : tie.Need-loop-holds Inv-loop2 μ-loop2 Inv-loop μ-loop
 loop-holds c = (omega arith, c .pre, c .good .1 .0 .1 .0 .1, sym (pairs-zero (inOrder (c .args .s)) (c .args .t2)))
 
--- src/lib.rt:161:17
 mul-y : tie.Need-mul-y Inv-loop2 μ-loop2 Inv-loop μ-loop
 mul-y c = search needs
 
--- src/lib.rt:161:17
 array-copy-out-y : tie.Need-array-copy-out-y Inv-loop2 μ-loop2 Inv-loop μ-loop
 array-copy-out-y c = search needs
 
--- src/lib.rt:162:9
 loop2-holds : tie.Need-loop2-holds Inv-loop2 μ-loop2 Inv-loop μ-loop
 loop2-holds c =
     let l = c .before .before .loop in
     let g = c .before .before .before .args in
     (omega arith, omega arith, l .inv .1, l .inv .2, with-zero (λ x. inOrder g.s x (getD g.t2 (l .j) zeroCanister)) g.t2 (l .inv .3))
 
--- src/lib.rt:163:35
 mul-in-order : tie.Need-mul-in-order Inv-loop2 μ-loop2 Inv-loop μ-loop
 mul-in-order c = search needs
 
--- src/lib.rt:163:35
 array-copy-out-in-order : tie.Need-array-copy-out-in-order Inv-loop2 μ-loop2 Inv-loop μ-loop
 array-copy-out-in-order c = search needs
 
--- src/lib.rt:163:17
 in-order-requires : tie.Need-in-order-requires Inv-loop2 μ-loop2 Inv-loop μ-loop
 in-order-requires c κs = search needs
 
--- src/lib.rt:162:13
 add-i : tie.Need-add-i Inv-loop2 μ-loop2 Inv-loop μ-loop
 add-i c = search needs
 
--- src/lib.rt:162:9
 loop2-less : tie.Need-loop2-less Inv-loop2 μ-loop2 Inv-loop μ-loop
 loop2-less c = search needs
 
--- src/lib.rt:162:9
 loop2-again : tie.Need-loop2-again Inv-loop2 μ-loop2 Inv-loop μ-loop
 loop2-again c =
     let l = c .before .before .before .loop2 in
@@ -73,15 +63,12 @@ loop2-again c =
     let g = c .before .before .before .before .before .before .before .args in
     (omega arith, l .inv .1, l .inv .2, l .inv .3, with-step (pairsOf (inOrder g.s) (take (o .j) g.t2)) (λ x. inOrder g.s x (getD g.t2 (o .j) zeroCanister)) g.t2 (l .i) zeroCanister (omega arith) (l .inv .4) (c .in-order .ensures))
 
--- src/lib.rt:160:9
 add-j : tie.Need-add-j Inv-loop2 μ-loop2 Inv-loop μ-loop
 add-j c = search needs
 
--- src/lib.rt:160:5
 loop-less : tie.Need-loop-less Inv-loop2 μ-loop2 Inv-loop μ-loop
 loop-less c = search needs
 
--- src/lib.rt:160:5
 loop-again : tie.Need-loop-again Inv-loop2 μ-loop2 Inv-loop μ-loop
 loop-again c =
     let l = c .before .loop2 in
@@ -90,7 +77,6 @@ loop-again c =
     let e = ended (λ (i : ℕ). pairsOf (inOrder g.s) (take (o .j) g.t2) && allOf (λ x. inOrder g.s x (getD g.t2 (o .j) zeroCanister)) (take i g.t2)) (omega arith) (l .inv .0) (l .inv .4) in
     (omega arith, l .inv .2, l .inv .3, e ∙ sym (pairs-more (inOrder g.s) g.t2 (o .j) zeroCanister (omega arith)))
 
--- src/lib.rt:155:1
 returns : tie.Need-returns Inv-loop2 μ-loop2 Inv-loop μ-loop
 returns c =
     let l = c .before .loop in

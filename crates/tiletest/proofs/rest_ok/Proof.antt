@@ -19,41 +19,32 @@ Inv-loop n items left ok₀ k₀ ok k = (k ≤ left) × (n + left ≡ 16) × (le
 abbrev μ-loop : tie.MeasureT-loop
 μ-loop n items left ok₀ k₀ ok k = left - k
 
--- src/lib.rt:132:16
 sub-left : tie.Need-sub-left Inv-loop μ-loop
 sub-left c = search needs
 
--- src/lib.rt:134:5
 loop-holds : tie.Need-loop-holds Inv-loop μ-loop
 loop-holds c =
     let g = c .args in
     (omega arith, omega (arith, c .pre), c .good .0 .1 .0 .1, sym (all-zero isZeroCanister (drop g.n g.t1)))
 
--- src/lib.rt:135:39
 add-zero-canister : tie.Need-add-zero-canister Inv-loop μ-loop
 add-zero-canister c = search needs
 
--- src/lib.rt:135:33
 mul-zero-canister : tie.Need-mul-zero-canister Inv-loop μ-loop
 mul-zero-canister c = search needs
 
--- src/lib.rt:135:33
 array-copy-out-zero-canister : tie.Need-array-copy-out-zero-canister Inv-loop μ-loop
 array-copy-out-zero-canister c = search needs
 
--- src/lib.rt:135:13
 zero-canister-requires : tie.Need-zero-canister-requires Inv-loop μ-loop
 zero-canister-requires c κs = search needs
 
--- src/lib.rt:134:9
 add-k : tie.Need-add-k Inv-loop μ-loop
 add-k c = search needs
 
--- src/lib.rt:134:5
 loop-less : tie.Need-loop-less Inv-loop μ-loop
 loop-less c = search needs
 
--- src/lib.rt:134:5
 loop-again : tie.Need-loop-again Inv-loop μ-loop
 loop-again c =
     let l = c .before .before .before .loop in
@@ -61,7 +52,6 @@ loop-again c =
     let h : l .k < length (drop g.n g.t1) = rw length-drop (omega arith) in
     (omega arith, l .inv .1, l .inv .2, all-step isZeroCanister (drop g.n g.t1) (l .k) zeroCanister h (l .inv .3) (c .zero-canister .ensures ∙ sym (ap isZeroCanister (getD-drop g.n g.t1 (l .k) zeroCanister))))
 
--- src/lib.rt:128:1
 returns : tie.Need-returns Inv-loop μ-loop
 returns c =
     let l = c .before .loop in

@@ -6,15 +6,12 @@ use Rattle.tiletest.proofs.running_ok.Reads as reads
 use Rattle.tiletest.proofs.running_ok.Lts as lts
 use Rattle.settings.proofs.tiles_of.Reads as tiles-of-reads
 
--- src/lib.rt:45:9
 tiles-of-requires : tie.Need-tiles-of-requires
 tiles-of-requires c κs = search needs
 
--- src/lib.rt:46:20
 cast-distance : tie.Need-cast-distance
 cast-distance c = search needs
 
--- src/lib.rt:42:1
 returns : tie.Need-returns
 unfolding runningSound
 returns c = cc

@@ -15,26 +15,21 @@ use Rattle.tiletest.proofs.hopper_ok.Reads as hopper-ok-reads
 use Rattle.tiletest.proofs.running_ok.Reads as running-ok-reads
 use Rattle.tiletest.proofs.stopped_ok.Reads as stopped-ok-reads
 
--- src/lib.rt:72:18
 cast-hopper : tie.Need-cast-hopper
 cast-hopper c = search needs
 
--- src/lib.rt:74:9
 hopper-ok-requires : tie.Need-hopper-ok-requires
 hopper-ok-requires c κs = search needs
 
--- src/lib.rt:74:9
 returns : tie.Need-returns
 unfolding stateSound isHopper
 returns c =
     let g = c .before .before .before .args in
     c .hopper-ok .ensures ∙ pick-yes (hopperSound g.h) (cond (eqb (g.h .running) 1) (runningSound g.s g.h) (stoppedSound g.h)) (eq-eqb g.t (g.s .hopper) (c .before .if1 .taken))
 
--- src/lib.rt:77:9
 running-ok-requires : tie.Need-running-ok-requires
 running-ok-requires c κs = search needs
 
--- src/lib.rt:77:9
 returns-2 : tie.Need-returns-2
 unfolding stateSound isHopper
 returns-2 c =
@@ -42,11 +37,9 @@ returns-2 c =
     c .running-ok .ensures ∙ pick-yes (runningSound g.s g.h) (stoppedSound g.h) (eq-eqb (g.h .running) 1 (c .before .if2 .taken))
     ∙ pick-no (hopperSound g.h) (cond (eqb (g.h .running) 1) (runningSound g.s g.h) (stoppedSound g.h)) (ne-eqb g.t (g.s .hopper) (c .before .before .before .if1 .left))
 
--- src/lib.rt:79:5
 stopped-ok-requires : tie.Need-stopped-ok-requires
 stopped-ok-requires c κs = search needs
 
--- src/lib.rt:69:1
 returns-3 : tie.Need-returns-3
 unfolding stateSound isHopper
 returns-3 c =

@@ -5,7 +5,6 @@ use Rattle.tiletest.proofs.stopped_ok.Tie as tie
 use Rattle.tiletest.proofs.stopped_ok.Reads as reads
 use Rattle.tiletest.proofs.stopped_ok.Lts as lts
 
--- src/lib.rt:52:1
 returns : tie.Need-returns
 unfolding stoppedSound
 returns c = refl

@@ -15,33 +15,27 @@ use Rattle.tiletest.proofs.members_ok.Reads as members-ok-reads
 use Rattle.tiletest.proofs.pairs_ok.Reads as pairs-ok-reads
 use Rattle.tiletest.proofs.rest_ok.Reads as rest-ok-reads
 
--- src/lib.rt:175:9
 head-fits-requires : tie.Need-head-fits-requires
 head-fits-requires c κs = search needs
 
--- src/lib.rt:177:9
 returns : tie.Need-returns
 returns c =
     let g = c .before .before .args in
     let q = c .before .head-fits in
     test-unfit g.s g.last g.t g.h g.items (sym (q .ensures) ∙ not-true _ (c .if1 .taken))
 
--- src/lib.rt:179:13
 cast-n : tie.Need-cast-n
 cast-n c = search needs
 
--- src/lib.rt:180:9
 rest-ok-requires : tie.Need-rest-ok-requires
 rest-ok-requires c κs =
     let g = c .before .before .before .args in
     let q = c .before .before .head-fits in
     count-fits g.s g.t g.h (sym (q .ensures) ∙ not-false _ (c .before .if1 .left))
 
--- src/lib.rt:181:9
 tiles-of-requires : tie.Need-tiles-of-requires
 tiles-of-requires c κs = search needs
 
--- src/lib.rt:183:9
 returns-2 : tie.Need-returns-2
 returns-2 c =
     let g = c .before .before .before .before .before .before .args in
@@ -50,7 +44,6 @@ returns-2 c =
     let off : total g.s ≤ g.t = rw (c .before .tiles-of .ensures) at off0 in
     c .before .before .rest-ok .ensures ∙ test-off g.s g.last g.t g.h g.items (sym (q .ensures) ∙ not-false _ (c .before .before .before .before .if1 .left)) off
 
--- src/lib.rt:185:9
 head-ok-requires : tie.Need-head-ok-requires
 head-ok-requires c κs =
     let g = c .before .before .before .before .before .before .args in
@@ -58,21 +51,18 @@ head-ok-requires c κs =
     let on : g.t < total g.s = rw (c .before .tiles-of .ensures) at on0 in
     (c .before .before .before .before .before .before .pre .0, on)
 
--- src/lib.rt:186:9
 members-ok-requires : tie.Need-members-ok-requires
 members-ok-requires c κs =
     let g = c .before .before .before .before .before .before .before .args in
     let q = c .before .before .before .before .before .before .head-fits in
     (count-fits g.s g.t g.h (sym (q .ensures) ∙ not-false _ (c .before .before .before .before .before .if1 .left)), c .before .before .before .before .before .before .before .pre .1)
 
--- src/lib.rt:187:9
 pairs-ok-requires : tie.Need-pairs-ok-requires
 pairs-ok-requires c κs =
     let g = c .before .before .before .before .before .before .before .before .args in
     let q = c .before .before .before .before .before .before .before .head-fits in
     count-fits g.s g.t g.h (sym (q .ensures) ∙ not-false _ (c .before .before .before .before .before .before .if1 .left))
 
--- src/lib.rt:171:1
 returns-3 : tie.Need-returns-3
 returns-3 c =
     let g = c .before .before .before .before .before .before .before .before .before .args in

@@ -5,7 +5,6 @@ use Rattle.tiletest.proofs.zero_canister.Tie as tie
 use Rattle.tiletest.proofs.zero_canister.Reads as reads
 use Rattle.tiletest.proofs.zero_canister.Lts as lts
 
--- src/lib.rt:20:1
 returns : tie.Need-returns
 unfolding isZeroCanister
 returns c = refl

@@ -5,7 +5,6 @@ use Rattle.tiletest.proofs.zero_tile.Tie as tie
 use Rattle.tiletest.proofs.zero_tile.Reads as reads
 use Rattle.tiletest.proofs.zero_tile.Lts as lts
 
--- src/lib.rt:27:1
 returns : tie.Need-returns
 unfolding isZeroTile
 returns c = refl

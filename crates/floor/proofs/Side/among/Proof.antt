@@ -5,11 +5,9 @@ use Rattle.floor.proofs.Side.among.Tie as tie
 use Rattle.floor.proofs.Side.among.Reads as reads
 use Rattle.floor.proofs.Side.among.Lts as lts
 
--- src/lib.rt:52:10
 shr-result : tie.Need-shr-result
 shr-result c = search needs
 
--- src/lib.rt:47:5
 returns : tie.Need-returns
 returns c = let s = c in in-set (s .args .self .code) (s .args .set) (s .pre .0) (s .pre .1)
 

@@ -15,39 +15,30 @@ use Rattle.floor.proofs.Side.following.Lts as lts
 fits-next : {x : ℕ} → x ≤ 8 → Fits w8 (x + 1)
 fits-next h = omega arith
 
--- src/lib.rt:61:13
 returns : tie.Need-returns
 returns c = let s = c .before in next-none (s .args .self .code) (s .args .set) (s .pre .0) (s .pre .1) (c .if1 .taken)
 
--- src/lib.rt:64:22
 shr-beyond : tie.Need-shr-beyond
 shr-beyond c = search needs
 
--- src/lib.rt:64:22
 shl-beyond : tie.Need-shl-beyond
 shl-beyond c = search needs
 
--- src/lib.rt:66:33
 cast-t8 : tie.Need-cast-t8
 cast-t8 c = record { fits = lt-of-le-of-lt (trailing-le 8 _) (lit< tt) }
 
--- src/lib.rt:66:33
 add-t9 : tie.Need-add-t9
 add-t9 c = omega (arith, trailing-le 8 (c .before .before .args .set))
 
--- src/lib.rt:66:13
 returns-2 : tie.Need-returns-2
 returns-2 c = let s = c .before .before in next-round (s .args .self .code) (s .args .set) (s .pre .0) (s .pre .1) (c .before .if1 .left) (c .if2 .taken)
 
--- src/lib.rt:68:22
 cast-t6 : tie.Need-cast-t6
 cast-t6 c = record { fits = lt-of-le-of-lt (trailing-le 8 _) (lit< tt) }
 
--- src/lib.rt:68:22
 add-t11 : tie.Need-add-t11
 add-t11 c = fits-next (trailing-le 8 _)
 
--- src/lib.rt:56:5
 returns-3 : tie.Need-returns-3
 returns-3 c = let s = c .before .before in next-on (s .args .self .code) (s .args .set) (s .pre .0) (s .pre .1) (c .before .if1 .left) (c .if2 .left)
 

@@ -7,79 +7,60 @@ use Rattle.floor.proofs.Side.neighbour.Tie as tie
 use Rattle.floor.proofs.Side.neighbour.Reads as reads
 use Rattle.floor.proofs.Side.neighbour.Lts as lts
 
--- src/lib.rt:76:20
 cast-rows : tie.Need-cast-rows
 cast-rows c = search needs
 
--- src/lib.rt:77:19
 cast-all : tie.Need-cast-all
 cast-all c = search needs
 
--- src/lib.rt:77:19
 mul-all : tie.Need-mul-all
 mul-all c = search needs
 
--- src/lib.rt:81:25
 rem-if2 : tie.Need-rem-if2
 rem-if2 c = search needs
 
--- src/lib.rt:81:36
 sub-result : tie.Need-sub-result
 sub-result c = omega (arith, mod-le (c .before .before .before .before .args .t) (c .before .before .before .before .args .s .rows))
 
--- src/lib.rt:82:21
 rem-if3 : tie.Need-rem-if3
 rem-if3 c = search needs
 
--- src/lib.rt:82:21
 add-if3 : tie.Need-add-if3
 add-if3 c = omega (arith, mod-le (c .before .before .before .args .t) (c .before .before .before .args .s .rows))
 
--- src/lib.rt:82:43
 add-result : tie.Need-add-result
 add-result c = search needs
 
--- src/lib.rt:83:21
 add-if4 : tie.Need-add-if4
 add-if4 c = search needs
 
--- src/lib.rt:83:38
 add-result-2 : tie.Need-add-result-2
 add-result-2 c = search needs
 
--- src/lib.rt:72:5
 returns : tie.Need-returns
 returns c = let g = c .before .before .before .before .args in west-in (g.s) (g.self .code) (g.t) (c .before .match .keys1) (c .if1 .taken)
 
--- src/lib.rt:72:5
 returns-2 : tie.Need-returns-2
 returns-2 c = let g = c .before .before .before .before .args in west-out (g.s) (g.self .code) (g.t) (c .before .match .keys1) (c .if1 .left)
 
--- src/lib.rt:72:5
 returns-3 : tie.Need-returns-3
 returns-3 c = let g = c .before .before .before .before .args in south-in (g.s) (g.self .code) (g.t) (c .before .match .keys2) (c .if2 .taken)
 
--- src/lib.rt:72:5
 returns-4 : tie.Need-returns-4
 returns-4 c = let g = c .before .before .before .before .args in south-out (g.s) (g.self .code) (g.t) (c .before .match .keys2) (c .if2 .left)
 
--- src/lib.rt:72:5
 returns-5 : tie.Need-returns-5
 returns-5 c = let g = c .before .before .before .before .args in north-in (g.s) (g.self .code) (g.t) (c .before .match .keys3) (c .if3 .taken)
 
--- src/lib.rt:72:5
 returns-6 : tie.Need-returns-6
 returns-6 c = let g = c .before .before .before .before .args in north-out (g.s) (g.self .code) (g.t) (c .before .match .keys3) (c .if3 .left)
 
--- src/lib.rt:72:5
 returns-7 : tie.Need-returns-7
 returns-7 c = let g = c .before .before .before .before .args in east-in (g.s) (g.self .code) (g.t) (c .before .match .keys4) (c .if4 .taken)
 
--- src/lib.rt:72:5
 returns-8 : tie.Need-returns-8
 returns-8 c = let g = c .before .before .before .before .args in east-out (g.s) (g.self .code) (g.t) (c .before .match .keys4) (c .if4 .left)
 
--- src/lib.rt:72:5
 returns-9 : tie.Need-returns-9
 returns-9 c = let g = c .before .before .before .args in let r = c .match .rest in no-side (g.s) (g.self .code) (g.t) (r .0 .0 .0 .1) (r .0 .0 .1) (r .0 .1) (r .1)
 

@@ -6,19 +6,15 @@ use Rattle.floor.proofs.Side.opposite.Tie as tie
 use Rattle.floor.proofs.Side.opposite.Reads as reads
 use Rattle.floor.proofs.Side.opposite.Lts as lts
 
--- src/lib.rt:41:35
 sub-t5 : tie.Need-sub-t5
 sub-t5 c = search needs
 
--- src/lib.rt:36:5
 returns : tie.Need-returns
 returns c = opposite-of (c .before .before .args .self .code) (omega arith) (omega arith)
 
--- src/lib.rt:36:5
 returns-2 : tie.Need-returns-2
 returns-2 c = no-opposite (c .before .args .self .code) (λ h k. omega arith)
 
--- src/lib.rt:36:5
 returns-3 : tie.Need-returns-3
 returns-3 c = no-opposite (c .before .before .args .self .code) (λ h k. omega arith)
 
