@@ -152,7 +152,7 @@ fn end_fault(n: u16) -> u8
     0
 }
 
-// The refusal of the record at `at` where kind `due` is due: the kind decides which record's reader runs.
+// The refusal of the record at `at` where kind `due` is due: the kind found decides which record's reader runs, and 10.
 fn record_fault(s: &[u8], at: usize, due: u16, tile: u8) -> u8
     requires { ⌜ (at ≤ length (now s)) × (1 ≤ due) × (due ≤ 4) ⌝ }
     ensures { λ r. ⌜ r ≡ recordFault due tile (drop at (now (s .entry))) ⌝ }
@@ -166,14 +166,19 @@ fn record_fault(s: &[u8], at: usize, due: u16, tile: u8) -> u8
         return 9;
     }
     let kind = u16_at(s, at + 2);
-    if kind != due {
-        return 10;
-    }
     match kind {
-        1 => settings_fault(s, at + 4, n),
-        2 => counters_fault(n),
-        3 => tile_fault(s, at + 4, n, tile),
-        4 => end_fault(n),
+        1 => if due == 1 {
+            settings_fault(s, at + 4, n)
+        } else {
+            10
+        },
+        2 => if due == 2 { counters_fault(n) } else { 10 },
+        3 => if due == 3 {
+            tile_fault(s, at + 4, n, tile)
+        } else {
+            10
+        },
+        4 => if due == 4 { end_fault(n) } else { 10 },
         _ => 10,
     }
 }
