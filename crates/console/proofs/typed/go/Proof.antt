@@ -1,0 +1,99 @@
+use Prim.Native.Nat.{ℕ, _+_, _*_, _-_, _≤_, _<_}
+use lib.ListN.{length}
+use native.Mathlib.Omega.{arith}
+use borrow.Author.Needs.{needs}
+use Rattle.console.proofs.typed.go.Statement.{statement}
+use Rattle.console.proofs.typed.go.Tie as tie
+use Rattle.console.proofs.typed.go.Reads as reads
+use Rattle.console.proofs.typed.go.Lts as lts
+use Rattle.console.proofs.say.delivered.Reads as delivered-reads
+use Rattle.console.proofs.say.number.Reads as number-reads
+use Rattle.console.proofs.say.refused.Reads as refused-reads
+use Rattle.console.proofs.say.small.Reads as small-reads
+use Rattle.console.proofs.say.text.Reads as text-reads
+use Rattle.console.proofs.typed.step.Reads as step-reads
+
+abbrev Inv-loop : tie.InvT-loop
+Inv-loop n next₀ k₀ t8 t9 t10 t11 next k = k ≤ n
+
+abbrev μ-loop : tie.MeasureT-loop
+μ-loop n next₀ k₀ t8 t9 t10 t11 next k = n - k
+
+loop-holds : tie.Need-loop-holds Inv-loop μ-loop
+loop-holds c = search needs
+
+step-requires : tie.Need-step-requires Inv-loop μ-loop
+step-requires c κs = search needs
+
+slice-aggregate-refused : tie.Need-slice-aggregate-refused Inv-loop μ-loop
+slice-aggregate-refused c = search needs
+
+refused-requires : tie.Need-refused-requires Inv-loop μ-loop
+refused-requires c κs = search needs
+
+returns : tie.Need-returns Inv-loop μ-loop
+returns c = search needs
+
+delivered-requires : tie.Need-delivered-requires Inv-loop μ-loop
+delivered-requires c κs = search needs
+
+add-k : tie.Need-add-k Inv-loop μ-loop
+add-k c = search needs
+
+loop-less : tie.Need-loop-less Inv-loop μ-loop
+loop-less c = search needs
+
+loop-again : tie.Need-loop-again Inv-loop μ-loop
+loop-again c = search needs
+
+slice-aggregate-text : tie.Need-slice-aggregate-text Inv-loop μ-loop
+slice-aggregate-text c = search needs
+
+text-requires : tie.Need-text-requires Inv-loop μ-loop
+text-requires c κs = search needs
+
+small-requires : tie.Need-small-requires Inv-loop μ-loop
+small-requires c κs = search needs
+
+slice-aggregate-text-2 : tie.Need-slice-aggregate-text-2 Inv-loop μ-loop
+slice-aggregate-text-2 c = search needs
+
+text-requires-2 : tie.Need-text-requires-2 Inv-loop μ-loop
+text-requires-2 c κs = search needs
+
+number-requires : tie.Need-number-requires Inv-loop μ-loop
+number-requires c κs = search needs
+
+slice-aggregate-text-3 : tie.Need-slice-aggregate-text-3 Inv-loop μ-loop
+slice-aggregate-text-3 c = search needs
+
+text-requires-3 : tie.Need-text-requires-3 Inv-loop μ-loop
+text-requires-3 c κs = search needs
+
+returns-2 : tie.Need-returns-2 Inv-loop μ-loop
+returns-2 c = search needs
+
+pub go-spec : {M : Type 1} → statement M
+go-spec =
+    tie.close
+    (tie.spec
+    Inv-loop
+    μ-loop
+    loop-holds
+    step-requires
+    slice-aggregate-refused
+    refused-requires
+    returns
+    delivered-requires
+    add-k
+    loop-less
+    loop-again
+    slice-aggregate-text
+    text-requires
+    small-requires
+    slice-aggregate-text-2
+    text-requires-2
+    number-requires
+    slice-aggregate-text-3
+    text-requires-3
+    returns-2)

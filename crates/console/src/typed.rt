@@ -1,0 +1,367 @@
+// The calls as they are typed: each takes the session and the line, writes its answer and gives the session on.
+ghost use mathlib.Core.Path.{_≡_};
+use crate::parse;
+use crate::parse::Sources;
+use crate::say;
+use floor::Canister;
+use floor::Floor;
+use floor::Settings;
+
+// The floor, how many lines were read, how many rounds it went, whether to go on.
+pub struct Session {
+    pub floor: Floor,
+    pub lines: u64,
+    pub rounds: u64,
+    pub going: bool,
+}
+
+// `rounds` takes at most this many.
+const MOST: u32 = 100000;
+
+pub fn begin() -> Session {
+    let nothing = Settings {
+        columns: 0,
+        rows: 0,
+        hopper: 0,
+        sources: 0,
+        width: 0,
+        length: 0,
+        gap: 0,
+        travel: 0,
+    };
+    let none = calls::fresh(nothing);
+    let floor = none.floor;
+    Session {
+        floor: floor,
+        lines: 0,
+        rounds: 0,
+        going: true,
+    }
+}
+
+fn cannot(s: Session, line: &[u8]) -> Session {
+    say::unreadable(s.lines, line);
+    s
+}
+
+// Every tile but the hopper.
+fn all_sources(s: Settings) -> u64 {
+    let all = settings::tiles_of(s);
+    let hopper = s.hopper;
+    if 64 < all || 63 < hopper {
+        return 0;
+    }
+    sets::without(sets::full(all as u8), hopper)
+}
+
+// The settings that a `fresh` names, without its sources.
+fn chosen_settings(line: &[u8]) -> Settings {
+    let a = parse::numbers_at(line, 1, 3);
+    let b = parse::numbers_at(line, 5, 4);
+    Settings {
+        columns: parse::byte(a.at[0]),
+        rows: parse::byte(a.at[1]),
+        hopper: parse::byte(a.at[2]),
+        sources: 0,
+        width: parse::short(b.at[0]),
+        length: parse::short(b.at[1]),
+        gap: parse::short(b.at[2]),
+        travel: parse::short(b.at[3]),
+    }
+}
+
+// A refused fresh leaves the floor as it was.
+pub fn fresh(s: Session, line: &[u8]) -> Session {
+    let a = parse::numbers_at(line, 1, 3);
+    let b = parse::numbers_at(line, 5, 4);
+    if !(a.good & b.good & parse::ended(line, 9)) {
+        return cannot(s, line);
+    }
+    let mut chosen = chosen_settings(line);
+    let everywhere = all_sources(chosen);
+    let sources = parse::sources_at(line, 4);
+    match sources {
+        Sources::All => chosen.sources = everywhere,
+        Sources::Set(set) => chosen.sources = set,
+        Sources::Unreadable => return cannot(s, line),
+    }
+    let answer = calls::fresh(chosen);
+    if answer.refusal != 0 {
+        say::refused(b"fresh", answer.refusal);
+        return s;
+    }
+    say::text(b"fresh: ");
+    say::small(a.at[0]);
+    say::text(b" x ");
+    say::small(a.at[1]);
+    say::text(b" tiles, hopper ");
+    say::small(a.at[2]);
+    say::text(b"\n");
+    let mut next = s;
+    let made = answer.floor;
+    next.floor = made;
+    next.rounds = 0;
+    next
+}
+
+pub fn book(s: Session, line: &[u8]) -> Session {
+    let n = parse::arguments(line, 4);
+    if !n.good {
+        return cannot(s, line);
+    }
+    let c = Canister {
+        number: n.at[1],
+        a: parse::short(n.at[2]),
+        b: parse::short(n.at[3]),
+    };
+    let floor = s.floor;
+    let answer = calls::book(floor, n.at[0], c);
+    if answer.refusal != 0 {
+        say::refused(b"book", answer.refusal);
+        return s;
+    }
+    say::text(b"book: ");
+    say::canister(c);
+    say::text(b" on tile ");
+    say::small(n.at[0]);
+    say::text(b"\n");
+    let mut next = s;
+    let booked = answer.floor;
+    next.floor = booked;
+    next
+}
+
+pub fn stop(s: Session, line: &[u8]) -> Session {
+    let n = parse::arguments(line, 1);
+    if !n.good {
+        return cannot(s, line);
+    }
+    let floor = s.floor;
+    let answer = calls::stop(floor, n.at[0]);
+    if answer.refusal != 0 {
+        say::refused(b"stop", answer.refusal);
+        return s;
+    }
+    say::text(b"stop: tile ");
+    say::small(n.at[0]);
+    say::text(b" stopped\n");
+    let mut next = s;
+    let stopped = answer.floor;
+    next.floor = stopped;
+    next
+}
+
+pub fn repair(s: Session, line: &[u8]) -> Session {
+    let n = parse::arguments(line, 1);
+    if !n.good {
+        return cannot(s, line);
+    }
+    let floor = s.floor;
+    let answer = calls::repair(floor, n.at[0]);
+    if answer.refusal != 0 {
+        say::refused(b"repair", answer.refusal);
+        return s;
+    }
+    say::text(b"repair: tile ");
+    say::small(n.at[0]);
+    say::text(b" running\n");
+    let mut next = s;
+    let repaired = answer.floor;
+    next.floor = repaired;
+    next
+}
+
+// A round, and what it gave.
+struct Stepped {
+    session: Session,
+    refusal: u8,
+    count: u8,
+    delivered: [u32; 4],
+}
+
+fn step(s: Session) -> Stepped {
+    let floor = s.floor;
+    let answer = calls::round(floor);
+    let report = answer.report;
+    let delivered = report.delivered;
+    let mut next = s;
+    if answer.refusal == 0 {
+        let moved = answer.floor;
+        next.floor = moved;
+        next.rounds = std::num::wrapping_add_u64(next.rounds, 1);
+    }
+    Stepped {
+        session: next,
+        refusal: answer.refusal,
+        count: report.count,
+        delivered: delivered,
+    }
+}
+
+pub fn round(s: Session, line: &[u8]) -> Session {
+    if !parse::ended(line, 1) {
+        return cannot(s, line);
+    }
+    let done = step(s);
+    let next = done.session;
+    if done.refusal != 0 {
+        say::refused(b"round", done.refusal);
+        return next;
+    }
+    let delivered = done.delivered;
+    say::delivered(next.rounds, done.count, delivered);
+    next
+}
+
+// Goes n rounds and tells the rounds that deliver; ends early where a round is refused.
+fn go(s: Session, n: u32) -> Session {
+    let mut next = s;
+    let mut k: u32 = 0;
+    while k < n {
+        let done = step(next);
+        if done.refusal != 0 {
+            say::refused(b"rounds", done.refusal);
+            return next;
+        }
+        let after = done.session;
+        next = after;
+        if done.count != 0 {
+            let delivered = done.delivered;
+            say::delivered(next.rounds, done.count, delivered);
+        }
+        k += 1;
+    }
+    say::text(b"rounds: ");
+    say::small(n);
+    say::text(b" done, now at round ");
+    say::number(next.rounds);
+    say::text(b"\n");
+    next
+}
+
+pub fn rounds(s: Session, line: &[u8]) -> Session {
+    let n = parse::arguments(line, 1);
+    let many = n.at[0];
+    if !n.good || MOST < many {
+        return cannot(s, line);
+    }
+    go(s, many)
+}
+
+pub fn read(s: Session, line: &[u8]) -> Session {
+    let n = parse::arguments(line, 1);
+    if !n.good {
+        return cannot(s, line);
+    }
+    let floor = s.floor;
+    let answer = calls::read(floor, n.at[0]);
+    if answer.refusal != 0 {
+        say::refused(b"read", answer.refusal);
+        return s;
+    }
+    let t = answer.tile;
+    let members = answer.members;
+    say::text(b"read: tile ");
+    say::small(n.at[0]);
+    say::text(b" ");
+    say::tile(t);
+    say::canisters(t.count, members);
+    say::text(b"\n");
+    s
+}
+
+// One row from west to east. The tile to the east has the number higher by the rows.
+fn show_row(floor: Floor, columns: u8, rows: u8, row: u8) {
+    let mut at = row as u32;
+    let mut column: u8 = 0;
+    while column < columns {
+        let answer = calls::read(floor, at);
+        let t = answer.tile;
+        if 0 < column {
+            say::text(b"  ");
+        }
+        say::cell(parse::byte(at), t);
+        at += rows as u32;
+        column += 1;
+    }
+    say::text(b"\n");
+}
+
+// The north row first.
+fn show_rows(floor: Floor, columns: u8, rows: u8) {
+    let mut row = rows;
+    while 0 < row {
+        row -= 1;
+        show_row(floor, columns, rows, row);
+    }
+}
+
+pub fn show(s: Session, line: &[u8]) -> Session {
+    if !parse::ended(line, 1) {
+        return cannot(s, line);
+    }
+    let floor = s.floor;
+    let answer = calls::read(floor, 0);
+    if answer.refusal != 0 {
+        say::refused(b"show", answer.refusal);
+        return s;
+    }
+    let counters = floor.counters;
+    say::text(b"show: last ");
+    say::small(counters.last);
+    say::text(b", booked ");
+    say::small(counters.booked);
+    say::text(b", delivered ");
+    say::small(counters.delivered);
+    say::text(b", round ");
+    say::number(s.rounds);
+    say::text(b"\n");
+    let settings = floor.settings;
+    show_rows(floor, settings.columns, settings.rows);
+    s
+}
+
+// Obeys one line.
+pub fn obey(s: Session, line: &[u8]) -> Session {
+    if parse::is(line, 0, b"fresh") {
+        return fresh(s, line);
+    }
+    if parse::is(line, 0, b"book") {
+        return book(s, line);
+    }
+    if parse::is(line, 0, b"stop") {
+        return stop(s, line);
+    }
+    if parse::is(line, 0, b"repair") {
+        return repair(s, line);
+    }
+    if parse::is(line, 0, b"round") {
+        return round(s, line);
+    }
+    if parse::is(line, 0, b"rounds") {
+        return rounds(s, line);
+    }
+    if parse::is(line, 0, b"read") {
+        return read(s, line);
+    }
+    if parse::is(line, 0, b"show") {
+        return show(s, line);
+    }
+    rest(s, line)
+}
+
+fn rest(s: Session, line: &[u8]) -> Session {
+    if !parse::ended(line, 1) {
+        return cannot(s, line);
+    }
+    if parse::is(line, 0, b"help") {
+        say::help();
+        return s;
+    }
+    if parse::is(line, 0, b"quit") {
+        let mut last = s;
+        last.going = false;
+        return last;
+    }
+    cannot(s, line)
+}

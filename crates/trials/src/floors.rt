@@ -1,0 +1,116 @@
+// Floors made through the calls, and what is looked at on them.
+ghost use Prim.Native.Nat.{_≤_};
+use floor::Answer;
+use floor::Canister;
+use floor::Floor;
+use floor::Settings;
+
+pub fn wide(x: u32) -> u64
+    ensures { λ r. ⌜ r ≤ 4294967295 ⌝ }
+{
+    x as u64
+}
+
+fn from_byte(x: u8) -> u64 {
+    x as u64
+}
+
+// "U 100, l 30, r 10", travel v, with the given fill set.
+pub fn settings(columns: u8, rows: u8, hopper: u8, sources: u64, travel: u16) -> Settings {
+    Settings {
+        columns: columns,
+        rows: rows,
+        hopper: hopper,
+        sources: sources,
+        width: 100,
+        length: 30,
+        gap: 10,
+        travel: travel,
+    }
+}
+
+pub fn fresh(columns: u8, rows: u8, hopper: u8, sources: u64) -> Floor {
+    let answer = calls::fresh(settings(columns, rows, hopper, sources, 20));
+    answer.floor
+}
+
+// What booking canister `number` at (a, b) answers.
+pub fn book(f: Floor, tile: u32, number: u32, a: u16, b: u16) -> Answer {
+    let c = Canister {
+        number: number,
+        a: a,
+        b: b,
+    };
+    calls::book(f, tile, c)
+}
+
+pub fn booked(f: Floor, tile: u32, number: u32, a: u16, b: u16) -> Floor {
+    let answer = book(f, tile, number, a, b);
+    answer.floor
+}
+
+pub fn booking(f: Floor, tile: u32, number: u32, a: u16, b: u16) -> u64 {
+    let answer = book(f, tile, number, a, b);
+    answer.refusal as u64
+}
+
+// n rounds.
+pub fn rounds(f: Floor, n: u8) -> Floor {
+    let mut next = f;
+    let mut k: u8 = 0;
+    while k < n {
+        let answer = calls::round(next);
+        let after = answer.floor;
+        next = after;
+        k += 1;
+    }
+    next
+}
+
+// The tile's first canister after n rounds, in one number; 0 where there is none.
+pub fn first(f: Floor, n: u8, tile: u32) -> u64 {
+    let after = rounds(f, n);
+    let answer = calls::read(after, tile);
+    let c = answer.members[0];
+    place(c.number, c.a, c.b)
+}
+
+// What `first` gives of this canister.
+pub fn place(number: u32, a: u16, b: u16) -> u64 {
+    number as u64 * 4294967296 + a as u64 * 65536 + b as u64
+}
+
+// How many canisters the tile has after n rounds.
+pub fn held(f: Floor, n: u8, tile: u32) -> u64 {
+    let after = rounds(f, n);
+    let answer = calls::read(after, tile);
+    answer.tile.count as u64
+}
+
+pub fn distance(f: Floor, n: u8, tile: u32) -> u64 {
+    let after = rounds(f, n);
+    let answer = calls::read(after, tile);
+    answer.tile.distance as u64
+}
+
+pub fn arrow(f: Floor, n: u8, tile: u32) -> u64 {
+    let after = rounds(f, n);
+    let answer = calls::read(after, tile);
+    answer.tile.next.code as u64
+}
+
+// The first number that the round after n rounds delivers; 0 where there is none.
+pub fn delivered(f: Floor, n: u8) -> u64 {
+    let after = rounds(f, n);
+    let answer = calls::round(after);
+    let report = answer.report;
+    wide(report.delivered[0])
+}
+
+// What tile 1 grants in the round after n rounds.
+pub fn grant(f: Floor, n: u8) -> u64 {
+    let after = rounds(f, n);
+    let answer = calls::round(after);
+    let report = answer.report;
+    from_byte(report.grants[1])
+}
