@@ -60,7 +60,8 @@ pub fn tile_head(floor: Floor, tile: u32) -> Tile
     ensures { λ r. ⌜ r ≡ head (tileOf (view floor) tile) ⌝ }
 {
     let t = tile as usize;
-    floor.tiles[t]
+    let tiles = floor.tiles;
+    tiles[t]
 }
 
 // The sixteen places of a tile: its canisters, then zeros.

@@ -282,9 +282,9 @@ fn tiles_of(s: &[u8], starts: [usize; 64], c: usize) -> [Tile; 64]
     out
 }
 
-// The 1,024 places, sixteen for each tile; c tiles are used.
+// The 1,024 places, sixteen for each tile; c tiles are used, and the places of the others stay zero.
 fn canisters_of(s: &[u8], starts: [usize; 64], c: usize) -> [Canister; 1024]
-    requires { ⌜ ((t : ℕ) → t < c → getD starts t 0 + 6 + 8 * field tileWidths 5 (drop (getD starts t 0) (now s)) ≤ length (now s)) ⌝ }
+    requires { ⌜ (c ≤ 64) × ((t : ℕ) → t < c → getD starts t 0 + 6 + 8 * field tileWidths 5 (drop (getD starts t 0) (now s)) ≤ length (now s)) ⌝ }
     ensures { λ r. ⌜ r ≡ tab 1024 (canisterFrom (now (s .entry)) starts c) ⌝ }
 {
     let zero = Canister {
@@ -293,7 +293,8 @@ fn canisters_of(s: &[u8], starts: [usize; 64], c: usize) -> [Canister; 1024]
         b: 0,
     };
     let mut out = [zero; 1024];
-    for k in 0usize..1024 {
+    let end = 16 * c;
+    for k in 0usize..end {
         let t = k / 16;
         let at = starts[t];
         let used = t < c;

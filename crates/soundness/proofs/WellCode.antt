@@ -1,8 +1,8 @@
 -- Well formed is what the code tests: the settings, tile by tile, the counters, the numbers.
-use mathlib.Core.Path.{_≡_, sym, ap, _∙_, subst}
+use mathlib.Core.Path.{_≡_, refl, sym, ap, _∙_, subst}
 use mathlib.Core.Logic.{_↔_}
 use mathlib.Core.Bool.{Bool, true, false, not, _&&_, _||_}
-use mathlib.Core.List.{List}
+use mathlib.Core.List.{List, [], _∷_}
 use Prim.Native.Nat.{ℕ, suc, _≤_, _<_}
 use native.Mathlib.Omega.{arith}
 use native.Mathlib.Decide.{decLe}
@@ -11,7 +11,7 @@ use lib.ListN.{length}
 use borrow.Author.Tests.{ltb-true, lt-ltb, le-ltb, eq-eqb, ne-eqb}
 use Rattle.laws.specs.Define.{allOf, pairsOf, allBelow}
 use Rattle.laws.specs.Every.{All, Pairs}
-use Rattle.laws.specs.Tests.{same-test, and-left, and-right, and-true, r-id, r-and, r-lt, r-pairs}
+use Rattle.laws.specs.Tests.{same-test, and-left, and-right, and-true, and-yes, r-id, r-and, r-lt, r-pairs}
 use Rattle.laws.specs.Tables.{below-at, below-of}
 use Rattle.laws.specs.Lists.{all-imp, all-both, all-map, all-unmap, all-true, true-all, cat-all}
 use Rattle.floor.specs.declared.Canister.{Canister}
@@ -32,6 +32,10 @@ use Rattle.soundness.proofs.Blocks.{usedOf, Fit, used-off, tile-view, n
 -- a number from 1 to the last booked
 abbrev pub Numbered : ℕ → ℕ → Type 0
 Numbered last n = (ltb 0 n && leb n last) ≡ true
+
+empty-of : (l : List ℕ) → length l ≡ 0 → l ≡ []
+empty-of [] e = refl
+empty-of (x ∷ l) e = absurd (omega arith)
 
 -- ---- one member, one tile
 member-parts : (s : Settings) (last : ℕ) (l : List Canister) → allOf (memberSound s last) l ≡ true ↔ (allOf (inside s) l ≡ true × All (λ c. Numbered last (c .number)) l)
@@ -182,6 +186,16 @@ module _ (f : Floor) (lt : length (f .tiles) ≡ 64) (lc : length (f .canisters)
 
   pub well-tiled : settingsPass (f .settings) ≡ true → allBelow (testOf f) 64 ≡ true → (countersSound (f .counters) (counted (f .tiles) 64) && differ (numbers (f .canisters))) ≡ wellFormed f
   well-tiled p h = rw (well-code, p, h)
+
+  pub well-empty : settingsPass (f .settings) ≡ true → allBelow (testOf f) 64 ≡ true → counted (f .tiles) 64 ≡ 0 → countersSound (f .counters) (counted (f .tiles) 64) ≡ wellFormed f
+  unfolding pairsOf
+  well-empty p h z =
+      let few = few-of-pass p in
+      let fit = fit-each f h in
+      let none : numbersOn (view f) ≡ [] = empty-of (numbersOn (view f)) (count-view f lc few fit ∙ z) in
+      let d : differ (numbers (f .canisters)) ≡ true = differ-view f lc few fit (positive-each f h) ∙ ap (pairsOf (λ x y. not (eqb x y))) none in
+      let count = countersSound (f .counters) (counted (f .tiles) 64) in
+      sym (and-yes count) ∙ ap (λ (b : Bool). count && b) (sym d) ∙ well-tiled p h
 
 -- ---- the settings
 pub pass-of : (s : Settings) (r : ℕ) → r ≡ settingsRefusal s → r ≡ 0 → settingsPass s ≡ true

@@ -71,7 +71,7 @@ pub fn keys_of(canisters: [Canister; 1024]) -> [u32; 1024]
     keys
 }
 
-// Well formed. Where the settings don't pass, nothing else is read.
+// Well formed. Where the settings don't pass, nothing else is read; where no canister is on the floor, no numbers are compared.
 pub fn well_formed(f: Floor) -> bool
     ensures { λ r. ⌜ r ≡ wellFormed f ⌝ }
 {
@@ -89,6 +89,9 @@ pub fn well_formed(f: Floor) -> bool
     }
     let n = count_all(tiles);
     let added = counters_ok(counters, n);
+    if n == 0 {
+        return added;
+    }
     let keys = keys_of(canisters);
     let differing = numbers_differ(keys);
     added & differing

@@ -13,11 +13,12 @@ use floor::Side;
 use floor::Tile;
 use settings::tiles_of;
 
-// Whether a place is unused.
+// Whether a place is unused. Its eight bytes, as one number, are tested at once.
 pub fn zero_canister(c: Canister) -> bool
     ensures { λ r. ⌜ r ≡ isZeroCanister c ⌝ }
 {
-    (c.number == 0) & ((c.a == 0) & (c.b == 0))
+    let word = (c.number as u64) + (c.a as u64) * 4294967296 + (c.b as u64) * 281474976710656;
+    word == 0
 }
 
 // Whether a tile is one that the floor doesn't have.
@@ -121,11 +122,26 @@ pub fn in_order(s: Settings, x: Canister, y: Canister) -> bool
     (x.number < y.number) & (((xa + d <= ya) | (ya + d <= xa)) | ((xb + d <= yb) | (yb + d <= xb)))
 }
 
+// All sixteen places are unused.
+pub fn none_in(items: [Canister; 16]) -> bool
+    ensures { λ r. ⌜ r ≡ allOf isZeroCanister items ⌝ }
+{
+    let mut ok = true;
+    for k in 0usize..16 {
+        let one = zero_canister(items[k]);
+        ok = ok & one;
+    }
+    ok
+}
+
 // The places from n on are unused.
 pub fn rest_ok(items: [Canister; 16], n: usize) -> bool
     requires { ⌜ n ≤ 16 ⌝ }
     ensures { λ r. ⌜ r ≡ allOf isZeroCanister (drop n items) ⌝ }
 {
+    if n == 0 {
+        return none_in(items);
+    }
     let left = 16 - n;
     let mut ok = true;
     for k in 0usize..left {

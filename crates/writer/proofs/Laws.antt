@@ -6,7 +6,7 @@ use Prim.Native.Nat.{ℕ, zero, suc, _+_, _-_, _*_, _≤_, _<_}
 use native.Mathlib.Omega.{arith}
 use native.Mathlib.Numerals.{add-one}
 use lib.ListN.{length, take, drop, getD, length-append, length-drop}
-use lib.Seq.{length-take-le, take-suc, getD-drop}
+use lib.Seq.{length-take-le, take-suc}
 use Rattle.laws.specs.Define.{tab}
 use Rattle.laws.specs.Tables.{tab-same}
 use Rattle.wire.specs.Bytes.{bytes, bytesOf, bytes-length}
@@ -87,25 +87,19 @@ canisters-one : (c : Canister) → canistersBody (c ∷ []) ≡ canisterBytes c
 unfolding canistersBody
 canisters-one c = append-nil (canisterBytes c)
 
-pub canisters-upto : (all : List Canister) (base k : ℕ) → base + k ≤ length all → length (canistersBody (take k (drop base all))) ≡ 8 * k
-canisters-upto all base k h =
-    let m : k ≤ length (drop base all) = rw length-drop (omega arith) in
-    canisters-size (take k (drop base all)) ∙ rw (length-take-le k (drop base all) m)
+pub canisters-upto : (l : List Canister) (k : ℕ) → k ≤ length l → length (canistersBody (take k l)) ≡ 8 * k
+canisters-upto l k h = canisters-size (take k l) ∙ rw (length-take-le k l h)
 
-canisters-turn : (all : List Canister) (base k : ℕ) (z : Canister) → base + k < length all
-    → canistersBody (take (k + 1) (drop base all)) ≡ canistersBody (take k (drop base all)) ++ canisterBytes (getD all (base + k) z)
-canisters-turn all base k z h =
-    let m : k < length (drop base all) = rw length-drop (omega arith) in
-    rw (add-one, take-suc (drop base all) k z m, getD-drop, canisters-append, canisters-one)
+canisters-turn : (l : List Canister) (k : ℕ) (z : Canister) → k < length l → canistersBody (take (k + 1) l) ≡ canistersBody (take k l) ++ canisterBytes (getD l k z)
+canisters-turn l k z h = rw (add-one, take-suc l k z h, canisters-append, canisters-one)
 
 -- a turn of the loop
-pub put-turn : (s₀ s s′ : List ℕ) (at base k : ℕ) (all : List Canister) (z : Canister) → base + k < length all → at + 8 * k + 8 ≤ length s₀
-    → s ≡ put s₀ at (canistersBody (take k (drop base all))) → s′ ≡ put s (at + 8 * k) (canisterBytes (getD all (base + k) z)) → s′ ≡ put s₀ at (canistersBody (take (k + 1) (drop base all)))
-put-turn s₀ s s′ at base k all z h r p q =
-    let n : length (canistersBody (take k (drop base all))) ≡ 8 * k = canisters-upto all base k (omega arith) in
-    let c : length (canisterBytes (getD all (base + k) z)) ≡ 8 = canister-size (getD all (base + k) z) in
-    rw (canisters-turn all base k z h)
-    (put-two s₀ s s′ at (at + 8 * k) (canistersBody (take k (drop base all))) (canisterBytes (getD all (base + k) z)) (omega arith) (omega arith) p q)
+pub put-turn : (s₀ s s′ : List ℕ) (at k : ℕ) (l : List Canister) (z : Canister) → k < length l → at + 8 * k + 8 ≤ length s₀
+    → s ≡ put s₀ at (canistersBody (take k l)) → s′ ≡ put s (at + 8 * k) (canisterBytes (getD l k z)) → s′ ≡ put s₀ at (canistersBody (take (k + 1) l))
+put-turn s₀ s s′ at k l z h r p q =
+    let n : length (canistersBody (take k l)) ≡ 8 * k = canisters-upto l k (omega arith) in
+    let c : length (canisterBytes (getD l k z)) ≡ 8 = canister-size (getD l k z) in
+    rw (canisters-turn l k z h) (put-two s₀ s s′ at (at + 8 * k) (canistersBody (take k l)) (canisterBytes (getD l k z)) (omega arith) (omega arith) p q)
 
 -- a tile's record is its front and its canisters
 pub tile-record : (t : ℕ) (h : Tile) (l : List Canister) → length l ≡ h .count → frontBytes t h ++ canistersBody l ≡ recordOf 3 (tileBody t (stateFrom h l))

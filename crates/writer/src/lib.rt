@@ -3,7 +3,7 @@ ghost use mathlib.Core.Path.{_≡_};
 ghost use mathlib.Core.Bool.{true};
 ghost use mathlib.Core.List.{List, _++_};
 ghost use Prim.Native.Nat.{ℕ, _+_, _*_, _≤_, _<_};
-ghost use lib.ListN.{length, take, drop};
+ghost use lib.ListN.{length, take};
 ghost use Rattle.wire.specs.Bytes.{bytes};
 ghost use Rattle.wire.specs.Put.{put};
 ghost use Rattle.floor.specs.Memory.{view, stateFrom};
@@ -99,32 +99,40 @@ fn put_front(s: &mut [u8], at: usize, t: u8, h: Tile)
     put_three(s, at + 7, h.next.code, h.token.code, h.count);
 }
 
-// The record of tile t; its canisters stand in `all` from place 16 * t on.
-fn put_tile(s: &mut [u8], at: usize, t: u8, h: Tile, all: [Canister; 1024])
-    requires { ⌜ (at + 10 + 8 * h .count ≤ length (now s)) × (h .count ≤ 16) × (t < 64) ⌝ }
-    ensures { λ r. ⌜ now (s .exit) ≡ put (now (s .entry)) at (recordOf 3 (tileBody t (stateFrom h (take (h .count) (drop (16 * t) all))))) ⌝ }
+// The record of tile t; its canisters stand in the first places of `items`.
+fn put_tile(s: &mut [u8], at: usize, t: u8, h: Tile, items: [Canister; 16])
+    requires { ⌜ (at + 10 + 8 * h .count ≤ length (now s)) × (h .count ≤ 16) ⌝ }
+    ensures { λ r. ⌜ now (s .exit) ≡ put (now (s .entry)) at (recordOf 3 (tileBody t (stateFrom h (take (h .count) items)))) ⌝ }
 {
     put_front(s, at, t, h);
     let n = h.count as usize;
-    let base = 16 * (t as usize);
     let mut k = 0usize;
     while k < n {
-        let c = all[base + k];
+        let c = items[k];
         put_canister(s, at + 10 + 8 * k, c);
         k = k + 1;
     }
 }
 
-// The records of the first c tiles; the answer is the place after them.
+// The records of the first c tiles; the answer is the place after them. The sixteen places of a tile are copied once.
 fn put_tiles(s: &mut [u8], from: usize, tiles: [Tile; 64], all: [Canister; 1024], c: usize) -> usize
     requires { ⌜ (c ≤ 64) × (from + length (upto tiles all c) ≤ length (now s)) × ((t : ℕ) → t < c → countAt tiles t ≤ 16) ⌝ }
     ensures { λ r. ⌜ (r ≡ from + length (upto tiles all c)) × (now (s .exit) ≡ put (now (s .entry)) from (upto tiles all c)) ⌝ }
 {
+    let zero = Canister {
+        number: 0,
+        a: 0,
+        b: 0,
+    };
     let mut at = from;
     let mut t = 0usize;
     while t < c {
         let h = tiles[t];
-        put_tile(s, at, t as u8, h, all);
+        let mut items = [zero; 16];
+        for k in 0usize..16 {
+            items[k] = all[16 * t + k];
+        }
+        put_tile(s, at, t as u8, h, items);
         at = at + 10 + 8 * (h.count as usize);
         t = t + 1;
     }

@@ -10,11 +10,13 @@ use Rattle.changes.proofs.tile_head.Lts as lts
 mul-result : tie.Need-mul-result
 mul-result c = search needs
 
-element-copy-out-result : tie.Need-element-copy-out-result
-element-copy-out-result c = let g = c .args in omega (arith, below-64 g.t1 g.tile (c .pre .0) (c .pre .1), tiles-length g.t1 _ (c .good .0))
+array-copy-out-result : tie.Need-array-copy-out-result
+array-copy-out-result c =
+    let g = c .before .args in
+    omega (arith, below-64 g.floor g.tile (c .before .pre .0) (c .before .pre .1), tiles-length g.floor _ (c .before .good .0))
 
 returns : tie.Need-returns
-returns c = let g = c .before .args in head-view g.t1 g.tile (c .before .pre .0) (c .before .pre .1)
+returns c = let g = c .before .before .args in head-view g.floor g.tile (c .before .before .pre .0) (c .before .before .pre .1)
 
 pub tile-head-spec : {M : Type 1} → statement M
-tile-head-spec = tie.close (tie.spec mul-result element-copy-out-result returns)
+tile-head-spec = tie.close (tie.spec mul-result array-copy-out-result returns)

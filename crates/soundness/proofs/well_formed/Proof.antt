@@ -7,7 +7,8 @@ use Rattle.laws.specs.Define.{allBelow}
 use Rattle.floor.specs.Settings.{settingsPass}
 use Rattle.floor.proofs.Sized.{tiles-length, canisters-length}
 use Rattle.unique.specs.Differ.{Runs}
-use Rattle.soundness.proofs.WellCode.{testOf, keys-run, well-refused, well-unlike, well-tiled, pass-of, pass-not, pass-sized}
+use Rattle.soundness.specs.Code.{counted}
+use Rattle.soundness.proofs.WellCode.{testOf, keys-run, well-refused, well-unlike, well-tiled, well-empty, pass-of, pass-not, pass-sized}
 use borrow.Author.Needs.{needs}
 use Rattle.soundness.proofs.well_formed.Statement.{statement}
 use Rattle.soundness.proofs.well_formed.Tie as tie
@@ -49,23 +50,32 @@ count-all-requires c κs = search needs
 counters-ok-requires : tie.Need-counters-ok-requires
 counters-ok-requires c κs = search needs
 
+returns-3 : tie.Need-returns-3
+returns-3 c =
+    let f = c .before .before .before .before .before .before .before .before .before .before .before .args .f in
+    let g = c .before .before .before .before .before .before .before .before .before .before .before .good .0 in
+    let on : settingsPass (f .settings) ≡ true = pass-of (f .settings) _ (c .before .before .before .before .before .before .before .before .before .settings-refusal .ensures) (c .before .before .before .before .before .before .before .before .if1 .left) in
+    let all : allBelow (testOf f) 64 ≡ true = sym (c .before .before .before .before .tiles-ok .ensures) ∙ not-false _ (c .before .before .before .if2 .left) in
+    let none : counted (f .tiles) 64 ≡ 0 = sym (c .before .before .count-all .ensures) ∙ c .if3 .taken in
+    rw (c .before .counters-ok .ensures, c .before .before .count-all .ensures) (well-empty f (tiles-length f _ g) (canisters-length f _ g) on all none)
+
 keys-of-requires : tie.Need-keys-of-requires
 keys-of-requires c κs = search needs
 
 numbers-differ-requires : tie.Need-numbers-differ-requires
 numbers-differ-requires c κs =
-    let f = c .before .before .before .before .before .before .before .before .before .before .before .args .f in
-    let g = c .before .before .before .before .before .before .before .before .before .before .before .good .0 in
-    let all : allBelow (testOf f) 64 ≡ true = sym (c .before .before .before .before .tiles-ok .ensures) ∙ not-false _ (c .before .before .before .if2 .left) in
-    subst (λ (l : List ℕ). Runs l) (sym (c .keys-of .ensures)) (keys-run f all (canisters-length f _ g))
-
-returns-3 : tie.Need-returns-3
-returns-3 c =
     let f = c .before .before .before .before .before .before .before .before .before .before .before .before .args .f in
     let g = c .before .before .before .before .before .before .before .before .before .before .before .before .good .0 in
-    let on : settingsPass (f .settings) ≡ true = pass-of (f .settings) _ (c .before .before .before .before .before .before .before .before .before .before .settings-refusal .ensures) (c .before .before .before .before .before .before .before .before .before .if1 .left) in
     let all : allBelow (testOf f) 64 ≡ true = sym (c .before .before .before .before .before .tiles-ok .ensures) ∙ not-false _ (c .before .before .before .before .if2 .left) in
-    rw (c .before .before .counters-ok .ensures, c .before .before .before .count-all .ensures, c .numbers-differ .ensures, c .before .keys-of .ensures)
+    subst (λ (l : List ℕ). Runs l) (sym (c .keys-of .ensures)) (keys-run f all (canisters-length f _ g))
+
+returns-4 : tie.Need-returns-4
+returns-4 c =
+    let f = c .before .before .before .before .before .before .before .before .before .before .before .before .before .args .f in
+    let g = c .before .before .before .before .before .before .before .before .before .before .before .before .before .good .0 in
+    let on : settingsPass (f .settings) ≡ true = pass-of (f .settings) _ (c .before .before .before .before .before .before .before .before .before .before .before .settings-refusal .ensures) (c .before .before .before .before .before .before .before .before .before .before .if1 .left) in
+    let all : allBelow (testOf f) 64 ≡ true = sym (c .before .before .before .before .before .before .tiles-ok .ensures) ∙ not-false _ (c .before .before .before .before .before .if2 .left) in
+    rw (c .before .before .before .counters-ok .ensures, c .before .before .before .before .count-all .ensures, c .numbers-differ .ensures, c .before .keys-of .ensures)
     (well-tiled f (tiles-length f _ g) (canisters-length f _ g) on all)
 
 pub well-formed-spec : {M : Type 1} → statement M
@@ -78,6 +88,7 @@ well-formed-spec =
     returns-2
     count-all-requires
     counters-ok-requires
+    returns-3
     keys-of-requires
     numbers-differ-requires
-    returns-3)
+    returns-4)

@@ -1,7 +1,7 @@
 use mathlib.Core.Path.{_≡_, refl, sym, _∙_}
-use Prim.Native.Nat.{_+_, _*_, _-_, _≤_, _<_}
+use Prim.Native.Nat.{_+_, _*_, _-_, _≤_}
 use native.Mathlib.Omega.{arith}
-use lib.ListN.{length, take, drop, length-drop}
+use lib.ListN.{length, take}
 use lib.Seq.{length-take-le}
 use Rattle.writer.proofs.Laws.{canisters-upto, front-length, put-turn, tile-record}
 use Rattle.image.specs.Image.{canistersBody}
@@ -16,10 +16,10 @@ use Rattle.writer.proofs.put_canister.Reads as put-canister-reads
 use Rattle.writer.proofs.put_front.Reads as put-front-reads
 
 abbrev Inv-loop : tie.InvT-loop
-Inv-loop s₀ at t all n base k₀ s k = (k ≤ n) × (n ≤ 16) × (at + 10 + 8 * n ≤ length s₀) × (length s ≡ length s₀) × (length all ≡ 1024) × (t < 64) × (s ≡ put s₀ (at + 10) (canistersBody (take k (drop base all))))
+Inv-loop s₀ at t items n k₀ s k = (k ≤ n) × (n ≤ 16) × (at + 10 + 8 * n ≤ length s₀) × (length s ≡ length s₀) × (length items ≡ 16) × (s ≡ put s₀ (at + 10) (canistersBody (take k items)))
 
 abbrev μ-loop : tie.MeasureT-loop
-μ-loop s₀ at t all n base k₀ s k = n - k
+μ-loop s₀ at t items n k₀ s k = n - k
 
 put-front-requires : tie.Need-put-front-requires Inv-loop μ-loop
 put-front-requires c κs = search needs
@@ -27,18 +27,12 @@ put-front-requires c κs = search needs
 cast-n : tie.Need-cast-n Inv-loop μ-loop
 cast-n c = search needs
 
-mul-base : tie.Need-mul-base Inv-loop μ-loop
-mul-base c = search needs
-
 loop-holds : tie.Need-loop-holds Inv-loop μ-loop
 unfolding canistersBody
 loop-holds c =
-    let k = c .before .before .before .put-front .kept .0 in
-    let a = c .before .before .before .before .before .before .good .1 .1 .1 .1 .0 .1 .0 .1 in
-    (omega arith, omega arith, omega (arith, k), refl, a, omega arith, sym (put-none (c .before .before .before .put-front .last .0) (c .before .before .before .before .before .before .args .at + 10)))
-
-add-c : tie.Need-add-c Inv-loop μ-loop
-add-c c = search needs
+    let p = c .before .before .before .put-front in
+    let g = c .before .before .before .before .before .before .args in
+    (omega arith, omega arith, omega (arith, p .kept .0), refl, c .before .before .before .before .before .before .good .1 .1 .1 .1 .0 .1 .0 .1, sym (put-none (p .last .0) (g.at + 10)))
 
 mul-c : tie.Need-mul-c Inv-loop μ-loop
 mul-c c = search needs
@@ -74,8 +68,7 @@ loop-again c =
       l .inv .2,
       k ∙ l .inv .3,
       l .inv .4,
-      l .inv .5,
-      put-turn (c .before .before .before .before .before .before .before .before .before .before .put-front .last .0) (l .s) _ (g.at + 10) (16 * g.t) (l .k) g.t5 _ (omega arith) (omega arith) (l .inv .6) (c .before .before .put-canister .ensures),
+      put-turn (c .before .before .before .before .before .before .before .before .before .before .put-front .last .0) (l .s) _ (g.at + 10) (l .k) g.t5 _ (omega arith) (omega arith) (l .inv .5) (c .before .before .put-canister .ensures),
     )
 
 same-length : tie.Need-same-length Inv-loop μ-loop
@@ -87,12 +80,11 @@ returns c =
     let g = c .before .before .before .before .before .before .before .before .args in
     let p = c .before .before .before .before .before .put-front .last .0 in
     let e : l .k ≡ g.h .count = omega arith in
-    let i : l .s ≡ put p (g.at + 10) (canistersBody (take (g.h .count) (drop (16 * g.t) g.t5))) = rw e at (l .inv .6) in
+    let i : l .s ≡ put p (g.at + 10) (canistersBody (take (g.h .count) g.t5)) = rw e at (l .inv .5) in
     let f = front-length g.t g.h in
-    let n = canisters-upto g.t5 (16 * g.t) (g.h .count) (omega arith) in
-    let d : g.h .count ≤ length (drop (16 * g.t) g.t5) = rw length-drop (omega arith) in
-    rw (← tile-record g.t g.h (take (g.h .count) (drop (16 * g.t) g.t5)) (length-take-le (g.h .count) (drop (16 * g.t) g.t5) d))
-    (put-two (g.s .now) p (l .s) g.at (g.at + 10) (frontBytes g.t g.h) (canistersBody (take (g.h .count) (drop (16 * g.t) g.t5))) (omega arith) (omega arith) (c .before .before .before .before .before .put-front .ensures) i)
+    let n = canisters-upto g.t5 (g.h .count) (omega arith) in
+    rw (← tile-record g.t g.h (take (g.h .count) g.t5) (length-take-le (g.h .count) g.t5 (omega arith)))
+    (put-two (g.s .now) p (l .s) g.at (g.at + 10) (frontBytes g.t g.h) (canistersBody (take (g.h .count) g.t5)) (omega arith) (omega arith) (c .before .before .before .before .before .put-front .ensures) i)
 
 pub put-tile-spec : {M : Type 1} → statement M
 put-tile-spec =
@@ -102,9 +94,7 @@ put-tile-spec =
     μ-loop
     put-front-requires
     cast-n
-    mul-base
     loop-holds
-    add-c
     mul-c
     array-copy-out-c
     add-put-canister
