@@ -61,92 +61,63 @@ fn measure(
     println!("{floor:22} {call:6} {answer:3} {library:12.0} {oracle:12.0} {ratio:8.2}");
 }
 
-fn all_calls(pair: &Pair) {
+/// One row: the same call of both, with the library's answer.
+macro_rules! row {
+    ($name:expr, $call:expr, $ours:expr, $theirs:expr) => {
+        measure(
+            $name,
+            $call,
+            $ours.refusal,
+            &mut || {
+                black_box($ours);
+            },
+            &mut || {
+                black_box($theirs);
+            },
+        )
+    };
+}
+
+/// The calls that are timed: all but fresh and repair.
+fn timed_calls(pair: &Pair) {
     let (ours, theirs) = (&pair.ours, &pair.theirs);
-    let (tile, wide) = (pair.tile, pair.tile as usize);
-    let name = pair.name;
-    let place = ceromby::Canister {
-        number: theirs.counters.last + 1,
-        a: pair.place.0,
-        b: pair.place.1,
-    };
-    let same = oracle::Canister {
-        number: place.number,
-        a: place.a,
-        b: place.b,
-    };
+    let (name, tile) = (pair.name, pair.tile);
+    assert_eq!(theirs.tiles[tile as usize].running, 1);
+    let number = theirs.counters.last + 1;
+    let (a, b) = pair.place;
+    let place = ceromby::Canister { number, a, b };
+    let same = oracle::Canister { number, a, b };
     let mut image = vec![0; ceromby::LONGEST_IMAGE];
     let length = oracle::write(theirs, &mut image).length as usize;
     image.truncate(length);
     let (mut buffer, mut other) = (vec![0; length], vec![0; length]);
-
-    measure(
-        name,
-        "round",
-        ceromby::round(ours).refusal,
-        &mut || {
-            black_box(ceromby::round(black_box(ours)));
-        },
-        &mut || {
-            black_box(oracle::round(black_box(theirs)));
-        },
-    );
-    measure(
+    let (ours, theirs, image) = (black_box(ours), black_box(theirs), black_box(&image));
+    row!(name, "round", ceromby::round(ours), oracle::round(theirs));
+    row!(
         name,
         "book",
-        ceromby::book(ours, tile, place).refusal,
-        &mut || {
-            black_box(ceromby::book(black_box(ours), tile, place));
-        },
-        &mut || {
-            black_box(oracle::book(black_box(theirs), tile, same));
-        },
+        ceromby::book(ours, tile, place),
+        oracle::book(theirs, tile, same)
     );
-    measure(
+    row!(
         name,
         "stop",
-        ceromby::stop(ours, tile).refusal,
-        &mut || {
-            black_box(ceromby::stop(black_box(ours), tile));
-        },
-        &mut || {
-            black_box(oracle::stop(black_box(theirs), tile));
-        },
+        ceromby::stop(ours, tile),
+        oracle::stop(theirs, tile)
     );
-    assert_eq!(theirs.tiles[wide].running, 1);
-    measure(
+    row!(
         name,
         "read",
-        ceromby::read(ours, tile).refusal,
-        &mut || {
-            black_box(ceromby::read(black_box(ours), tile));
-        },
-        &mut || {
-            black_box(oracle::read(black_box(theirs), tile));
-        },
+        ceromby::read(ours, tile),
+        oracle::read(theirs, tile)
     );
-    measure(
+    row!(
         name,
         "write",
-        ceromby::write(ours, &mut buffer).refusal,
-        &mut || {
-            black_box(ceromby::write(black_box(ours), &mut buffer));
-        },
-        &mut || {
-            black_box(oracle::write(black_box(theirs), &mut other));
-        },
+        ceromby::write(ours, &mut buffer),
+        oracle::write(theirs, &mut other)
     );
-    measure(
-        name,
-        "load",
-        ceromby::load(&image).refusal,
-        &mut || {
-            black_box(ceromby::load(black_box(&image)));
-        },
-        &mut || {
-            black_box(oracle::load(black_box(&image)));
-        },
-    );
+    row!(name, "load", ceromby::load(image), oracle::load(image));
 }
 
 fn main() {
@@ -156,6 +127,6 @@ fn main() {
         "floor", "call", "", "library ns", "oracle ns", "ratio"
     );
     for pair in both_shapes() {
-        all_calls(&pair);
+        timed_calls(&pair);
     }
 }

@@ -114,7 +114,8 @@ fn with_faults(_: Plan, _: Option<&str>) -> ExitCode {
     ExitCode::from(2)
 }
 
-fn main() -> ExitCode {
+/// What the command's words ask for: the plan, whether with faults, and which. None if they can't be read.
+fn asked() -> Option<(Plan, bool, Option<String>)> {
     let mut plan = Plan {
         seed: 1,
         calls: 1_500_000,
@@ -137,19 +138,18 @@ fn main() -> ExitCode {
                 fault = words.next();
                 continue;
             }
-            _ => {
-                eprintln!("{USAGE}");
-                return ExitCode::from(2);
-            }
+            _ => return None,
         };
-        match words.next().and_then(|number| number.parse().ok()) {
-            Some(number) => *field = number,
-            None => {
-                eprintln!("{USAGE}");
-                return ExitCode::from(2);
-            }
-        }
+        *field = words.next()?.parse().ok()?;
     }
+    Some((plan, faulty, fault))
+}
+
+fn main() -> ExitCode {
+    let Some((plan, faulty, fault)) = asked() else {
+        eprintln!("{USAGE}");
+        return ExitCode::from(2);
+    };
     call::hush_the_oracle();
     match faulty {
         true => with_faults(plan, fault.as_deref()),

@@ -209,22 +209,43 @@ pub fn facing_floor(rng: &mut Rng) -> Floor {
 /// the damage drawn doesn't suit the floor, which is then as it was.
 pub fn known_damage(rng: &mut Rng, floor: &mut Floor) -> bool {
     let tiles = floor.settings.tile_count();
-    let hopper = usize::from(floor.settings.hopper);
-    let span = floor.settings.span();
     let any = rng.below(tiles as u64) as usize;
-    let count = usize::from(floor.tiles[any].count);
-    let first = any * PLACES;
     let byte = rng.range(1, 255) as u8;
     match rng.below(30) {
+        kind @ 0..=8 => damage_tile(rng, floor, kind, any, byte),
+        kind @ 9..=18 => damage_places(rng, floor, kind, any),
+        19 => repeat_number(rng, floor),
+        25 => face_outside(rng, floor),
+        kind => damage_rest(rng, floor, kind, any, byte),
+    }
+}
+
+/// Damages the head of the hopper or of a tile.
+fn damage_tile(rng: &mut Rng, floor: &mut Floor, kind: u64, any: usize, byte: u8) -> bool {
+    let tiles = floor.settings.tile_count() as u64;
+    let hopper = usize::from(floor.settings.hopper);
+    match kind {
         0 => floor.tiles[hopper].running = 0,
         1 => floor.tiles[hopper].distance = byte,
         2 => floor.tiles[hopper].next = rng.range(1, 4) as u8,
         3 => floor.tiles[any].running = rng.range(2, 255) as u8,
         4 if any != hopper => floor.tiles[any].distance = 0,
-        5 => floor.tiles[any].distance = rng.range(tiles as u64, 254) as u8,
+        5 => floor.tiles[any].distance = rng.range(tiles, 254) as u8,
         6 => floor.tiles[any].next = rng.range(5, 255) as u8,
         7 => floor.tiles[any].token = rng.range(5, 255) as u8,
         8 => floor.tiles[any].count = rng.range(17, 255) as u8,
+        _ => return false,
+    }
+    true
+}
+
+/// Damages a tile's places, or what stands where no tile is.
+fn damage_places(rng: &mut Rng, floor: &mut Floor, kind: u64, any: usize) -> bool {
+    let tiles = floor.settings.tile_count();
+    let span = floor.settings.span();
+    let count = usize::from(floor.tiles[any].count);
+    let first = any * PLACES;
+    match kind {
         9 if count > 0 => floor.tiles[any].count -= 1,
         10 if count < 16 => floor.tiles[any].count += 1,
         11 if count > 0 => floor.canisters[first].a = span + 1,
@@ -244,37 +265,51 @@ pub fn known_damage(rng: &mut Rng, floor: &mut Floor) -> bool {
                 _ => floor.canisters[place].b = 1,
             }
         }
-        17 if tiles < 64 => {
-            let tile = rng.range(tiles as u64, 63) as usize;
-            match rng.below(5) {
-                0 => floor.tiles[tile].running = 1,
-                1 => floor.tiles[tile].distance = NONE,
-                2 => floor.tiles[tile].next = 1,
-                3 => floor.tiles[tile].token = 1,
-                _ => floor.tiles[tile].count = 1,
-            }
-        }
+        17 if tiles < 64 => damage_absent(rng, floor),
         18 if tiles < 64 => {
             let place = rng.range((tiles * PLACES) as u64, 1_023) as usize;
             floor.canisters[place].b = 1;
         }
-        19 => return repeat_number(rng, floor),
-        20 if count > 0 => floor.counters.last = floor.canisters[first + count - 1].number - 1,
-        21 => floor.counters.booked = floor.counters.booked.wrapping_add(byte.into()),
-        22 => floor.counters.delivered = floor.counters.delivered.wrapping_add(byte.into()),
-        23 if floor.counters.last < u32::MAX => {
-            let held = floor.counters.booked - floor.counters.delivered;
-            floor.counters.booked = floor.counters.last + 1;
-            floor.counters.delivered = floor.counters.booked - held;
+        _ => return false,
+    }
+    true
+}
+
+/// Gives a tile that the floor doesn't have one field.
+fn damage_absent(rng: &mut Rng, floor: &mut Floor) {
+    let tiles = floor.settings.tile_count() as u64;
+    let tile = rng.range(tiles, 63) as usize;
+    match rng.below(5) {
+        0 => floor.tiles[tile].running = 1,
+        1 => floor.tiles[tile].distance = NONE,
+        2 => floor.tiles[tile].next = 1,
+        3 => floor.tiles[tile].token = 1,
+        _ => floor.tiles[tile].count = 1,
+    }
+}
+
+/// Damages the counters or the settings.
+fn damage_rest(rng: &mut Rng, floor: &mut Floor, kind: u64, any: usize, byte: u8) -> bool {
+    let tiles = floor.settings.tile_count() as u64;
+    let count = usize::from(floor.tiles[any].count);
+    let held = floor.counters.booked - floor.counters.delivered;
+    let counters = &mut floor.counters;
+    match kind {
+        20 if count > 0 => {
+            counters.last = floor.canisters[any * PLACES + count - 1].number - 1;
         }
-        24 if floor.counters.booked > floor.counters.delivered => {
-            let held = floor.counters.booked - floor.counters.delivered;
-            floor.counters.booked = held - 1;
-            floor.counters.delivered = u32::MAX;
+        21 => counters.booked = counters.booked.wrapping_add(byte.into()),
+        22 => counters.delivered = counters.delivered.wrapping_add(byte.into()),
+        23 if counters.last < u32::MAX => {
+            counters.booked = counters.last + 1;
+            counters.delivered = counters.booked - held;
         }
-        25 => return face_outside(rng, floor),
-        26 => floor.settings.hopper = rng.range(tiles as u64, 255) as u8,
-        27 => floor.settings.sources |= 1 << hopper,
+        24 if held > 0 => {
+            counters.booked = held - 1;
+            counters.delivered = u32::MAX;
+        }
+        26 => floor.settings.hopper = rng.range(tiles, 255) as u8,
+        27 => floor.settings.sources |= 1 << floor.settings.hopper,
         28 => floor.settings.travel = floor.settings.length,
         29 => floor.settings.gap = u16::MAX - rng.below(300) as u16,
         _ => return false,

@@ -152,6 +152,19 @@ fn finish(
     }
 }
 
+/// A call of a list: mostly one that a list of the paper holds.
+fn list_call(rng: &mut Rng, floor: &Floor) -> Call {
+    match rng.below(20) {
+        0 => makers::any_call(rng, floor),
+        1 => Call::Read {
+            tile: random::any_tile(rng, floor),
+        },
+        2 => makers::writing(rng, floor),
+        3 => makers::loading(rng, floor),
+        _ => random::call(rng, floor).into(),
+    }
+}
+
 /// A fresh floor and a long list of calls.
 pub fn list(rng: &mut Rng, tally: &mut Tally) -> Result<(), Box<Failure>> {
     finish(begin(Floor::ZERO, true, None), tally, |run| {
@@ -166,16 +179,7 @@ pub fn list(rng: &mut Rng, tally: &mut Tally) -> Result<(), Box<Failure>> {
         }
         for at in 0..rng.range(20, 600) {
             let floor = run.floor;
-            let call = match rng.below(20) {
-                0 => makers::any_call(rng, &floor),
-                1 => Call::Read {
-                    tile: random::any_tile(rng, &floor),
-                },
-                2 => makers::writing(rng, &floor),
-                3 => makers::loading(rng, &floor),
-                _ => random::call(rng, &floor).into(),
-            };
-            run.make(call)?;
+            run.make(list_call(rng, &floor))?;
             if at % 16 == 0 {
                 run.check()?;
             }
@@ -221,9 +225,9 @@ pub fn arbitrary(rng: &mut Rng, tally: &mut Tally) -> Result<(), Box<Failure>> {
     })
 }
 
-/// A floor damaged in memory, and every call that takes one.
-pub fn damaged(rng: &mut Rng, tally: &mut Tally) -> Result<(), Box<Failure>> {
-    let (first, known) = match rng.below(8) {
+/// A floor with damage, and whether it is certain to be malformed.
+fn damaged_floor(rng: &mut Rng) -> (Floor, bool) {
+    match rng.below(8) {
         0 => (random::garbage_floor(rng), false),
         1..=3 => (random::nearly_sound_floor(rng), false),
         _ => {
@@ -233,7 +237,12 @@ pub fn damaged(rng: &mut Rng, tally: &mut Tally) -> Result<(), Box<Failure>> {
             }
             (floor, true)
         }
-    };
+    }
+}
+
+/// A floor damaged in memory, and every call that takes one.
+pub fn damaged(rng: &mut Rng, tally: &mut Tally) -> Result<(), Box<Failure>> {
+    let (first, known) = damaged_floor(rng);
     tally.known_damage += u64::from(known);
     finish(begin(first, false, known.then_some(30)), tally, |run| {
         let tile = match rng.chance(1, 4) {

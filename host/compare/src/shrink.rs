@@ -280,7 +280,14 @@ fn crop(case: &mut Case, line: Line) -> Option<()> {
         floor.settings.sources |= u64::from(old.settings.is_source(tile)) << new;
     }
     turn_inwards(&mut floor);
-    for call in &mut case.calls {
+    rename_tiles(&mut case.calls, tiles, kept)?;
+    case.first = floor;
+    Some(())
+}
+
+/// The calls with their tiles' new numbers; none if one of them is gone.
+fn rename_tiles(calls: &mut [Call], tiles: usize, kept: impl Fn(u8) -> Option<u8>) -> Option<()> {
+    for call in calls {
         if let Call::Book { tile, .. }
         | Call::Stop { tile }
         | Call::Repair { tile }
@@ -291,7 +298,6 @@ fn crop(case: &mut Case, line: Line) -> Option<()> {
             }
         }
     }
-    case.first = floor;
     Some(())
 }
 

@@ -81,6 +81,19 @@ impl Tally {
 
     /// Prints the counts and gives those that are 0.
     pub fn print(&self) -> Vec<String> {
+        let mut missing = self.print_answers();
+        for (name, count) in self.events() {
+            println!("{name}: {count}");
+            if count == 0 {
+                missing.push(format!("{name}: never"));
+            }
+        }
+        println!("rounds used of the bound, at most: {:.3}", self.closest);
+        missing
+    }
+
+    /// How often each call gave each of its answers.
+    fn print_answers(&self) -> Vec<String> {
         let mut missing = Vec::new();
         for ((name, answers), counts) in NAMES.iter().zip(ANSWERS).zip(&self.answers) {
             let mut line = format!("{name:8}");
@@ -93,35 +106,33 @@ impl Tally {
             }
             println!("{line}");
         }
-        let mut event = |name: &str, count: u64| {
-            println!("{name}: {count}");
-            if count == 0 {
-                missing.push(format!("{name}: never"));
-            }
-        };
-        for (side, count) in ["west", "south", "north", "east"]
-            .iter()
-            .zip(self.crossings)
-        {
-            event(&format!("crossings to the {side}"), count);
-        }
-        event("grants withheld for want of a gap", self.withheld);
-        for at_once in 1..=4 {
-            event(
-                &format!("rounds that delivered {at_once}"),
-                self.deliveries[at_once],
-            );
-        }
-        event("rounds with a tile of sixteen", self.sixteen);
-        event("pairs of tiles granting each other", self.mutual);
-        event("rounds on a full 8 x 8 floor (1,008 canisters)", self.full);
-        event("lists held to demand 3", self.lists);
-        event("further lists held to the bound", self.drained);
-        event("floors with damage that must be 30", self.known_damage);
-        event("good images", self.good_images);
-        event("damaged images", self.damaged_images);
-        event("calls", self.calls);
-        println!("rounds used of the bound, at most: {:.3}", self.closest);
         missing
+    }
+
+    /// What else must have occurred.
+    fn events(&self) -> Vec<(String, u64)> {
+        let sides = ["west", "south", "north", "east"].iter();
+        let crossings = sides.zip(self.crossings);
+        let mut events: Vec<(String, u64)> = crossings
+            .map(|(side, count)| (format!("crossings to the {side}"), count))
+            .collect();
+        events.push(("grants withheld for want of a gap".into(), self.withheld));
+        for at_once in 1..=4 {
+            let name = format!("rounds that delivered {at_once}");
+            events.push((name, self.deliveries[at_once]));
+        }
+        let more = [
+            ("rounds with a tile of sixteen", self.sixteen),
+            ("pairs of tiles granting each other", self.mutual),
+            ("rounds on a full 8 x 8 floor (1,008 canisters)", self.full),
+            ("lists held to demand 3", self.lists),
+            ("further lists held to the bound", self.drained),
+            ("floors with damage that must be 30", self.known_damage),
+            ("good images", self.good_images),
+            ("damaged images", self.damaged_images),
+            ("calls", self.calls),
+        ];
+        events.extend(more.map(|(name, count)| (name.into(), count)));
+        events
     }
 }

@@ -13,94 +13,97 @@ fn sound() -> Floor {
     booked(&floor, 0, 6, 40, 0)
 }
 
+type Change = fn(&mut Floor);
+
+/// A change for each clause of well formed, by itself.
+const BROKEN: &[(&str, Change)] = &[
+    ("W 0", |f| f.settings.columns = 0),
+    ("W 255", |f| f.settings.columns = 255),
+    ("other W", |f| f.settings.columns = 4),
+    ("lesser W", |f| f.settings.columns = 2),
+    ("H 255", |f| f.settings.rows = 255),
+    ("hopper beyond", |f| f.settings.hopper = 6),
+    ("fill beyond", |f| f.settings.sources |= 1 << 6),
+    ("fill of hopper", |f| f.settings.sources |= 1 << 5),
+    ("v 30", |f| f.settings.travel = 30),
+    ("hopper stopped", |f| f.tiles[5].running = 0),
+    ("hopper running 2", |f| f.tiles[5].running = 2),
+    ("hopper distance", |f| f.tiles[5].distance = 1),
+    ("hopper distance none", |f| f.tiles[5].distance = NONE),
+    ("hopper arrow", |f| f.tiles[5].next = 1),
+    ("hopper turn out", |f| f.tiles[5].token = 4),
+    ("hopper canister", |f| {
+        f.tiles[5].count = 1;
+        f.canisters[80] = canister(1, 0, 0);
+        f.counters.delivered = 0;
+        f.counters.booked = 4;
+    }),
+    ("hopper leftover", |f| f.canisters[80].b = 1),
+    ("running 2", |f| f.tiles[0].running = 2),
+    ("running 7", |f| f.tiles[3].running = 7),
+    ("distance 0", |f| f.tiles[3].distance = 0),
+    ("distance C", |f| f.tiles[3].distance = 6),
+    ("distance 254", |f| f.tiles[3].distance = 254),
+    ("none with arrow", |f| f.tiles[3].distance = NONE),
+    ("distance without arrow", |f| f.tiles[3].next = 0),
+    ("arrow out", |f| f.tiles[3].next = 3),
+    ("arrow 5", |f| f.tiles[3].next = 5),
+    ("arrow 200", |f| f.tiles[3].next = 200),
+    ("turn out", |f| f.tiles[0].token = 1),
+    ("turn 5", |f| f.tiles[0].token = 5),
+    ("stopped distance", |f| f.tiles[1].distance = 1),
+    ("stopped arrow", |f| f.tiles[1].next = 4),
+    ("stopped turn", |f| f.tiles[1].token = 4),
+    ("stopped way", |f| {
+        f.tiles[1].distance = 1;
+        f.tiles[1].next = 4;
+    }),
+    ("stopped zero", |f| f.tiles[1].distance = 0),
+    ("count above", |f| f.tiles[2].count = 2),
+    ("count below", |f| f.tiles[2].count = 0),
+    ("count 17", |f| f.tiles[2].count = 17),
+    ("count 255", |f| f.tiles[2].count = 255),
+    ("a outside", |f| f.canisters[32].a = 71),
+    ("b outside", |f| f.canisters[32].b = 71),
+    ("too close", |f| {
+        f.canisters[1].a = f.canisters[0].a;
+        f.canisters[1].b = f.canisters[0].b + 39;
+    }),
+    ("number 0", |f| f.canisters[0].number = 0),
+    ("falling", |f| {
+        f.canisters[0].number = 6;
+        f.canisters[1].number = 4;
+    }),
+    ("level", |f| f.canisters[1].number = 4),
+    ("twice", |f| f.canisters[32].number = 4),
+    ("above last", |f| f.canisters[32].number = 7),
+    ("last below", |f| f.counters.last = 5),
+    ("booked above", |f| f.counters.booked += 1),
+    ("delivered above", |f| f.counters.delivered += 1),
+    ("sum wraps", |f| {
+        f.counters.delivered = u32::MAX;
+        f.counters.booked = 2;
+    }),
+    ("booked above last", |f| {
+        f.counters.booked = 7;
+        f.counters.delivered = 4;
+    }),
+    ("unused place number", |f| f.canisters[2].number = 9),
+    ("unused place a", |f| f.canisters[15].a = 1),
+    ("unused tile running", |f| f.tiles[6].running = 1),
+    ("unused tile distance", |f| f.tiles[63].distance = NONE),
+    ("unused tile arrow", |f| f.tiles[7].next = 1),
+    ("unused tile turn", |f| f.tiles[7].token = 1),
+    ("unused tile count", |f| f.tiles[7].count = 1),
+    ("unused tile place", |f| f.canisters[1023].b = 1),
+];
+
 #[test]
 fn each_clause_counts() {
-    type Change = fn(&mut Floor);
-    let broken: &[(&str, Change)] = &[
-        ("W 0", |f| f.settings.columns = 0),
-        ("W 255", |f| f.settings.columns = 255),
-        ("other W", |f| f.settings.columns = 4),
-        ("lesser W", |f| f.settings.columns = 2),
-        ("H 255", |f| f.settings.rows = 255),
-        ("hopper beyond", |f| f.settings.hopper = 6),
-        ("fill beyond", |f| f.settings.sources |= 1 << 6),
-        ("fill of hopper", |f| f.settings.sources |= 1 << 5),
-        ("v 30", |f| f.settings.travel = 30),
-        ("hopper stopped", |f| f.tiles[5].running = 0),
-        ("hopper running 2", |f| f.tiles[5].running = 2),
-        ("hopper distance", |f| f.tiles[5].distance = 1),
-        ("hopper distance none", |f| f.tiles[5].distance = NONE),
-        ("hopper arrow", |f| f.tiles[5].next = 1),
-        ("hopper turn out", |f| f.tiles[5].token = 4),
-        ("hopper canister", |f| {
-            f.tiles[5].count = 1;
-            f.canisters[80] = canister(1, 0, 0);
-            f.counters.delivered = 0;
-            f.counters.booked = 4;
-        }),
-        ("hopper leftover", |f| f.canisters[80].b = 1),
-        ("running 2", |f| f.tiles[0].running = 2),
-        ("running 7", |f| f.tiles[3].running = 7),
-        ("distance 0", |f| f.tiles[3].distance = 0),
-        ("distance C", |f| f.tiles[3].distance = 6),
-        ("distance 254", |f| f.tiles[3].distance = 254),
-        ("none with arrow", |f| f.tiles[3].distance = NONE),
-        ("distance without arrow", |f| f.tiles[3].next = 0),
-        ("arrow out", |f| f.tiles[3].next = 3),
-        ("arrow 5", |f| f.tiles[3].next = 5),
-        ("arrow 200", |f| f.tiles[3].next = 200),
-        ("turn out", |f| f.tiles[0].token = 1),
-        ("turn 5", |f| f.tiles[0].token = 5),
-        ("stopped distance", |f| f.tiles[1].distance = 1),
-        ("stopped arrow", |f| f.tiles[1].next = 4),
-        ("stopped turn", |f| f.tiles[1].token = 4),
-        ("stopped way", |f| {
-            f.tiles[1].distance = 1;
-            f.tiles[1].next = 4;
-        }),
-        ("stopped zero", |f| f.tiles[1].distance = 0),
-        ("count above", |f| f.tiles[2].count = 2),
-        ("count below", |f| f.tiles[2].count = 0),
-        ("count 17", |f| f.tiles[2].count = 17),
-        ("count 255", |f| f.tiles[2].count = 255),
-        ("a outside", |f| f.canisters[32].a = 71),
-        ("b outside", |f| f.canisters[32].b = 71),
-        ("too close", |f| {
-            f.canisters[1].a = f.canisters[0].a;
-            f.canisters[1].b = f.canisters[0].b + 39;
-        }),
-        ("number 0", |f| f.canisters[0].number = 0),
-        ("falling", |f| {
-            f.canisters[0].number = 6;
-            f.canisters[1].number = 4;
-        }),
-        ("level", |f| f.canisters[1].number = 4),
-        ("twice", |f| f.canisters[32].number = 4),
-        ("above last", |f| f.canisters[32].number = 7),
-        ("last below", |f| f.counters.last = 5),
-        ("booked above", |f| f.counters.booked += 1),
-        ("delivered above", |f| f.counters.delivered += 1),
-        ("sum wraps", |f| {
-            f.counters.delivered = u32::MAX;
-            f.counters.booked = 2;
-        }),
-        ("booked above last", |f| {
-            f.counters.booked = 7;
-            f.counters.delivered = 4;
-        }),
-        ("unused place number", |f| f.canisters[2].number = 9),
-        ("unused place a", |f| f.canisters[15].a = 1),
-        ("unused tile running", |f| f.tiles[6].running = 1),
-        ("unused tile distance", |f| f.tiles[63].distance = NONE),
-        ("unused tile arrow", |f| f.tiles[7].next = 1),
-        ("unused tile turn", |f| f.tiles[7].token = 1),
-        ("unused tile count", |f| f.tiles[7].count = 1),
-        ("unused tile place", |f| f.canisters[1023].b = 1),
-    ];
     assert!(well_formed(&sound()));
     assert_eq!(sound().tiles[0].distance, 3);
     assert_eq!(sound().tiles[3].next, 4);
-    for (name, change) in broken {
+    for (name, change) in BROKEN {
         let mut floor = sound();
         change(&mut floor);
         assert!(!well_formed(&floor), "{name}");
