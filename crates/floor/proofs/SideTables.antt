@@ -1,14 +1,16 @@
 -- Sets of sides as the code handles them: each rule is one table that the prover computes, and a law that reads it at an entry.
 use Prim.Native.Nat.{ℕ, zero, suc, _+_, _*_, _/_, _%_, _^_, _≤_, _<_}
-use mathlib.Core.Path.{_≡_, refl, sym}
-use mathlib.Core.Bool.{Bool, true, false, cond, not}
+use mathlib.Core.Path.{_≡_, refl, sym, fun-ext}
+use mathlib.Core.Bool.{Bool, true, false, cond, not, _&&_}
 use native.Mathlib.Omega.{arith}
-use lib.Dec.{eqb, lit<}
+use native.Mathlib.Decide.{decLe}
+use lib.Dec.{eqb, ltb}
 use lib.Bits.{bitOr, bitAnd}
 use lib.Count.{trailingZeros}
-use borrow.Author.Tests.{eqb-true, eq-eqb, ne-eqb}
+use borrow.Author.Tests.{eqb-true, eq-eqb, ne-eqb, ltb-true}
 use Rattle.laws.specs.Define.{allBelow, firstOf, bit}
 use Rattle.laws.specs.Tables.{below-at}
+use Rattle.laws.specs.Tests.{and-left, and-right}
 use Rattle.floor.specs.Sides.{bySide, after, following, inSet}
 
 -- an entry of a table over sides up to 4 and sets below 16
@@ -73,21 +75,43 @@ in-set k x hk hx = same-true (tested k x) (inSet x k) (table-at agrees all-teste
 abbrev pub setOf : Bool → Bool → Bool → Bool → ℕ
 setOf w s n e = bitOr (bitOr (bitOr (cond w 1 0) (cond s 2 0)) (cond n 4 0)) (cond e 8 0)
 
+-- both values of a test
+both : (Bool → Bool) → Bool
+both p = p true && p false
+
+both-at : (p : Bool → Bool) → both p ≡ true → (b : Bool) → p b ≡ true
+unfolding both
+both-at p h true = and-left (p true) (p false) h
+both-at p h false = and-right (p true) (p false) h
+
+-- the set is below 16, and tells each side up to 4
+told : Bool → Bool → Bool → Bool → Bool
+told w s n e = ltb (setOf w s n e) 16 && allBelow (λ k. same (inSet (setOf w s n e) k) (bySide false w s n e k)) 5
+
+all-told : both (λ w. both (λ s. both (λ n. both (told w s n)))) ≡ true
+unfolding both told allBelow same inSet bit
+all-told = refl
+
+told-at : (w s n e : Bool) → told w s n e ≡ true
+told-at w s n = both-at (told w s n) (both-at (λ n. both (told w s n)) (both-at (λ s. both (λ n. both (told w s n))) (both-at (λ w. both (λ s. both (λ n. both (told w s n)))) all-told w) s) n)
+
+-- what is no side is in no set
+no-side-in : (x : ℕ) (w s n e : Bool) (k : ℕ) → 4 < k → inSet x k ≡ bySide false w s n e k
+unfolding inSet
+no-side-in x w s n e zero h = absurd (omega arith)
+no-side-in x w s n e (suc zero) h = absurd (omega arith)
+no-side-in x w s n e (suc (suc zero)) h = absurd (omega arith)
+no-side-in x w s n e (suc (suc (suc zero))) h = absurd (omega arith)
+no-side-in x w s n e (suc (suc (suc (suc zero)))) h = absurd (omega arith)
+no-side-in x w s n e (suc (suc (suc (suc (suc k))))) h = refl
+
 pub set-of : (w s n e : Bool) → (setOf w s n e < 16) × (inSet (setOf w s n e) ≡ bySide false w s n e)
-unfolding inSet bit
-set-of true true true true = (lit< tt, refl)
-set-of true true true false = (lit< tt, refl)
-set-of true true false true = (lit< tt, refl)
-set-of true true false false = (lit< tt, refl)
-set-of true false true true = (lit< tt, refl)
-set-of true false true false = (lit< tt, refl)
-set-of true false false true = (lit< tt, refl)
-set-of true false false false = (lit< tt, refl)
-set-of false true true true = (lit< tt, refl)
-set-of false true true false = (lit< tt, refl)
-set-of false true false true = (lit< tt, refl)
-set-of false true false false = (lit< tt, refl)
-set-of false false true true = (lit< tt, refl)
-set-of false false true false = (lit< tt, refl)
-set-of false false false true = (lit< tt, refl)
-set-of false false false false = (lit< tt, refl)
+unfolding told
+set-of w s n e = (ltb-true (setOf w s n e) 16 (and-left (ltb (setOf w s n e) 16) _ (told-at w s n e)), fun-ext (λ k. at k (decLe k 4)))
+  where
+    sides-told : allBelow (λ k. same (inSet (setOf w s n e) k) (bySide false w s n e k)) 5 ≡ true
+    sides-told = and-right (ltb (setOf w s n e) 16) _ (told-at w s n e)
+
+    at : (k : ℕ) → Dec (k ≤ 4) → inSet (setOf w s n e) k ≡ bySide false w s n e k
+    at k (yes h) = same-true _ _ (below-at (λ k. same (inSet (setOf w s n e) k) (bySide false w s n e k)) 5 sides-told k (omega arith))
+    at k (no h) = no-side-in (setOf w s n e) w s n e k (omega arith)
