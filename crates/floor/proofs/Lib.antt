@@ -28,6 +28,7 @@ pub mod Clearing
 pub mod Calls
 pub mod Lists
 pub mod Theorem
+pub mod Chain
 pub mod Numbering
 pub mod Calling
 pub mod Trials
