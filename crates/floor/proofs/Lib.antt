@@ -32,5 +32,3 @@ pub mod Chain
 pub mod Numbering
 pub mod Calling
 pub mod Trials
-pub mod Cases
-pub mod CasesRound

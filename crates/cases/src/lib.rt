@@ -1,0 +1,1 @@
+// Cases beyond the paper's trials, in proofs/; no code.
