@@ -124,8 +124,8 @@ fn fills(t: Tally, f: Filling) -> Tally {
     )
 }
 
-// All numbers come out, each once: 1 to 1024 without 433 to 448 have the sum 517,752. The 100 and the 3,690 rounds were
-// found apart from the library, by a program made from document 01 alone.
+// All numbers come out, each once: 1 to 1024 without 433 to 448 have the sum 517,752. The 100 and the 3,690 rounds are
+// also what the second implementation gives (host/oracle/tests/suite/full.rs).
 pub fn all(t: Tally) -> Tally {
     let f = filled();
     let next = fills(t, f);

@@ -2,6 +2,7 @@
 
 mod common;
 mod floors;
+mod full;
 mod garbage;
 mod image;
 mod lists;
