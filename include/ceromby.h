@@ -1,4 +1,8 @@
-/* The canister floor. Every struct goes by value; nothing is kept between calls. */
+/* The canister floor. Every struct goes by value; nothing is kept between calls, so calls may run side by side.
+   Any bytes may stand in a struct: a floor that isn't well formed is refused by 30.
+   What the caller owes: a pointer to `length` bytes that stay valid during the call (any pointer but NULL where length
+   is 0), and for ceromby_write no other access to them meanwhile. A floor takes 8,552 bytes, and a call up to 120 KB of
+   stack. */
 
 #ifndef CEROMBY_H
 #define CEROMBY_H
@@ -82,7 +86,7 @@ typedef struct ceromby_counters {
     uint32_t delivered;
 } ceromby_counters;
 
-/* Canisters of tile t are at places 16 t up to 16 t + count, by rising number.
+/* Canisters of tile t are at places 16 t to 16 t + count - 1, by rising number.
    Unused places and tiles are zero. */
 typedef struct ceromby_floor {
     ceromby_settings settings;

@@ -1,11 +1,11 @@
 // The console: reads calls line by line from standard input and answers each on standard output.
-mod parse;
-mod say;
 mod typed;
 
 ghost use Prim.Native.Nat.{_≤_};
 ghost use lib.ListN.{length};
 use libc::STDIN_FILENO;
+use prompt::parse;
+use prompt::say;
 use typed::Session;
 
 // A session, and the place of the first byte not yet obeyed.

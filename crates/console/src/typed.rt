@@ -1,11 +1,10 @@
 // The calls as they are typed: each takes the session and the line, writes its answer and gives the session on.
-ghost use mathlib.Core.Path.{_≡_};
-use crate::parse;
-use crate::parse::Sources;
-use crate::say;
 use floor::Canister;
 use floor::Floor;
 use floor::Settings;
+use prompt::parse;
+use prompt::parse::Sources;
+use prompt::say;
 
 // The floor, how many lines were read, how many rounds it went, whether to go on.
 pub struct Session {

@@ -100,9 +100,6 @@ module _ (s : Settings) (M : Measured s) where
       few-cells (λ c. p c ≤ span s) (λ c e. Differ (spacing s) (p c) (p e)) (λ c. p c / spacing s) (span s / spacing s + 1) l
       (λ c k. within-along (p c) k) (λ c e j k h. differ-div (p c) (p e) h) i r
 
-  pub few-crossing : (p : Canister → ℕ) (l : List Canister) → All (λ c. p c ≤ span s) l → Pairs (λ c e. Differ (spacing s) (p c) (p e)) l → length l ≤ 4
-  few-crossing p l i r = omega (arith, M .dense, few-along p l i r)
-
   cell : Canister → ℕ
   cell c = c .a / spacing s * (span s / spacing s + 1) + c .b / spacing s
 

@@ -2,7 +2,7 @@
 use mathlib.Core.Path.{_≡_, refl, sym, ap, _∙_, subst}
 use mathlib.Core.Logic.{_≢_}
 use mathlib.Core.Bool.{Bool, true, false, cond, not, _&&_, true≢false, false≢true}
-use mathlib.Core.List.{List, [], _∷_, _++_}
+use mathlib.Core.List.{List, [], _∷_}
 use Prim.Native.Nat.{ℕ, suc, _+_, _≤_, _<_}
 use native.Mathlib.Omega.{arith}
 use lib.Dec.{eqb}
@@ -11,13 +11,12 @@ use borrow.Author.Tests.{eqb-true, ne-eqb}
 use Rattle.laws.specs.Define.{tab, refusal}
 use Rattle.laws.specs.Every.{All}
 use Rattle.laws.specs.Tests.{refusal-none, test-none}
-use Rattle.floor.specs.declared.Canister.{Canister}
 use Rattle.floor.specs.declared.Floor.{Floor}
 use Rattle.floor.specs.Model.{Model, tileOf, runsOf, withTile}
 use Rattle.floor.specs.Memory.{view, pack}
 use Rattle.floor.specs.Well.{wellFormed}
 use Rattle.floor.specs.Calls.{refusalOf, answer, bookTests, booked, bookAnswer, stopTests, stopped, stopAnswer, repairTests, repaired, repairAnswer, afterRound, delivered, reportOf, roundAnswer}
-use Rattle.floor.specs.Demand3.{Call, book, stop, repair, round, Typed, Outcome, outcome, floorAfter, bookedIn, reportedIn, runsBy, latest, isRound, Quiet, roundsIn}
+use Rattle.floor.specs.Demand3.{Call, book, stop, repair, round, Typed, outcome, floorAfter, bookedIn, reportedIn, runsBy, latest, isRound, Quiet, roundsIn}
 use Rattle.floor.proofs.Sound.{Sound}
 use Rattle.floor.proofs.Pack.{well-sound}
 use Rattle.floor.proofs.Capacity.{sound-well, view-packed}

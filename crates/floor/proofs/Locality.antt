@@ -1,19 +1,17 @@
 -- Each tile decides from its four neighbours: two floors with equal settings that agree on a tile and on its neighbours give that tile the same outcome of each step.
-use mathlib.Core.Path.{_≡_, refl, sym, ap, _∙_}
+use mathlib.Core.Path.{_≡_, sym, ap, _∙_}
 use mathlib.Core.List.{List}
 use Prim.Native.Nat.{ℕ, _<_}
-use lib.ListN.{getD, length}
-use Rattle.laws.specs.Define.{tab}
+use lib.ListN.{length}
 use Rattle.laws.specs.Tables.{tab-at}
 use Rattle.floor.specs.declared.Canister.{Canister}
 use Rattle.floor.specs.declared.Settings.{Settings}
-use Rattle.floor.specs.declared.Signal.{Signal}
 use Rattle.floor.specs.Settings.{total}
 use Rattle.floor.specs.Grid.{neighbour, around}
 use Rattle.floor.specs.Model.{TileState, Model, noTile, tileOf, distanceOf, withMembers}
 use Rattle.floor.specs.Route.{routeTile, route}
-use Rattle.floor.specs.Signal.{signalTile, shownNext, shownOf, signalOf, signal, withToken}
-use Rattle.floor.specs.Move.{wayOf, staying, membersNext, arriving, arrivals, moveTile, move}
+use Rattle.floor.specs.Signal.{signalTile, shownNext, shownOf, signalOf}
+use Rattle.floor.specs.Move.{wayOf, staying, membersNext, arriving, arrivals, moveTile}
 
 -- a and b agree on t and on what lies beside it; where there is no neighbour, both read no tile
 pub record Agree (s : Settings) {A : Type 0} (a b : ℕ → A) (t : ℕ) : Type 0 where

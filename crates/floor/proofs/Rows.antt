@@ -168,10 +168,6 @@ pub view-settings : (f : Floor) → view f .settings ≡ f .settings
 unfolding view
 view-settings f = refl
 
-pub view-counters : (f : Floor) → view f .counters ≡ f .counters
-unfolding view
-view-counters f = refl
-
 pub view-length : (f : Floor) → length (view f .tiles) ≡ total (f .settings)
 unfolding view
 view-length f = tab-length _ (stateOf f)

@@ -2,7 +2,7 @@
 use mathlib.Core.Path.{_≡_, refl, sym, ap, _∙_, subst, fun-ext}
 use mathlib.Core.Logic.{_↔_, _≢_}
 use mathlib.Core.Bool.{Bool, true, not}
-use mathlib.Core.List.{List, [], _++_, List·Permᴰ, Permᴰ·symm}
+use mathlib.Core.List.{List, [], _++_, Permᴰ·symm}
 use Prim.Native.Nat.{ℕ, _≤_, _<_}
 use native.Mathlib.Omega.{arith}
 use lib.Dec.{eqb}
@@ -18,14 +18,14 @@ use Rattle.floor.specs.Memory.{view}
 use Rattle.floor.specs.Well.{inside, apart, wellFormed}
 use Rattle.floor.specs.Bound.{bound}
 use Rattle.floor.specs.Live.{LivePath, connected, connectedCount}
-use Rattle.floor.specs.Demand3.{Call, Typed, floorAfter, bookedIn, reportedIn, runsAfter, Quiet, roundsIn, Promises}
+use Rattle.floor.specs.Demand3.{Call, Typed, floorAfter, bookedIn, reportedIn, runsAfter, roundsIn, Promises}
 use Rattle.floor.proofs.Sound.{Sound, Inside, Apart}
 use Rattle.floor.proofs.Well.{inside-fact, apart-fact}
 use Rattle.floor.proofs.Pack.{well-sound}
-use Rattle.floor.proofs.Rows.{view-settings, view-counters}
+use Rattle.floor.proofs.Rows.{view-settings}
 use Rattle.floor.proofs.Nearest.{laid}
 use Rattle.floor.proofs.Paths.{live-iff}
-use Rattle.floor.proofs.Clearing.{rounds, cleared}
+use Rattle.floor.proofs.Clearing.{cleared}
 use Rattle.floor.proofs.Calls.{Keeps}
 use Rattle.floor.proofs.Lists.{list-keeps, list-runs, quiet-rounds}
 

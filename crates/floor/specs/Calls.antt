@@ -1,8 +1,8 @@
 -- The calls: the refusals of each, in its order, and its answer on all inputs.
-use mathlib.Core.Bool.{Bool, cond, not, _||_}
+use mathlib.Core.Bool.{Bool, cond, not}
 use mathlib.Core.List.{List, [], _∷_}
 use Prim.Native.Nat.{ℕ, _+_}
-use lib.Dec.{leb, ltb, eqb}
+use lib.Dec.{leb, eqb}
 use lib.ListN.{length, getD, replicate}
 use Rattle.laws.specs.Define.{tab, allOf, bit, refusal}
 use Rattle.floor.specs.declared.Canister.{Canister}
@@ -12,7 +12,7 @@ use Rattle.floor.specs.declared.Report.{Report}
 use Rattle.floor.specs.declared.Answer.{Answer}
 use Rattle.floor.specs.declared.Rounded.{Rounded}
 use Rattle.floor.specs.declared.Reading.{Reading}
-use Rattle.floor.specs.Settings.{total, spacing, span, isHopper, settingsRefusal}
+use Rattle.floor.specs.Settings.{total, spacing, isHopper, settingsRefusal}
 use Rattle.floor.specs.Model.{TileState, Model, tileOf, runsOf, membersOf, withTile, withCounters, withMembers}
 use Rattle.floor.specs.Memory.{zeroTile, zeroCanister, zeroFloor, view, head, pack}
 use Rattle.floor.specs.Well.{inside, apart, wellFormed}

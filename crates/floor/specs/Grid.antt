@@ -1,6 +1,6 @@
 -- The grid: "Column 0 is west, row 0 is south. Tile number = column × H + row."
 use mathlib.Core.Bool.{cond}
-use Prim.Native.Nat.{ℕ, _+_, _-_, _*_, _%_}
+use Prim.Native.Nat.{ℕ, _+_, _-_, _%_}
 use lib.Dec.{leb, ltb}
 use Rattle.floor.specs.declared.Settings.{Settings}
 use Rattle.floor.specs.Sides.{bySide}

@@ -2,13 +2,13 @@
 use mathlib.Core.Path.{_≡_, refl, ap, _∙_}
 use mathlib.Core.Logic.{_≢_}
 use mathlib.Core.Bool.{true, false, not}
-use mathlib.Core.List.{List, [], _∷_, _++_, map}
+use mathlib.Core.List.{List, [], _∷_, _++_}
 use Prim.Native.Nat.{ℕ, _+_, _≤_, _<_}
 use native.Mathlib.Omega.{arith}
 use borrow.Author.Tests.{ne-eqb, le-ltb, lt-ltb}
 use lib.ListN.{length, take, drop}
 use lib.Seq.{take-append-seam}
-use Rattle.laws.specs.Define.{sum, refusal}
+use Rattle.laws.specs.Define.{refusal}
 use Rattle.laws.specs.Tests.{test-none}
 use Rattle.wire.specs.Bytes.{Bytes}
 use Rattle.wire.specs.Put.{put}
@@ -23,7 +23,6 @@ use Rattle.floor.proofs.Capacity.{well-pack}
 use Rattle.floor.proofs.First.{pack-view-well}
 use Rattle.image.specs.Image.{encode, modelIn, fault, answerBy, recordsAnswer, loadRefusal, loadAnswer, writeRefusal, writeAnswer, written}
 use Rattle.image.proofs.Records.{orElse-none, not-off}
-use Rattle.image.proofs.Sizes.{tileSize, encode-size}
 use Rattle.image.proofs.Again.{written-again}
 use Rattle.image.proofs.Back.{Fits, leftover, fault-append, no-fault, read-back, fault-cut}
 use Rattle.image.proofs.Fitting.{sound-fits, sound-most}
@@ -73,9 +72,6 @@ module _ (f : Floor) (w : wellFormed f ≡ true) where
   -- "The longest image is 8,748 bytes."
   pub image-most : length (encode (view f)) ≤ 8748
   image-most = sound-most (view f) (well-sound f w)
-
-  pub image-size : length (encode (view f)) ≡ 44 + sum (map tileSize (view f .tiles))
-  image-size = encode-size (view f)
 
   -- every proper prefix of its image is refused by 9
   pub prefix-refused : (n : ℕ) → n < length (encode (view f)) → loadAnswer (take n (encode (view f))) ≡ record { refusal = 9; floor = zeroFloor }

@@ -2,12 +2,12 @@
 use Prim.Native.Nat.{ℕ, zero, suc, _+_, _-_, _*_, _/_, _%_, _^_, _≤_, _<_}
 use mathlib.Core.Path.{_≡_, refl, ap, sym, _∙_}
 use mathlib.Core.Bool.{Bool, true, false, cond, _||_, _&&_, not}
-use mathlib.Core.Logic.{_⊎_, inl, inr, _≢_}
-use native.Mathlib.Nat.{one-mul, div-eq-of-lt, zero-mod, mod-lt, lt-of-lt-of-le}
+use mathlib.Core.Logic.{_⊎_, inl, inr}
+use native.Mathlib.Nat.{one-mul, div-eq-of-lt, zero-mod, mod-lt}
 use native.Mathlib.Numerals.{add-one}
 use native.Mathlib.Omega.{arith}
 use lib.Dec.{eqb, ltb, lit<}
-use lib.Pow.{pow-lt, pow-mono, pow-add, pow-pos, shl-shr, shl-exact, shr-shr, ones-lt, ones-split, high, low, split}
+use lib.Pow.{pow-lt, pow-add, pow-pos, shl-shr, shl-exact, split}
 use lib.Bits.{bitAnd, bitOr, bitXor, or-shr, or-mod, xor-shr, xor-mod, shifted-even, and-mask}
 use borrow.Author.Tests.{eqb-true, eqb-false, ltb-true, ltb-false, eq-eqb, lt-ltb}
 use Rattle.laws.specs.Define.{bit}
@@ -76,50 +76,9 @@ pub test-bit : (s t : ℕ) → eqb (bitAnd (s / 2 ^ t) 1) 1 ≡ bit s t
 unfolding bit
 test-bit s t = ap (λ (x : ℕ). eqb x 1) (and-mask (s / 2 ^ t) 1)
 
--- ---- a number below 2 ^ n has no bit from n on
-pub bit-above : (x n k : ℕ) → x < 2 ^ n → n ≤ k → bit x k ≡ false
-unfolding bit
-bit-above x n k h l =
-    let s : x < 2 ^ k = lt-of-lt-of-le h (pow-mono l) in
-    rw (div-eq-of-lt s)
-
-pub bit-zero : (k : ℕ) → bit 0 k ≡ false
-bit-zero k = bit-above 0 0 k (lit< tt) (omega arith)
-
 -- the code's test that no bit stands from n on
 pub shr-none : (x n : ℕ) → eqb (x / 2 ^ n) 0 ≡ ltb x (2 ^ n)
 shr-none x n = same-test (eqb (x / 2 ^ n) 0) (ltb x (2 ^ n)) (λ h. lt-ltb x (2 ^ n) (into (eqb-true (x / 2 ^ n) 0 h))) (λ h. eq-eqb (x / 2 ^ n) 0 (div-eq-of-lt (ltb-true x (2 ^ n) h)))
   where
     into : x / 2 ^ n ≡ 0 → x < 2 ^ n
     into e = omega (arith, rw e at (split x n), mod-lt x (pow-pos n))
-
--- ---- the set of the numbers below n
-pub full-bit : (n k : ℕ) → bit (2 ^ n - 1) k ≡ ltb k n
-unfolding bit
-full-bit n k = go (ltb k n) refl
-  where
-    ones : (j : ℕ) → (2 ^ (j + 1) - 1) % 2 ≡ 1
-    ones j = rw (ones-split j 1) (low (2 ^ j - 1) 1 (lit< tt))
-
-    go : (b : Bool) → ltb k n ≡ b → eqb ((2 ^ n - 1) / 2 ^ k % 2) 1 ≡ b
-    go true h =
-        let l : k < n = ltb-true k n h in
-        let j = n - k - 1 in
-        let e : n ≡ (j + 1) + k = omega arith in
-        rw (e, ones-split (j + 1) k, high (2 ^ (j + 1) - 1) k (ones-lt k), ones j)
-    go false h = bit-above (2 ^ n - 1) n k (ones-lt n) (ltb-false k n h)
-
--- ---- a number without bits from n on is below 2 ^ n
-no-bits : (m y : ℕ) → y ≤ m → ((j : ℕ) → bit y j ≡ false) → y ≡ 0
-unfolding bit
-no-bits zero y h f = omega arith
-no-bits (suc m) y h f =
-    let low-off : y / 2 ^ 0 % 2 ≢ 1 = eqb-false (y / 2 ^ 0 % 2) 1 (f 0) in
-    let half : y / 2 ≡ 0 = no-bits m (y / 2) (omega arith) (λ j. rw (shr-shr y 1 j) (f (1 + j))) in
-    omega arith
-
-pub bits-below : (x n : ℕ) → ((k : ℕ) → n ≤ k → bit x k ≡ false) → x < 2 ^ n
-unfolding bit
-bits-below x n f =
-    let e : x / 2 ^ n ≡ 0 = no-bits (x / 2 ^ n) (x / 2 ^ n) (omega arith) (λ j. rw (shr-shr x n j) (f (n + j) (omega arith))) in
-    omega (arith, rw e at (split x n), mod-lt x (pow-pos n))

@@ -10,15 +10,6 @@ unfoldable pub count : (ℕ → Bool) → ℕ → ℕ
 count p zero = 0
 count p (suc n) = cond (p n) 1 0 + count p n
 
-pub count-le : (p : ℕ → Bool) (n : ℕ) → count p n ≤ n
-unfolding count
-count-le p zero = omega arith
-count-le p (suc n) = go (p n) (count-le p n)
-  where
-    go : (b : Bool) → count p n ≤ n → cond b 1 0 + count p n ≤ suc n
-    go true h = omega arith
-    go false h = omega arith
-
 -- ---- a test that implies another passes no more often
 bit-le : (a b : Bool) → (a ≡ true → b ≡ true) → cond {A = ℕ} a 1 0 ≤ cond b 1 0
 bit-le true true f = omega arith

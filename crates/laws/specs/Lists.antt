@@ -230,11 +230,6 @@ unfolding sum
 sum-map-lt f g [] h = omega arith
 sum-map-lt f g (x ∷ l) h = omega (arith, h .0, sum-map-lt f g l (h .1))
 
-pub sum-map-le : {A : Type 0} (f : A → ℕ) (b : ℕ) (l : List A) → All (λ x. f x ≤ b) l → sum (map f l) ≤ length l * b
-unfolding sum
-sum-map-le f b [] h = omega arith
-sum-map-le f b (x ∷ l) h = omega (arith, h .0, sum-map-le f b l (h .1))
-
 -- a permutation keeps the length
 pub length-perm : {A : Type 0} {l k : List A} → List·Permᴰ l k → length l ≡ length k
 length-perm List·Permᴰ·nil = refl

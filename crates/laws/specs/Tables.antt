@@ -1,6 +1,6 @@
 -- Tables, and the loops that fill a list, test one element after another, or compact a list.
 use mathlib.Core.Path.{_≡_, refl, sym, ap, _∙_}
-use mathlib.Core.Bool.{Bool, true, false, _&&_, true≢false}
+use mathlib.Core.Bool.{Bool, true, false, _&&_}
 use mathlib.Core.List.{List, [], _∷_, _++_, map, append-nil}
 use Prim.Native.Nat.{ℕ, zero, suc, _+_, _≤_, _<_}
 use native.Mathlib.Omega.{arith}
@@ -74,10 +74,6 @@ pub below-more : (p : ℕ → Bool) (n : ℕ) → allBelow p (n + 1) ≡ (allBel
 unfolding allBelow
 below-more p n = rw add-one
 
-pub below-turn : (p : ℕ → Bool) (n : ℕ) → allBelow p n ≡ true → p n ≡ true → allBelow p (n + 1) ≡ true
-unfolding allBelow
-below-turn p n h q = rw add-one (and-true h q)
-
 pub below-at : (p : ℕ → Bool) (n : ℕ) → allBelow p n ≡ true → (t : ℕ) → t < n → p t ≡ true
 unfolding allBelow
 below-at p zero h t l = absurd (omega arith)
@@ -91,13 +87,6 @@ pub below-of : (p : ℕ → Bool) (n : ℕ) → ((t : ℕ) → t < n → p t ≡
 unfolding allBelow
 below-of p zero f = refl
 below-of p (suc n) f = and-true (below-of p n (λ t l. f t (omega arith))) (f n (omega arith))
-
-pub below-fails : (p : ℕ → Bool) (n t : ℕ) → t < n → p t ≡ false → allBelow p n ≡ false
-below-fails p n t l q = go (allBelow p n) refl
-  where
-    go : (b : Bool) → allBelow p n ≡ b → allBelow p n ≡ false
-    go true e = absurd (true≢false (sym (below-at p n e t l) ∙ q))
-    go false e = e
 
 pub below-step : (p : ℕ → Bool) (k : ℕ) {ok r : Bool} → ok ≡ allBelow p k → r ≡ p k → (ok && r) ≡ allBelow p (k + 1)
 below-step p k e q = rw (e, q) (sym (below-more p k))
@@ -117,13 +106,6 @@ pub all-from-each : {A : Type 0} (p : A → Bool) (l : List A) (z : A) → ((k :
 unfolding allOf
 all-from-each p [] z h = refl
 all-from-each p (x ∷ l) z h = and-true (h 0 (omega arith)) (all-from-each p l z (λ k q. h (suc k) (omega arith)))
-
-pub all-fails : {A : Type 0} (p : A → Bool) (l : List A) (z : A) (k : ℕ) → k < length l → p (getD l k z) ≡ false → allOf p l ≡ false
-all-fails p l z k q e = go (allOf p l) refl
-  where
-    go : (b : Bool) → allOf p l ≡ b → allOf p l ≡ false
-    go true h = absurd (true≢false (sym (all-at p l z h k q) ∙ e))
-    go false h = h
 
 pub all-append-test : {A : Type 0} (p : A → Bool) (l k : List A) → allOf p (l ++ k) ≡ (allOf p l && allOf p k)
 unfolding allOf

@@ -37,10 +37,6 @@ and-right false b h = absurd (false≢true h)
 pub and-true : {a b : Bool} → a ≡ true → b ≡ true → (a && b) ≡ true
 and-true {a} {b} p q = rw p q
 
-pub and-off : (a b : Bool) → b ≡ false → (a && b) ≡ false
-and-off true b h = h
-and-off false b h = refl
-
 pub and-assoc : (a b c : Bool) → ((a && b) && c) ≡ (a && (b && c))
 and-assoc true b c = refl
 and-assoc false b c = refl
@@ -84,9 +80,6 @@ r-ne m n = (λ h. eqb-false m n (not-true (eqb m n) h), λ h. ap not (ne-eqb m n
 pub r-id : (b : Bool) → b ≡ true ↔ b ≡ true
 r-id b = (λ h. h, λ h. h)
 
-pub r-off : (b : Bool) → not b ≡ true ↔ b ≡ false
-r-off b = (not-true b, λ h. ap not h)
-
 pub r-and : {a b : Bool} {P Q : Type 0} → a ≡ true ↔ P → b ≡ true ↔ Q → (a && b) ≡ true ↔ (P × Q)
 r-and {a} {b} p q = (λ h. (p .0 (and-left a b h), q .0 (and-right a b h)), λ k. and-true (p .1 (k .0)) (q .1 (k .1)))
 
@@ -100,22 +93,6 @@ r-or {a} {b} {P} {Q} p q = (λ h. into (or-case a b h), out)
     out : P ⊎ Q → (a || b) ≡ true
     out (inl h) = or-left a b (p .1 h)
     out (inr h) = or-right a b (q .1 h)
-
--- a test on a condition: it counts only where the condition holds
-pub r-if : {a b : Bool} {P Q : Type 0} → a ≡ true ↔ P → b ≡ true ↔ Q → (not a || b) ≡ true ↔ (P → Q)
-r-if {a} {b} {P} {Q} p q = (λ h k. q .0 (rw (p .1 k) at h), λ f. out a refl f)
-  where
-    out : (c : Bool) → a ≡ c → (P → Q) → (not c || b) ≡ true
-    out true e f = q .1 (f (p .0 e))
-    out false e f = refl
-
-abbrev pub isNil : {A : Type 0} → List A → Bool
-isNil [] = true
-isNil (x ∷ l) = false
-
-pub r-nil : {A : Type 0} (l : List A) → isNil l ≡ true ↔ l ≡ []
-r-nil [] = (λ h. refl, λ h. refl)
-r-nil (x ∷ l) = (λ h. absurd (false≢true h), λ h. ap isNil h)
 
 pub r-all : {A : Type 0} (p : A → Bool) (P : A → Type 0) → ((x : A) → p x ≡ true ↔ P x) → (l : List A) → allOf p l ≡ true ↔ All P l
 unfolding allOf
@@ -159,11 +136,3 @@ pub test-none : (b : Bool) (k : ℕ) (l : List (Bool × ℕ)) → 0 < k → refu
 unfolding refusal
 test-none true k l p h = absurd (omega arith)
 test-none false k l p h = (refl, h)
-
-pub refusal-take : (x : Bool) (k : ℕ) (l : List (Bool × ℕ)) → x ≡ true → refusal ((x, k) ∷ l) ≡ k
-unfolding refusal
-refusal-take x k l e = rw e
-
-pub refusal-skip : (x : Bool) (k : ℕ) (l : List (Bool × ℕ)) → x ≡ false → refusal ((x, k) ∷ l) ≡ refusal l
-unfolding refusal
-refusal-skip x k l e = rw e

@@ -194,9 +194,6 @@ module _ (x : List ℕ) (z1 : recordFault 1 0 x ≡ 0) (u : ℕ) (n1 : u ≡ le 
     pub few-code : st .columns * st .rows ≤ 64
     few-code = rw count-is (first-measured x z1 .few)
 
-    pub sides-code : (st .columns ≤ 8) × (st .rows ≤ 8)
-    sides-code = rw se (first-measured x z1 .columns-few, first-measured x z1 .rows-few)
-
     pub answer-3 : (k : ℕ) → k ≡ tilesFault (st .columns * st .rows) 0 (drop (4 + u + 4 + w) x) → k ≢ 0 → record { refusal = k; floor = zeroFloor } ≡ recordsAnswer x
     answer-3 k e h = answer-refused x k (fault-is ∙ sym e) h
 

@@ -1,11 +1,11 @@
 // A full floor: 8 x 8 tiles, sixteen canisters on each but the hopper.
 ghost use Prim.Native.Nat.{_<_};
-use crate::floors;
-use crate::floors::wide;
-use crate::tally::Tally;
-use crate::tally::trial;
 use floor::Floor;
 use floor::Settings;
+use tally::Tally;
+use tally::floors;
+use tally::floors::wide;
+use tally::trial;
 
 // d = 30 and (100 - 10) div 30 = 3: four places along each axis. The hopper is tile 27.
 fn wide_floor() -> Floor {

@@ -1,9 +1,9 @@
 // Document 01's trials on small floors, through the compiled calls.
-use crate::floors;
-use crate::floors::place;
-use crate::tally::Tally;
-use crate::tally::trial;
 use floor::Settings;
+use tally::Tally;
+use tally::floors;
+use tally::floors::place;
+use tally::trial;
 
 // W 2, hopper 1: canister 5 at (a, 0) on tile 0, and the rounds up to its delivery.
 fn one_canister(t: Tally, name: &[u8], a: u16, due: [u64; 6]) -> Tally {

@@ -1,16 +1,12 @@
 -- Numbers as little-endian bytes, and rows of fields of given widths: one codec, and its two laws for every row of widths.
 use mathlib.Core.Path.{_≡_, refl, sym, ap}
-use mathlib.Core.Bool.{Bool, true, false, _&&_, false≢true}
 use mathlib.Core.List.{List, [], _∷_, _++_, append-assoc}
 use Prim.Native.Nat.{ℕ, zero, suc, _+_, _*_, _/_, _%_, _^_, _≤_, _<_}
 use native.Mathlib.Omega.{arith}
-use native.Mathlib.Nat.{mod-lt, div-add-mod', div-lt-iff-lt-mul}
+use native.Mathlib.Nat.{div-add-mod', div-lt-iff-lt-mul}
 use lib.ListN.{length, take, drop, getD, length-append, length-drop}
 use lib.Seq.{drop-at, take-add}
-use lib.Dec.{ltb}
 use lib.Arith.{digits-div, digits-mod}
-use borrow.Author.Tests.{ltb-true}
-use Rattle.laws.specs.Tests.{and-left, and-right}
 
 -- ---- definitions
 -- the number that the first n bytes hold, the low byte first; a byte that isn't there counts as 0
@@ -43,18 +39,12 @@ abbrev pub width : List ℕ → ℕ
 width [] = 0
 width (w ∷ ws) = w + width ws
 
--- each value fits its width: as a fact, and as a test
+-- each value fits its width
 abbrev pub Fit : List ℕ → List ℕ → Type 0
 Fit [] [] = Unit {0}
 Fit [] (v ∷ vs) = ⊥
 Fit (w ∷ ws) [] = ⊥
 Fit (w ∷ ws) (v ∷ vs) = (v < 256 ^ w) × Fit ws vs
-
-unfoldable pub fitTest : List ℕ → List ℕ → Bool
-fitTest [] [] = true
-fitTest [] (v ∷ vs) = false
-fitTest (w ∷ ws) [] = false
-fitTest (w ∷ ws) (v ∷ vs) = ltb v (256 ^ w) && fitTest ws vs
 
 -- every number of the list is a byte
 abbrev pub Bytes : List ℕ → Type 0
@@ -66,11 +56,6 @@ pub bytes-length : (n x : ℕ) → length (bytes n x) ≡ n
 unfolding bytes
 bytes-length zero x = refl
 bytes-length (suc n) x = ap suc (bytes-length n (x / 256))
-
-pub bytes-fit : (n x : ℕ) → Bytes (bytes n x)
-unfolding bytes
-bytes-fit zero x = tt
-bytes-fit (suc n) x = (mod-lt x (omega arith), bytes-fit n (x / 256))
 
 -- read after written
 pub le-bytes : (n x : ℕ) (ys : List ℕ) → x < 256 ^ n → le n (bytes n x ++ ys) ≡ x
@@ -93,29 +78,12 @@ bytes-drop zero xs b = b
 bytes-drop (suc n) [] b = tt
 bytes-drop (suc n) (x ∷ xs) b = bytes-drop n xs (b .1)
 
-pub bytes-append : (xs ys : List ℕ) → Bytes xs → Bytes ys → Bytes (xs ++ ys)
-bytes-append [] ys a b = b
-bytes-append (x ∷ xs) ys a b = (a .0, bytes-append xs ys (a .1) b)
-
 -- ---- a row of fields
-pub fit-fact : (ws vs : List ℕ) → fitTest ws vs ≡ true → Fit ws vs
-unfolding fitTest
-fit-fact [] [] h = tt
-fit-fact [] (v ∷ vs) h = absurd (false≢true h)
-fit-fact (w ∷ ws) [] h = absurd (false≢true h)
-fit-fact (w ∷ ws) (v ∷ vs) h = (ltb-true v (256 ^ w) (and-left (ltb v (256 ^ w)) (fitTest ws vs) h), fit-fact ws vs (and-right (ltb v (256 ^ w)) (fitTest ws vs) h))
-
 pub row-length : (ws vs : List ℕ) → length vs ≡ length ws → length (bytesOf ws vs) ≡ width ws
 unfolding bytesOf
 row-length [] vs h = refl
 row-length (w ∷ ws) [] h = absurd (omega arith)
 row-length (w ∷ ws) (v ∷ vs) h = rw (length-append, bytes-length w v, row-length ws vs (omega arith))
-
-pub row-bytes : (ws vs : List ℕ) → Bytes (bytesOf ws vs)
-unfolding bytesOf
-row-bytes [] vs = tt
-row-bytes (w ∷ ws) [] = tt
-row-bytes (w ∷ ws) (v ∷ vs) = bytes-append (bytes w v) (bytesOf ws vs) (bytes-fit w v) (row-bytes ws vs)
 
 -- the fields of what was written are the values
 pub fields-bytes : (ws vs ys : List ℕ) → Fit ws vs → fieldsOf ws (bytesOf ws vs ++ ys) ≡ vs

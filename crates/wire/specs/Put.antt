@@ -5,17 +5,13 @@ use Prim.Native.Nat.{ℕ, zero, suc, _+_, _*_, _/_, _%_, _^_, _≤_, _<_}
 use native.Mathlib.Omega.{arith}
 use native.Mathlib.Numerals.{add-one}
 use native.Mathlib.Nat.{mod-eq-of-lt, mod-lt, suc-add, zero-add, pow-suc, mul-assoc, div-add-mod', div-lt-iff-lt-mul, one-le-pow, zero-lt-suc}
-use lib.ListN.{length, take, drop, set, length-append, length-drop, take-append-drop}
+use lib.ListN.{length, take, drop, set, length-append, take-append-drop}
 use lib.Seq.{set-split, drop-drop, take-at, length-take-le, drop-append-add}
 use Rattle.wire.specs.Bytes.{bytes}
 
 -- the buffer l with bs from place `at` on
 unfoldable pub put : List ℕ → ℕ → List ℕ → List ℕ
 put l at bs = take at l ++ (bs ++ drop (at + length bs) l)
-
-pub put-length : (l : List ℕ) (at : ℕ) (bs : List ℕ) → at + length bs ≤ length l → length (put l at bs) ≡ length l
-unfolding put
-put-length l at bs h = rw (length-append, length-take-le at l (omega arith), length-append, length-drop) (omega arith)
 
 pub put-none : (l : List ℕ) (at : ℕ) → put l at [] ≡ l
 unfolding put

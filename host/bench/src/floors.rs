@@ -4,7 +4,7 @@ use oracle::random::Rng;
 use oracle::{Canister, Counters, Floor, Settings, PLACES};
 
 pub struct Pair {
-    pub name: &'static str,
+    pub name: String,
     pub theirs: Floor,
     pub ours: ceromby::Floor,
     /// A running fill tile, and the place to book there.
@@ -122,12 +122,40 @@ pub fn both_shapes() -> Vec<Pair> {
     ];
     floors
         .into_iter()
-        .map(|(name, theirs)| Pair {
-            name,
-            ours: ours(&theirs),
-            theirs,
-            tile: 4,
-            place: (770, 770),
-        })
+        .map(|(name, theirs)| pair(name.to_string(), theirs))
         .collect()
+}
+
+fn pair(name: String, theirs: Floor) -> Pair {
+    Pair {
+        name,
+        ours: ours(&theirs),
+        theirs,
+        tile: 4,
+        place: (770, 770),
+    }
+}
+
+/// Settled floors without canisters, tile by tile more; then 8 x 8 with more
+/// and more canisters on each tile but the hopper.
+pub fn growing() -> Vec<Pair> {
+    let sides = [
+        (2, 1),
+        (2, 2),
+        (3, 3),
+        (4, 4),
+        (6, 4),
+        (6, 6),
+        (8, 6),
+        (8, 8),
+    ];
+    let bare = sides.into_iter().map(|(columns, rows)| {
+        let floor = filled(settings(columns, rows, columns * rows / 2), 0, true);
+        pair(format!("{columns} x {rows}, 0"), floor)
+    });
+    let held = [1, 2, 4, 8, 12, 16].into_iter().map(|count| {
+        let floor = filled(settings(8, 8, 27), count, true);
+        pair(format!("8 x 8, {}", 63 * count), floor)
+    });
+    bare.chain(held).collect()
 }

@@ -1,12 +1,13 @@
 //! Time of the library through its binding against the second
-//! implementation, on the same floors in one run.
+//! implementation, on the same floors in one run. With --growth: how a
+//! round's cost grows with tiles and canisters.
 
 mod floors;
 
 use std::hint::black_box;
 use std::time::Instant;
 
-use floors::{both_shapes, Pair};
+use floors::{both_shapes, growing, Pair};
 
 /// Repetitions of each measure; the median counts. They are many and short,
 /// so that other work on the machine spoils few of them.
@@ -81,7 +82,7 @@ macro_rules! row {
 /// The calls that are timed: all but fresh and repair.
 fn timed_calls(pair: &Pair) {
     let (ours, theirs) = (&pair.ours, &pair.theirs);
-    let (name, tile) = (pair.name, pair.tile);
+    let (name, tile) = (pair.name.as_str(), pair.tile);
     assert_eq!(theirs.tiles[tile as usize].running, 1);
     let number = theirs.counters.last + 1;
     let (a, b) = pair.place;
@@ -120,12 +121,28 @@ fn timed_calls(pair: &Pair) {
     row!(name, "load", ceromby::load(image), oracle::load(image));
 }
 
+/// How a round's cost grows: floor and canisters by row.
+fn growth() {
+    for pair in growing() {
+        let (ours, theirs) = (black_box(&pair.ours), black_box(&pair.theirs));
+        row!(
+            &pair.name,
+            "round",
+            ceromby::round(ours),
+            oracle::round(theirs)
+        );
+    }
+}
+
 fn main() {
     println!("medians of {REPETITIONS}, the two by turns; 34: a full tile refuses");
     println!(
         "{:22} {:6} {:>3} {:>12} {:>12} {:>8}",
         "floor", "call", "", "library ns", "oracle ns", "ratio"
     );
+    if std::env::args().any(|word| word == "--growth") {
+        return growth();
+    }
     for pair in both_shapes() {
         timed_calls(&pair);
     }

@@ -65,7 +65,7 @@ pub struct Counters {
     pub delivered: u32,
 }
 
-/// Canisters of tile t are at places 16 t up to 16 t + count.
+/// Canisters of tile t are at places 16 t to 16 t + count - 1.
 #[repr(C)]
 #[derive(Clone, Copy, PartialEq, Eq, Debug)]
 pub struct Floor {

@@ -1,5 +1,6 @@
 //! The calls, made by both implementations and compared.
 
+use std::hint::black_box;
 use std::panic::{self, catch_unwind, AssertUnwindSafe};
 use std::sync::atomic::{AtomicBool, Ordering};
 
@@ -94,6 +95,14 @@ fn blank(size: usize) -> Vec<u8> {
     (0..size).map(|at| (at * 7 + 90) as u8).collect()
 }
 
+/// A load of bytes that must be the same afterwards.
+fn loaded(bytes: &[u8]) -> ceromby::Answer {
+    let handed = black_box(bytes.to_vec());
+    let answer = ceromby::load(&handed);
+    assert!(black_box(&handed) == bytes, "load changed its bytes");
+    answer
+}
+
 fn by_library(floor: &Floor, call: &Call) -> Outcome {
     let theirs = || convert::to_floor(floor);
     let answer = match call {
@@ -114,7 +123,7 @@ fn by_library(floor: &Floor, call: &Call) -> Outcome {
             let answer = ceromby::write(&theirs(), &mut buffer);
             return Outcome::Written(convert::from_written(&answer), buffer);
         }
-        Call::Load { bytes } => ceromby::load(bytes),
+        Call::Load { bytes } => loaded(bytes),
     };
     Outcome::Answer(convert::from_answer(&answer))
 }

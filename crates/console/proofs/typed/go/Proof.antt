@@ -6,11 +6,11 @@ use Rattle.console.proofs.typed.go.Statement.{statement}
 use Rattle.console.proofs.typed.go.Tie as tie
 use Rattle.console.proofs.typed.go.Reads as reads
 use Rattle.console.proofs.typed.go.Lts as lts
-use Rattle.console.proofs.say.delivered.Reads as delivered-reads
-use Rattle.console.proofs.say.number.Reads as number-reads
-use Rattle.console.proofs.say.refused.Reads as refused-reads
-use Rattle.console.proofs.say.small.Reads as small-reads
-use Rattle.console.proofs.say.text.Reads as text-reads
+use Rattle.prompt.proofs.say.delivered.Reads as delivered-reads
+use Rattle.prompt.proofs.say.number.Reads as number-reads
+use Rattle.prompt.proofs.say.refused.Reads as refused-reads
+use Rattle.prompt.proofs.say.small.Reads as small-reads
+use Rattle.prompt.proofs.say.text.Reads as text-reads
 use Rattle.console.proofs.typed.step.Reads as step-reads
 
 abbrev Inv-loop : tie.InvT-loop
