@@ -1,5 +1,9 @@
 // A line's words as names, numbers and sets of tiles.
-ghost use Prim.Native.Nat.{_≤_};
+ghost use mathlib.Core.Path.{_≡_};
+ghost use mathlib.Core.Bool.{true};
+ghost use Prim.Native.Nat.{_≤_, min};
+ghost use Rattle.words.specs.Text.{nthWord};
+ghost use Rattle.prompt.specs.Line.{endsBy, remark, isValue, valueOf, numberAt, numbersOf, argumentsOf, TilesIn, SourcesIn};
 use words::Parsed;
 
 // Up to four numbers, and whether each was one.
@@ -16,7 +20,9 @@ pub enum Sources {
 }
 
 // Whether the line's word with k words before it is `name`.
-pub fn is(line: &[u8], k: usize, name: &[u8]) -> bool {
+pub fn is(line: &[u8], k: usize, name: &[u8]) -> bool
+    ensures { λ r. ⌜ (r ≡ true → nthWord k (now (line .entry)) ≡ now (name .entry)) × (nthWord k (now (line .entry)) ≡ now (name .entry) → r ≡ true) ⌝ }
+{
     let w = words::nth(line, k);
     let from = w.from;
     let to = w.to;
@@ -24,13 +30,17 @@ pub fn is(line: &[u8], k: usize, name: &[u8]) -> bool {
 }
 
 // Whether the line has at most k words.
-pub fn ended(line: &[u8], k: usize) -> bool {
+pub fn ended(line: &[u8], k: usize) -> bool
+    ensures { λ r. ⌜ r ≡ endsBy k (now (line .entry)) ⌝ }
+{
     let w = words::nth(line, k);
     w.from == w.to
 }
 
 // A line that says nothing: without words, or a remark.
-pub fn is_remark(line: &[u8]) -> bool {
+pub fn is_remark(line: &[u8]) -> bool
+    ensures { λ r. ⌜ r ≡ remark (nthWord 0 (now (line .entry))) ⌝ }
+{
     let w = words::nth(line, 0);
     let from = w.from;
     if from == w.to {
@@ -39,26 +49,48 @@ pub fn is_remark(line: &[u8]) -> bool {
     line[from] == b'#'
 }
 
-fn number(line: &[u8], k: usize) -> Parsed {
+// The line's word with k words before it, as a number.
+fn number(line: &[u8], k: usize) -> Parsed
+    ensures { λ r. ⌜ r ≡ numberAt (now (line .entry)) k ⌝ }
+{
     let w = words::nth(line, k);
     let from = w.from;
     let to = w.to;
     words::number(&line[from..to])
 }
 
+// Whether the word was a number.
+fn is_value(p: Parsed) -> bool
+    ensures { λ r. ⌜ r ≡ isValue p ⌝ }
+{
+    match p {
+        Parsed::Value(_) => true,
+        Parsed::Unreadable => false,
+    }
+}
+
+// The number that the word was; 0 where it was none.
+fn value_of(p: Parsed) -> u32
+    ensures { λ r. ⌜ r ≡ valueOf p ⌝ }
+{
+    match p {
+        Parsed::Value(x) => x,
+        Parsed::Unreadable => 0,
+    }
+}
+
 // The `count` numbers from word `first` on.
 pub fn numbers_at(line: &[u8], first: usize, count: usize) -> Numbers
     requires { ⌜ (first ≤ 100) × (count ≤ 4) ⌝ }
+    ensures { λ r. ⌜ r ≡ numbersOf (now (line .entry)) first count ⌝ }
 {
     let mut all = [0u32; 4];
     let mut good = true;
     let mut k: usize = 0;
     while k < count {
         let n = number(line, first + k);
-        match n {
-            Parsed::Value(x) => all[k] = x,
-            Parsed::Unreadable => good = false,
-        }
+        all[k] = value_of(n);
+        good = good & is_value(n);
         k += 1;
     }
     Numbers {
@@ -70,6 +102,7 @@ pub fn numbers_at(line: &[u8], first: usize, count: usize) -> Numbers
 // The numbers after a call's name: as many as it takes, and nothing after them.
 pub fn arguments(line: &[u8], count: usize) -> Numbers
     requires { ⌜ count ≤ 4 ⌝ }
+    ensures { λ r. ⌜ r ≡ argumentsOf (now (line .entry)) count ⌝ }
 {
     let mut n = numbers_at(line, 1, count);
     n.good = n.good & ended(line, count + 1);
@@ -77,7 +110,9 @@ pub fn arguments(line: &[u8], count: usize) -> Numbers
 }
 
 // Tiles with commas between them, as a set.
-fn tile_list(word: &[u8]) -> Sources {
+fn tile_list(word: &[u8]) -> Sources
+    ensures { λ r. ⌜ TilesIn (now (word .entry)) r ⌝ }
+{
     let mut set: u64 = 0;
     let mut at = 0;
     loop {
@@ -97,7 +132,10 @@ fn tile_list(word: &[u8]) -> Sources {
     }
 }
 
-pub fn sources_at(line: &[u8], k: usize) -> Sources {
+// The fill tiles that the line's word with k words before it names.
+pub fn sources_at(line: &[u8], k: usize) -> Sources
+    ensures { λ r. ⌜ SourcesIn (nthWord k (now (line .entry))) r ⌝ }
+{
     if is(line, k, b"all") {
         return Sources::All;
     }
@@ -111,10 +149,14 @@ pub fn sources_at(line: &[u8], k: usize) -> Sources {
 }
 
 // The nearest number that fits. What is cut off here is refused by the library with the same number as what was typed.
-pub fn byte(x: u32) -> u8 {
+pub fn byte(x: u32) -> u8
+    ensures { λ r. ⌜ r ≡ min x 255 ⌝ }
+{
     if x < 255 { x as u8 } else { 255 }
 }
 
-pub fn short(x: u32) -> u16 {
+pub fn short(x: u32) -> u16
+    ensures { λ r. ⌜ r ≡ min x 65535 ⌝ }
+{
     if x < 65535 { x as u16 } else { 65535 }
 }
