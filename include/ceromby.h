@@ -103,14 +103,14 @@ typedef struct ceromby_report {
 
 /* In every answer, refusal 0 means accepted. */
 typedef struct ceromby_answer {
-    uint8_t refusal;
     ceromby_floor floor;
+    uint8_t refusal;
 } ceromby_answer;
 
 typedef struct ceromby_rounded {
-    uint8_t refusal;
     ceromby_floor floor;
     ceromby_report report;
+    uint8_t refusal;
 } ceromby_rounded;
 
 typedef struct ceromby_reading {

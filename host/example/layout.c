@@ -43,12 +43,12 @@ int main(void) {
     FIELD(report, count);
     FIELD(report, delivered);
     SIZE(answer);
-    FIELD(answer, refusal);
     FIELD(answer, floor);
+    FIELD(answer, refusal);
     SIZE(rounded);
-    FIELD(rounded, refusal);
     FIELD(rounded, floor);
     FIELD(rounded, report);
+    FIELD(rounded, refusal);
     SIZE(reading);
     FIELD(reading, refusal);
     FIELD(reading, tile);

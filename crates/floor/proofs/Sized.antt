@@ -19,4 +19,4 @@ pub canisters-length : (f : Floor) (vs : List Val) → Is (row the-type) f vs �
 canisters-length f vs p = sym (length-map (f .canisters) (canister-field .into)) ∙ p .1 .1 .1 .1 .1 .0 .1 .0 .1
 
 pub items-length : (m : Members) (vs : List Val) → Is (row members-type) m vs → length (m .items) ≡ 16
-items-length m vs p = sym (length-map (m .items) (canister-field .into)) ∙ p .1 .1 .1 .0 .1 .0 .1
+items-length m vs p = sym (length-map (m .items) (canister-field .into)) ∙ p .1 .1 .0 .1 .0 .1

@@ -141,18 +141,19 @@ pub struct Report {
 }
 
 // The answer of fresh, book, stop, repair and load: document 01's refusal number, 0 where the call was accepted.
+// The number stands last: padding before the floor costs another copy of it.
 #[repr(C)]
 pub struct Answer {
-    pub refusal: u8,
     pub floor: Floor,
+    pub refusal: u8,
 }
 
 // The answer of a round.
 #[repr(C)]
 pub struct Rounded {
-    pub refusal: u8,
     pub floor: Floor,
     pub report: Report,
+    pub refusal: u8,
 }
 
 // The answer of reading a tile: the tile and its sixteen places.
@@ -166,8 +167,8 @@ pub struct Reading {
 // The canisters of one tile, by rising number, then zeros.
 #[repr(C)]
 pub struct Members {
-    pub count: u8,
     pub items: [Canister; 16],
+    pub count: u8,
 }
 
 // A distance, and the side that it was read on.

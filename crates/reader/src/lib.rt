@@ -24,8 +24,8 @@ use wire::u64_at;
 
 // What a scan of the tiles' records finds: the first refusal, 0 where there is none, and where each body starts.
 pub struct Scan {
-    pub fault: u8,
     pub starts: [usize; 64],
+    pub fault: u8,
 }
 
 // The settings whose record's body starts at `at`.

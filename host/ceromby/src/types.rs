@@ -87,17 +87,17 @@ pub struct Report {
 #[repr(C)]
 #[derive(Clone, Copy, PartialEq, Eq, Debug)]
 pub struct Answer {
+    pub floor: Floor,
     /// 0 for accepted.
     pub refusal: u8,
-    pub floor: Floor,
 }
 
 #[repr(C)]
 #[derive(Clone, Copy, PartialEq, Eq, Debug)]
 pub struct Rounded {
-    pub refusal: u8,
     pub floor: Floor,
     pub report: Report,
+    pub refusal: u8,
 }
 
 #[repr(C)]

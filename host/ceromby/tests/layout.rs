@@ -30,8 +30,8 @@ fn as_in_c() {
         "counters" Counters { last, booked, delivered }
         "floor" Floor { settings, counters, tiles, canisters }
         "report" Report { grants, count, delivered }
-        "answer" Answer { refusal, floor }
-        "rounded" Rounded { refusal, floor, report }
+        "answer" Answer { floor, refusal }
+        "rounded" Rounded { floor, report, refusal }
         "reading" Reading { refusal, tile, members }
         "written" Written { refusal, length }
     };
