@@ -1,8 +1,13 @@
 /* The canister floor. Every struct goes by value; nothing is kept between calls, so calls may run side by side.
    Any bytes may stand in a struct: a floor that isn't well formed is refused by 30.
-   What the caller owes: a pointer to `length` bytes that stay valid during the call (any pointer but NULL where length
-   is 0), and for ceromby_write no other access to them meanwhile. A floor takes 8,552 bytes, and a call up to 120 KB of
-   stack. */
+
+   A refused call gives the floor that was handed in (ceromby_fresh and ceromby_load: the all-zero floor, which is refused
+   by 30 everywhere), zeros for everything else (a refused reading has distance 0, not 255), and leaves the buffer. The
+   numbers given at each call stand in the order in which they are tested.
+
+   What the caller owes: a pointer to `length` bytes that stay valid and that nobody else writes during the call (any
+   pointer but NULL where length is 0); for ceromby_write nobody else reads them either. A floor takes 8,552 bytes, and a
+   call up to STACKKB KB of stack. */
 
 #ifndef CEROMBY_H
 #define CEROMBY_H
@@ -32,7 +37,7 @@ extern "C" {
 /* Refused because of the input. */
 #define CEROMBY_GRID 1            /* W, H or C outside its range */
 #define CEROMBY_SETS 2            /* hopper not on the floor, or a fill bit for the hopper or for no tile */
-#define CEROMBY_MEASURE 3         /* a measure breaks the rules */
+#define CEROMBY_MEASURE 3         /* U, l, r or v outside its range, or a rule of ceromby_settings broken */
 #define CEROMBY_NO_TILE 4         /* tile not on the floor */
 #define CEROMBY_NOT_A_SOURCE 5    /* booking on a tile outside the fill set */
 #define CEROMBY_NUMBER_ZERO 6     /* canister number 0 */
@@ -49,7 +54,7 @@ extern "C" {
 #define CEROMBY_STOPPED 31        /* booking on a stopped tile, or stop of a stopped one */
 #define CEROMBY_RUNNING 32        /* repair of a running tile */
 #define CEROMBY_NUMBER_USED 33    /* canister number not above the last booked */
-#define CEROMBY_TOO_CLOSE 34      /* some canister of the tile differs by less than d in both a and b */
+#define CEROMBY_TOO_CLOSE 34      /* some canister of the tile differs by less than d = l + r in both a and b */
 
 typedef struct ceromby_canister {
     uint32_t number; /* never 0 on a floor */
@@ -69,6 +74,8 @@ typedef struct ceromby_tile {
     uint8_t count;      /* canisters on the tile */
 } ceromby_tile;
 
+/* W and H are 1 to 8, and W * H is at least 2. U is 2 to 60,000, v at least 1. Required: v < l, d = l + r < U, and
+   (U - l) / d, rounded down, at most 3. The fill set may be empty and never holds the hopper. */
 typedef struct ceromby_settings {
     uint8_t columns;  /* W */
     uint8_t rows;     /* H */
@@ -96,9 +103,9 @@ typedef struct ceromby_floor {
 } ceromby_floor;
 
 typedef struct ceromby_report {
-    uint8_t grants[CEROMBY_MAX_TILES]; /* the side each tile granted */
+    uint8_t grants[CEROMBY_MAX_TILES]; /* the side each tile granted, 0 for none and where no tile is */
     uint8_t count;                     /* how many were delivered */
-    uint32_t delivered[4];             /* their numbers, rising */
+    uint32_t delivered[4];             /* their numbers, rising, then zeros */
 } ceromby_report;
 
 /* In every answer, refusal 0 means accepted. */
@@ -124,7 +131,7 @@ typedef struct ceromby_written {
     uint32_t length; /* of the image */
 } ceromby_written;
 
-/* A floor without canisters. Refused by 1, 2, 3 with the all-zero floor. */
+/* A floor without canisters. Refused by 1, 2, 3. */
 ceromby_answer ceromby_fresh(ceromby_settings settings);
 
 /* Adds a canister. Refused by 30, 4, 5, 6, 7, 31, 33, 34. */
@@ -142,7 +149,8 @@ ceromby_rounded ceromby_round(ceromby_floor floor);
 /* All that a tile has. Refused by 30, 4. */
 ceromby_reading ceromby_read(ceromby_floor floor, uint32_t tile);
 
-/* The floor of an image. Refused by 9, 10, 11, 1, 2, 3, 12 with the all-zero floor. */
+/* The floor of an image. Refused by the first fault in reading order: within a record 9, 10, 11, then 1, 2, 3; then 9 for
+   bytes left over, then 12. */
 ceromby_answer ceromby_load(const uint8_t *bytes, size_t length);
 
 /* Writes an image and leaves the bytes after it. Refused by 30, 13. */

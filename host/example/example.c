@@ -19,25 +19,12 @@ static void show(const char *what, ceromby_floor floor) {
     printf("\n");
 }
 
-int main(void) {
-    ceromby_settings settings = {
-        .columns = 2, .rows = 1, .hopper = 1, .sources = 1,
-        .width = 100, .length = 30, .gap = 10, .travel = 20,
-    };
-    ceromby_answer answer = ceromby_fresh(settings);
-    printf("fresh: %u\n", answer.refusal);
-    ceromby_floor floor = answer.floor;
-    show("fresh", floor);
-
-    ceromby_canister canister = {.number = 5, .a = 0, .b = 0};
-    answer = ceromby_book(floor, 0, canister);
-    printf("book canister 5: %u\n", answer.refusal);
-    floor = answer.floor;
-
+/* Rounds until the canister is delivered. */
+static ceromby_floor deliver(ceromby_floor floor) {
     for (unsigned round = 1; floor.counters.delivered == 0 && round <= 5; round++) {
         ceromby_rounded rounded = ceromby_round(floor);
         if (rounded.refusal != CEROMBY_ACCEPTED)
-            return 1;
+            break;
         floor = rounded.floor;
         printf("round %u, the hopper grants %u", round, rounded.report.grants[1]);
         for (unsigned i = 0; i < rounded.report.count; i++)
@@ -45,31 +32,50 @@ int main(void) {
         printf("\n");
         show("  after", floor);
     }
+    return floor;
+}
 
-    answer = ceromby_stop(floor, 0);
+static ceromby_floor stop(ceromby_floor floor) {
+    ceromby_answer answer = ceromby_stop(floor, 0);
     printf("stop tile 0: %u\n", answer.refusal);
     floor = answer.floor;
     show("stopped", floor);
     printf("stop tile 0 again: %u\n", ceromby_stop(floor, 0).refusal);
-    canister.number = 6;
+    ceromby_canister canister = {.number = 6, .a = 0, .b = 0};
     printf("book canister 6: %u\n", ceromby_book(floor, 0, canister).refusal);
     printf("stop the hopper: %u\n", ceromby_stop(floor, 1).refusal);
+    return floor;
+}
 
-    static uint8_t image[CEROMBY_LONGEST_IMAGE];
+static void store(ceromby_floor floor) {
+    static uint8_t image[CEROMBY_LONGEST_IMAGE], again[CEROMBY_LONGEST_IMAGE];
     ceromby_written written = ceromby_write(floor, image, sizeof image);
     printf("write: %u, %lu bytes\n", written.refusal, (unsigned long)written.length);
     printf("write to 63 bytes: %u\n", ceromby_write(floor, image, 63).refusal);
-    answer = ceromby_load(image, written.length);
+    ceromby_answer answer = ceromby_load(image, written.length);
     printf("load: %u, counters %lu %lu %lu\n", answer.refusal,
            (unsigned long)answer.floor.counters.last,
            (unsigned long)answer.floor.counters.booked,
            (unsigned long)answer.floor.counters.delivered);
     show("loaded", answer.floor);
     printf("load without the last byte: %u\n", ceromby_load(image, written.length - 1).refusal);
-
-    static uint8_t again[CEROMBY_LONGEST_IMAGE];
+    printf("load nothing: %u\n", ceromby_load(image, 0).refusal);
     written = ceromby_write(answer.floor, again, sizeof again);
     printf("written again: %s\n",
            memcmp(image, again, written.length) == 0 ? "the same bytes" : "other bytes");
+}
+
+int main(void) {
+    ceromby_settings settings = {
+        .columns = 2, .rows = 1, .hopper = 1, .sources = 1,
+        .width = 100, .length = 30, .gap = 10, .travel = 20,
+    };
+    ceromby_answer answer = ceromby_fresh(settings);
+    printf("fresh: %u\n", answer.refusal);
+    show("fresh", answer.floor);
+    ceromby_canister canister = {.number = 5, .a = 0, .b = 0};
+    answer = ceromby_book(answer.floor, 0, canister);
+    printf("book canister 5: %u\n", answer.refusal);
+    store(stop(deliver(answer.floor)));
     return 0;
 }

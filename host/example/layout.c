@@ -7,7 +7,7 @@
 #define SIZE(type) printf(#type " %zu\n", sizeof(ceromby_##type))
 #define FIELD(type, field) printf(#type "." #field " %zu\n", offsetof(ceromby_##type, field))
 
-int main(void) {
+static void values(void) {
     SIZE(canister);
     FIELD(canister, number);
     FIELD(canister, a);
@@ -38,6 +38,9 @@ int main(void) {
     FIELD(floor, counters);
     FIELD(floor, tiles);
     FIELD(floor, canisters);
+}
+
+static void answers(void) {
     SIZE(report);
     FIELD(report, grants);
     FIELD(report, count);
@@ -56,5 +59,10 @@ int main(void) {
     SIZE(written);
     FIELD(written, refusal);
     FIELD(written, length);
+}
+
+int main(void) {
+    values();
+    answers();
     return 0;
 }

@@ -159,7 +159,7 @@ other-cases : holds otherCases ≡ true
 unfolding holds otherCases
 other-cases = refl
 
--- ---- well formed, clause by clause: a sound floor with one thing changed is 30 in every call
+-- ---- well formed, clause by clause: a sound floor with one thing changed is 30 in a reading, and one of them in every call
 unfoldable head : ℕ → ℕ → ℕ → ℕ → ℕ → Tile
 head running distance next token count = record { running = running; distance = distance; next = record { code = next }; token = record { code = token }; count = count }
 

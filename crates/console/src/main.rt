@@ -18,11 +18,11 @@ struct Place {
 fn line_done(before: Session, line: &[u8]) -> Session {
     let mut s = before;
     s.lines = std::num::wrapping_add_u64(s.lines, 1);
-    if 200 < line.len() {
-        say::too_long(s.lines);
+    if parse::is_remark(line) {
         return s;
     }
-    if parse::is_remark(line) {
+    if 400 < line.len() {
+        say::too_long(s.lines);
         return s;
     }
     typed::obey(s, line)
@@ -96,7 +96,7 @@ fn converse(buf: &mut [u8]) {
 }
 
 fn main() {
-    say::text(b"console: help lists the calls, quit ends\n");
+    say::text(b"console: begin with fresh; help lists the calls, quit ends\n");
     let mut buf = io::large_buffer();
     converse(&mut buf);
 }

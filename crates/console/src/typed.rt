@@ -70,7 +70,7 @@ fn chosen_settings(line: &[u8]) -> Settings {
 }
 
 // A refused fresh leaves the floor as it was.
-pub fn fresh(s: Session, line: &[u8]) -> Session {
+fn fresh(s: Session, line: &[u8]) -> Session {
     let a = parse::numbers_at(line, 1, 3);
     let b = parse::numbers_at(line, 5, 4);
     if !(a.good & b.good & parse::ended(line, 9)) {
@@ -103,7 +103,7 @@ pub fn fresh(s: Session, line: &[u8]) -> Session {
     next
 }
 
-pub fn book(s: Session, line: &[u8]) -> Session {
+fn book(s: Session, line: &[u8]) -> Session {
     let n = parse::arguments(line, 4);
     if !n.good {
         return cannot(s, line);
@@ -130,7 +130,7 @@ pub fn book(s: Session, line: &[u8]) -> Session {
     next
 }
 
-pub fn stop(s: Session, line: &[u8]) -> Session {
+fn stop(s: Session, line: &[u8]) -> Session {
     let n = parse::arguments(line, 1);
     if !n.good {
         return cannot(s, line);
@@ -150,7 +150,7 @@ pub fn stop(s: Session, line: &[u8]) -> Session {
     next
 }
 
-pub fn repair(s: Session, line: &[u8]) -> Session {
+fn repair(s: Session, line: &[u8]) -> Session {
     let n = parse::arguments(line, 1);
     if !n.good {
         return cannot(s, line);
@@ -197,7 +197,7 @@ fn step(s: Session) -> Stepped {
     }
 }
 
-pub fn round(s: Session, line: &[u8]) -> Session {
+fn round(s: Session, line: &[u8]) -> Session {
     if !parse::ended(line, 1) {
         return cannot(s, line);
     }
@@ -238,16 +238,20 @@ fn go(s: Session, n: u32) -> Session {
     next
 }
 
-pub fn rounds(s: Session, line: &[u8]) -> Session {
+fn rounds(s: Session, line: &[u8]) -> Session {
     let n = parse::arguments(line, 1);
-    let many = n.at[0];
-    if !n.good || MOST < many {
+    if !n.good {
         return cannot(s, line);
+    }
+    let many = n.at[0];
+    if MOST < many {
+        say::text(b"rounds: at most 100000\n");
+        return s;
     }
     go(s, many)
 }
 
-pub fn read(s: Session, line: &[u8]) -> Session {
+fn read(s: Session, line: &[u8]) -> Session {
     let n = parse::arguments(line, 1);
     if !n.good {
         return cannot(s, line);
@@ -295,7 +299,7 @@ fn show_rows(floor: Floor, columns: u8, rows: u8) {
     }
 }
 
-pub fn show(s: Session, line: &[u8]) -> Session {
+fn show(s: Session, line: &[u8]) -> Session {
     if !parse::ended(line, 1) {
         return cannot(s, line);
     }

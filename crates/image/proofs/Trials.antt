@@ -92,8 +92,15 @@ table =
     ∷ shows (with 47 5) 12
     ∷ shows (with 46 200) 12
     ∷ shows (take 60 (with 45 2)) 9
-    -- writing: 30, 13, the length, the bytes after it
+    -- two faults at once: 9 before 10, 10 before 11, 11 before 1 within a record; a byte left over before 12; a later 11 before 12
+    ∷ shows (take 23 (with 2 2)) 9
+    ∷ shows (set (with 2 2) 0 19) 10
+    ∷ shows (set (with 7 1) 4 0) 11
+    ∷ shows (with 45 2 ++ (0 ∷ [])) 9
+    ∷ shows (set (with 45 2) 54 0) 11
+    -- writing: 30, also where 13 would hold; 13; the length; the bytes after it
     ∷ eqb (writeAnswer zeroFloor 100 .refusal) 30
+    ∷ eqb (writeAnswer zeroFloor 0 .refusal) 30
     ∷ eqb (writeAnswer fresh 63 .refusal) 13
     ∷ eqb (writeAnswer fresh 63 .length) 0
     ∷ eqb (writeAnswer fresh 66 .length) 64

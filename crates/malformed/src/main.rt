@@ -1,4 +1,5 @@
-// Floors that aren't well formed: every call answers 30 and gives the same floor, or zeros for a reading.
+// Floors that aren't well formed: every call that takes a floor answers 30 and gives the same floor, zeros for a reading, the same
+// bytes for a writing.
 use floor::Canister;
 use floor::Floor;
 use floor::Report;
@@ -81,6 +82,22 @@ fn empty_report(r: Report) -> bool {
     all
 }
 
+// Sixteen places of zeros.
+fn no_canisters(members: [Canister; 16]) -> bool {
+    let none = Canister {
+        number: 0,
+        a: 0,
+        b: 0,
+    };
+    let mut all = true;
+    let mut k: usize = 0;
+    while k < 16 {
+        all = all & same_canister(members[k], none);
+        k += 1;
+    }
+    all
+}
+
 fn empty_reading(f: Floor) -> bool {
     let r = calls::read(f, 0);
     let zero = Tile {
@@ -90,20 +107,31 @@ fn empty_reading(f: Floor) -> bool {
         token: Side::NONE,
         count: 0,
     };
-    let none = Canister {
-        number: 0,
-        a: 0,
-        b: 0,
-    };
     let t = r.tile;
     let members = r.members;
-    (r.refusal == 30)
-        & same_tile(t, zero)
-        & same_canister(members[0], none)
-        & same_canister(members[15], none)
+    (r.refusal == 30) & same_tile(t, zero) & no_canisters(members)
 }
 
-// Book, stop, repair, round and read.
+// Whether every byte is still 7.
+fn untouched(bytes: &[u8]) -> bool {
+    let mut all = true;
+    let mut k: usize = 0;
+    while k < bytes.len() {
+        all = all & (bytes[k] == 7);
+        k += 1;
+    }
+    all
+}
+
+// Writing answers 30 and leaves the buffer.
+fn unwritten(f: Floor) -> bool {
+    let mut bytes = [7u8; 64];
+    let w = images::write(f, &mut bytes);
+    let same = untouched(&bytes);
+    (w.refusal == 30) & (w.length == 0) & same
+}
+
+// Book, stop, repair, round, read and write.
 fn all_refuse(f: Floor) -> bool {
     let book = floors::book(f, 1, 900, 0, 0);
     let stop = calls::stop(f, 1);
@@ -124,6 +152,7 @@ fn all_refuse(f: Floor) -> bool {
         & same_floor(d, f)
         & empty_report(report)
         & empty_reading(f)
+        & unwritten(f)
 }
 
 // W 3, H 2, hopper 5, canisters 3 and 4 on tile 0, 7 on tile 1, three rounds gone.
@@ -196,7 +225,7 @@ fn tile_name(kind: u8) {
 
 fn canister_name(kind: u8) {
     match kind {
-        10 => tally::text(b"members out of order"),
+        10 => tally::text(b"canisters out of order"),
         11 => tally::text(b"number 0"),
         12 => tally::text(b"a number on two tiles"),
         13 => tally::text(b"a place beyond U - l"),
@@ -207,12 +236,12 @@ fn canister_name(kind: u8) {
         18 => tally::text(b"delivered off by one"),
         19 => tally::text(b"last below a number"),
         20 => tally::text(b"a side of 200 tiles"),
-        21 => tally::text(b"the hopper among the sources"),
+        21 => tally::text(b"the hopper in the fill set"),
         _ => tally::text(b"v not below l"),
     }
 }
 
-// One damage, five calls.
+// One damage, six calls.
 fn one(t: Tally, f: Floor, kind: u8) -> Tally {
     tally::text(b"malformed, ");
     if kind < 10 {

@@ -44,7 +44,7 @@ pub fn side(code: u8) {
 fn meaning(n: u8) {
     match n {
         1 => text(b"W or H outside 1 to 8, or a single tile"),
-        2 => text(b"hopper off the floor, or a source that is the hopper or no tile"),
+        2 => text(b"hopper not on the floor, or a fill tile that is the hopper or no tile"),
         3 => text(b"a measure breaks the rules"),
         4 => text(b"tile not on the floor"),
         5 => text(b"not a fill tile"),
@@ -79,8 +79,8 @@ pub fn unreadable(at: u64, line: &[u8]) {
     text(b"line ");
     number(at);
     text(b": cannot read: ");
-    let mut copy = [b' '; 200];
-    let n = at_most(line.len(), 200);
+    let mut copy = [b' '; 400];
+    let n = at_most(line.len(), 400);
     let mut i = 0;
     while i < n {
         copy[i] = shown(line[i]);
@@ -93,7 +93,7 @@ pub fn unreadable(at: u64, line: &[u8]) {
 pub fn too_long(at: u64) {
     text(b"line ");
     number(at);
-    text(b": cannot read: over 200 bytes\n");
+    text(b": cannot read: over 400 bytes\n");
 }
 
 // The numbers that a round delivered.
@@ -182,10 +182,11 @@ pub fn cell(at: u8, t: Tile) {
 }
 
 pub fn help() {
-    text(b"help: fresh W H HOPPER SOURCES U l r v   (SOURCES: all, none, or tiles as 0,2,3)\n");
+    text(b"help: fresh W H HOPPER FILL U l r v   (FILL: all, none, or tiles as 0,2,3)\n");
     text(b"      book TILE NUMBER A B | stop TILE | repair TILE | round | rounds N | read TILE\n");
     text(b"      show | help | quit | # a remark\n");
-    text(
-        b"      show: north row first; each tile as number:canisters arrow distance, XX stopped\n",
-    );
+    text(b"      tile = column x H + row, from the south-west; rounds takes at most 100000\n");
+    text(b"      show: north row first; each tile as number:canisters arrow distance\n");
+    text(b"      XX stopped, - no arrow, -- no distance\n");
+    text(b"      a line has at most 400 bytes, all input at most 65536\n");
 }

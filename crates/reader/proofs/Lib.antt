@@ -1,3 +1,4 @@
 pub mod Reading
 pub mod Walk
 pub mod Load
+pub mod Places

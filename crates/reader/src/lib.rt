@@ -1,14 +1,12 @@
 // Reading an image: the refusals of its records in reading order, and the floor in memory. Without 12.
 ghost use mathlib.Core.Path.{_≡_};
-ghost use mathlib.Core.Bool.{Bool, true, false};
-ghost use mathlib.Core.List.{List};
 ghost use Prim.Native.Nat.{ℕ, _+_, _*_, _≤_, _<_};
 ghost use lib.ListN.{length, drop, getD};
 ghost use Rattle.laws.specs.Define.{tab, refusal};
 ghost use Rattle.wire.specs.Bytes.{field};
 ghost use Rattle.floor.specs.Memory.{head, zeroFloor};
 ghost use Rattle.image.specs.Image.{tileWidths, settingsIn, countersIn, canisterIn, tileIn, settingsFaults, countersFaults, tileFaults, endFaults, recordFault, tilesFault, recordsAnswer};
-ghost use Rattle.reader.specs.Scan.{Starts, tileAt, canisterAt, tileFrom, canisterFrom};
+ghost use Rattle.reader.specs.Scan.{Starts, tileFrom, canisterFrom};
 use floor::Answer;
 use floor::Canister;
 use floor::Counters;
@@ -224,45 +222,9 @@ fn scan_tiles(s: &[u8], from: usize, c: usize) -> Scan
     }
 }
 
-// The tile whose body starts at `at`, or zeros where it isn't used.
-fn tile_or_zero(s: &[u8], at: usize, used: bool) -> Tile
-    requires { ⌜ (used ≡ true → at + 6 ≤ length (now s)) ⌝ }
-    ensures { λ r. ⌜ r ≡ tileAt (now (s .entry)) at used ⌝ }
-{
-    if used {
-        return tile_at(s, at);
-    }
-    let none = Side { code: 0 };
-    Tile {
-        running: 0,
-        distance: 0,
-        next: none,
-        token: none,
-        count: 0,
-    }
-}
-
-// Canister j of the tile whose body starts at `at`, or zeros where there is none.
-fn canister_or_zero(s: &[u8], at: usize, used: bool, j: usize) -> Canister
-    requires { ⌜ (used ≡ true → at + 6 + 8 * field tileWidths 5 (drop at (now s)) ≤ length (now s)) ⌝ }
-    ensures { λ r. ⌜ r ≡ canisterAt (now (s .entry)) at used j ⌝ }
-{
-    if used {
-        let n = s[at + 5] as usize;
-        if j < n {
-            return canister_at(s, at + 6 + 8 * j);
-        }
-    }
-    Canister {
-        number: 0,
-        a: 0,
-        b: 0,
-    }
-}
-
-// The 64 tiles; c are used.
+// The 64 tiles; c are used, and the others stay zero.
 fn tiles_of(s: &[u8], starts: [usize; 64], c: usize) -> [Tile; 64]
-    requires { ⌜ ((t : ℕ) → t < c → getD starts t 0 + 6 ≤ length (now s)) ⌝ }
+    requires { ⌜ (c ≤ 64) × ((t : ℕ) → t < c → getD starts t 0 + 6 ≤ length (now s)) ⌝ }
     ensures { λ r. ⌜ r ≡ tab 64 (tileFrom (now (s .entry)) starts c) ⌝ }
 {
     let none = Side { code: 0 };
@@ -274,17 +236,16 @@ fn tiles_of(s: &[u8], starts: [usize; 64], c: usize) -> [Tile; 64]
         count: 0,
     };
     let mut out = [zero; 64];
-    for t in 0usize..64 {
+    for t in 0usize..c {
         let at = starts[t];
-        let used = t < c;
-        out[t] = tile_or_zero(s, at, used);
+        out[t] = tile_at(s, at);
     }
     out
 }
 
 // The 1,024 places, sixteen for each tile; c tiles are used, and the places of the others stay zero.
 fn canisters_of(s: &[u8], starts: [usize; 64], c: usize) -> [Canister; 1024]
-    requires { ⌜ (c ≤ 64) × ((t : ℕ) → t < c → getD starts t 0 + 6 + 8 * field tileWidths 5 (drop (getD starts t 0) (now s)) ≤ length (now s)) ⌝ }
+    requires { ⌜ (c ≤ 64) × ((t : ℕ) → t < c → getD starts t 0 + 6 + 8 * field tileWidths 5 (drop (getD starts t 0) (now s)) ≤ length (now s)) × ((t : ℕ) → t < c → field tileWidths 5 (drop (getD starts t 0) (now s)) ≤ 16) ⌝ }
     ensures { λ r. ⌜ r ≡ tab 1024 (canisterFrom (now (s .entry)) starts c) ⌝ }
 {
     let zero = Canister {
@@ -293,12 +254,12 @@ fn canisters_of(s: &[u8], starts: [usize; 64], c: usize) -> [Canister; 1024]
         b: 0,
     };
     let mut out = [zero; 1024];
-    let end = 16 * c;
-    for k in 0usize..end {
-        let t = k / 16;
+    for t in 0usize..c {
         let at = starts[t];
-        let used = t < c;
-        out[k] = canister_or_zero(s, at, used, k % 16);
+        let n = s[at + 5] as usize;
+        for j in 0usize..n {
+            out[16 * t + j] = canister_at(s, at + 6 + 8 * j);
+        }
     }
     out
 }

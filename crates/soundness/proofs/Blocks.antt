@@ -45,7 +45,7 @@ rest-fit f t p = and-right (headFits (f .settings) t (headOf f t)) _ p
 pub few-of : (f : Floor) (t : ℕ) → Fit f t → headOf f t .count ≤ 16
 few-of f t p = count-fits (f .settings) t (headOf f t) (head-fit f t p)
 
-block-length : (cs : List Canister) (t : ℕ) → length cs ≡ 1024 → t < 64 → length (block cs t) ≡ 16
+pub block-length : (cs : List Canister) (t : ℕ) → length cs ≡ 1024 → t < 64 → length (block cs t) ≡ 16
 block-length cs t lc h = length-take-le 16 (drop (16 * t) cs) (rw (length-drop, lc) (omega arith))
 
 pub used-length : (f : Floor) (t : ℕ) → length (f .canisters) ≡ 1024 → t < 64 → Fit f t → length (usedOf f t) ≡ headOf f t .count
@@ -140,9 +140,15 @@ number-at cs t i h =
     List·getD-map (λ (c : Canister). c .number) cs (16 * t + i) zeroCanister
     ∙ ap (λ (c : Canister). c .number) (sym (getD-take 16 (drop (16 * t) cs) i zeroCanister h ∙ getD-drop (16 * t) cs i zeroCanister))
 
+-- a place that isn't used has the number 0
+pub free-number : (f : Floor) (t k : ℕ) → length (f .canisters) ≡ 1024 → t < 64 → Fit f t → headOf f t .count ≤ k → k < 16 → getD (numbers (f .canisters)) (16 * t + k) 0 ≡ 0
+free-number f t k lc h p l m =
+    number-at (f .canisters) t k m
+    ∙ ap (λ (c : Canister). c .number) (rest-zero (headOf f t .count) k (block (f .canisters) t) (rest-fit f t p) l (omega (arith, block-length (f .canisters) t lc h)))
+
 pub runs-view : (f : Floor) → length (f .canisters) ≡ 1024 → ((t : ℕ) → t < 64 → Fit f t) → ((t : ℕ) → t < 64 → All (λ c. 0 < c .number) (usedOf f t))
     → ((t : ℕ) → t < 64 → Pairs (λ x y. x .number < y .number) (usedOf f t)) → Runs (numbers (f .canisters))
-runs-view f lc fit pos rise = runs-of (numbers (f .canisters)) (λ t. headOf f t .count) up free
+runs-view f lc fit pos rise = runs-of (numbers (f .canisters)) (λ t. headOf f t .count) up (λ t k h. free-number f t k lc h (fit t h))
   where
     used-at : (t i : ℕ) → t < 64 → i < headOf f t .count → getD (numbers (f .canisters)) (16 * t + i) 0 ≡ getD (usedOf f t) i zeroCanister .number
     used-at t i h l =
@@ -156,8 +162,3 @@ runs-view f lc fit pos rise = runs-of (numbers (f .canisters)) (λ t. headOf f t
         let p : 0 < getD (usedOf f t) j zeroCanister .number = all-get (λ (c : Canister). 0 < c .number) zeroCanister (usedOf f t) (pos t h) j (omega arith) in
         let q : getD (usedOf f t) j zeroCanister .number < getD (usedOf f t) k zeroCanister .number = pairs-place (λ (x y : Canister). x .number < y .number) zeroCanister (usedOf f t) (rise t h) j k l (omega arith) in
         rw (used-at t j h (omega arith), used-at t k h m) (p, q)
-
-    free : (t k : ℕ) → t < 64 → headOf f t .count ≤ k → k < 16 → getD (numbers (f .canisters)) (16 * t + k) 0 ≡ 0
-    free t k h l m =
-        number-at (f .canisters) t k m
-        ∙ ap (λ (c : Canister). c .number) (rest-zero (headOf f t .count) k (block (f .canisters) t) (rest-fit f t (fit t h)) l (omega (arith, block-length (f .canisters) t lc h)))

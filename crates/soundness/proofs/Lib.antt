@@ -2,3 +2,4 @@ pub mod Counts
 pub mod Joins
 pub mod Blocks
 pub mod WellCode
+pub mod Keys

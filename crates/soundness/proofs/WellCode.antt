@@ -1,7 +1,7 @@
 -- Well formed is what the code tests: the settings, tile by tile, the counters, the numbers.
 use mathlib.Core.Path.{_≡_, refl, sym, ap, _∙_, subst}
 use mathlib.Core.Logic.{_↔_}
-use mathlib.Core.Bool.{Bool, true, false, not, _&&_, _||_}
+use mathlib.Core.Bool.{Bool, true, false, not, _&&_, _||_, true≢false}
 use mathlib.Core.List.{List, [], _∷_}
 use Prim.Native.Nat.{ℕ, suc, _≤_, _<_}
 use native.Mathlib.Omega.{arith}
@@ -36,6 +36,13 @@ Numbered last n = (ltb 0 n && leb n last) ≡ true
 empty-of : (l : List ℕ) → length l ≡ 0 → l ≡ []
 empty-of [] e = refl
 empty-of (x ∷ l) e = absurd (omega arith)
+
+some-fails : (p : ℕ → Bool) (n t : ℕ) → t < n → p t ≡ false → allBelow p n ≡ false
+some-fails p n t l h = go (allBelow p n) refl
+  where
+    go : (b : Bool) → allBelow p n ≡ b → allBelow p n ≡ false
+    go true e = absurd (true≢false (sym (below-at p n e t l) ∙ h))
+    go false e = e
 
 -- ---- one member, one tile
 member-parts : (s : Settings) (last : ℕ) (l : List Canister) → allOf (memberSound s last) l ≡ true ↔ (allOf (inside s) l ≡ true × All (λ c. Numbered last (c .number)) l)
@@ -181,8 +188,8 @@ module _ (f : Floor) (lt : length (f .tiles) ≡ 64) (lc : length (f .canisters)
   pub well-refused : settingsPass (f .settings) ≡ false → false ≡ wellFormed f
   well-refused h = rw (well-code, h)
 
-  pub well-unlike : settingsPass (f .settings) ≡ true → allBelow (testOf f) 64 ≡ false → false ≡ wellFormed f
-  well-unlike p h = rw (well-code, p, h)
+  pub well-unlike : settingsPass (f .settings) ≡ true → (t : ℕ) → t < 64 → testOf f t ≡ false → false ≡ wellFormed f
+  well-unlike p t on h = rw (well-code, p, some-fails (testOf f) 64 t on h)
 
   pub well-tiled : settingsPass (f .settings) ≡ true → allBelow (testOf f) 64 ≡ true → (countersSound (f .counters) (counted (f .tiles) 64) && differ (numbers (f .canisters))) ≡ wellFormed f
   well-tiled p h = rw (well-code, p, h)

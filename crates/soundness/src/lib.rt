@@ -1,41 +1,22 @@
 // Whether a floor in memory is well formed, on any bytes.
 ghost use mathlib.Core.Path.{_≡_};
-ghost use Prim.Native.Nat.{_≤_};
-ghost use Rattle.laws.specs.Define.{allBelow};
-ghost use Rattle.floor.specs.Model.{numbers};
+ghost use mathlib.Core.Bool.{true};
+ghost use Rattle.floor.specs.Settings.{settingsPass};
 ghost use Rattle.floor.specs.Well.{countersSound, wellFormed};
-ghost use Rattle.tiletest.specs.Tile.{Sized};
-ghost use Rattle.soundness.specs.Code.{tilesTest, counted};
+ghost use Rattle.soundness.specs.Code.{counted};
 use chains::numbers_differ;
 use floor::Canister;
 use floor::Counters;
 use floor::Floor;
-use floor::Settings;
 use floor::Tile;
 use settings::settings_refusal;
 use tiletest::tile_ok;
 
-// All tiles. The sixteen places of a tile are copied once.
-pub fn tiles_ok(s: Settings, last: u32, tiles: [Tile; 64], canisters: [Canister; 1024]) -> bool
-    requires { ⌜ Sized s × (s .length ≤ s .width) ⌝ }
-    ensures { λ r. ⌜ r ≡ allBelow (tilesTest s last tiles canisters) 64 ⌝ }
-{
-    let zero = Canister {
-        number: 0,
-        a: 0,
-        b: 0,
-    };
-    let mut ok = true;
-    for t in 0usize..64 {
-        let mut items = [zero; 16];
-        for k in 0usize..16 {
-            items[k] = canisters[16 * t + k];
-        }
-        let one = tile_ok(s, last, t, tiles[t], items);
-        ok = ok & one;
-    }
-    ok
-}
+const NONE: Canister = Canister {
+    number: 0,
+    a: 0,
+    b: 0,
+};
 
 // How many canisters the tiles hold together.
 pub fn count_all(tiles: [Tile; 64]) -> u32
@@ -59,19 +40,46 @@ pub fn counters_ok(c: Counters, n: u32) -> bool
     (booked == sum) & (c.booked <= c.last)
 }
 
-// The numbers in the 1,024 places.
-pub fn keys_of(canisters: [Canister; 1024]) -> [u32; 1024]
-    ensures { λ r. ⌜ r ≡ numbers canisters ⌝ }
+// Well formed, once the settings have passed. The places are read where they stand; where no canister is on the floor, no numbers are compared.
+// A tile without canisters leaves its numbers zero.
+pub fn scan(f: Floor) -> bool
+    requires { ⌜ settingsPass (f .settings) ≡ true ⌝ }
+    ensures { λ r. ⌜ r ≡ wellFormed f ⌝ }
 {
-    let mut keys: [u32; 1024] = [0; 1024];
-    for k in 0usize..1024 {
-        let c = canisters[k];
-        keys[k] = c.number;
+    let s = f.settings;
+    let counters = f.counters;
+    for t in 0usize..64 {
+        let h = f.tiles[t];
+        let mut items = [NONE; 16];
+        for k in 0usize..16 {
+            items[k] = f.canisters[16 * t + k];
+        }
+        let one = tile_ok(s, counters.last, t, h, items);
+        if !one {
+            return false;
+        }
     }
-    keys
+    let tiles = f.tiles;
+    let n = count_all(tiles);
+    let added = counters_ok(counters, n);
+    if n == 0 {
+        return added;
+    }
+    let mut keys = [0u32; 1024];
+    for u in 0usize..64 {
+        let h = f.tiles[u];
+        if 0 < h.count {
+            for i in 0usize..16 {
+                let c = f.canisters[16 * u + i];
+                keys[16 * u + i] = c.number;
+            }
+        }
+    }
+    let differing = numbers_differ(keys);
+    added & differing
 }
 
-// Well formed. Where the settings don't pass, nothing else is read; where no canister is on the floor, no numbers are compared.
+// Well formed. Where the settings don't pass, nothing else is read.
 pub fn well_formed(f: Floor) -> bool
     ensures { λ r. ⌜ r ≡ wellFormed f ⌝ }
 {
@@ -80,19 +88,5 @@ pub fn well_formed(f: Floor) -> bool
     if refusal != 0 {
         return false;
     }
-    let counters = f.counters;
-    let tiles = f.tiles;
-    let canisters = f.canisters;
-    let all = tiles_ok(s, counters.last, tiles, canisters);
-    if !all {
-        return false;
-    }
-    let n = count_all(tiles);
-    let added = counters_ok(counters, n);
-    if n == 0 {
-        return added;
-    }
-    let keys = keys_of(canisters);
-    let differing = numbers_differ(keys);
-    added & differing
+    scan(f)
 }

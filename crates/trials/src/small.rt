@@ -3,6 +3,7 @@ use floor::Settings;
 use tally::Tally;
 use tally::floors;
 use tally::floors::place;
+use tally::floors::wide;
 use tally::trial;
 
 // W 2, hopper 1: canister 5 at (a, 0) on tile 0, and the rounds up to its delivery.
@@ -157,11 +158,35 @@ fn ties_and_turns(t: Tally) -> Tally {
     )
 }
 
+// "The fresh W 2 floor has an image of 64 bytes; an empty image is 9."
+fn image(t: Tally) -> Tally {
+    let f = floors::fresh(2, 1, 1, 1);
+    let mut bytes = [7u8; 64];
+    let empty = images::load(&bytes[..0]);
+    let written = images::write(f, &mut bytes);
+    let whole = images::load(&bytes);
+    let gave = [
+        written.refusal as u64,
+        wide(written.length),
+        empty.refusal as u64,
+        whole.refusal as u64,
+        0,
+        0,
+    ];
+    trial(
+        t,
+        b"W 2: an image of 64 bytes, an empty one is 9",
+        gave,
+        [0, 64, 9, 0, 0, 0],
+    )
+}
+
 pub fn all(t: Tally) -> Tally {
     let a = deliveries(t);
     let b = bookings(a);
     let c = measures(b);
     let d = westward(c);
     let e = distances(d);
-    ties_and_turns(e)
+    let f = ties_and_turns(e);
+    image(f)
 }

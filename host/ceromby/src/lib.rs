@@ -5,7 +5,7 @@ mod types;
 
 pub use types::{
     Answer, Canister, Counters, Floor, Reading, Report, Rounded, Settings, Side, Tile, Written,
-    LONGEST_IMAGE, MAX_TILES, NONE, PLACES,
+    DISTANCE_NONE, LONGEST_IMAGE, MAX_TILES, PLACES,
 };
 
 mod raw {

@@ -4,8 +4,8 @@
 pub const MAX_TILES: usize = 64;
 /// Canister places of one tile.
 pub const PLACES: usize = 16;
-/// The distance "none".
-pub const NONE: u8 = 255;
+/// The distance "none". (The side none is 0.)
+pub const DISTANCE_NONE: u8 = 255;
 /// Bytes of the longest image.
 pub const LONGEST_IMAGE: usize = 8_748;
 

@@ -37,9 +37,3 @@ fn as_in_c() {
     };
     assert_eq!(ours, include_str!("../../example/layout.txt"));
 }
-
-const _: () = assert!(size_of::<Floor>() == 8_552);
-const _: () = assert!(size_of::<Answer>() == 8_560);
-const _: () = assert!(size_of::<Rounded>() == 8_648);
-const _: () = assert!(size_of::<Reading>() == 136);
-const _: () = assert!(size_of::<Written>() == 8);

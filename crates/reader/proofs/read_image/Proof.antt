@@ -150,7 +150,18 @@ returns-3 c =
     c .refused3 .ensures ∙ answer-3 x z1 u n1 z2 w n2 st se _ (c .before .before .before .scan-tiles .ensures .0) (c .before .if3 .taken)
 
 tiles-of-requires : tie.Need-tiles-of-requires
-tiles-of-requires c κs = λ t h. omega (arith, c .before .before .before .scan-tiles .ensures .1 (c .before .if3 .left) t h .room)
+tiles-of-requires c κs =
+    let x = c .before .before .before .before .before .before .before .before .before .before .before .before .before .before .before .args .s .now in
+    let z1 = no-fault _ (recordFault 1 0 x) (c .before .before .before .before .before .before .before .before .before .before .before .before .before .record-fault .ensures) (c .before .before .before .before .before .before .before .before .before .before .before .before .if1 .left) in
+    let u = c .before .before .before .before .before .before .before .before .before .before .u16-at .result in
+    let n1 : u ≡ le 2 x = c .before .before .before .before .before .before .before .before .before .before .u16-at .ensures in
+    let z2 = no-fault _ (recordFault 2 0 (drop (4 + u) x)) (c .before .before .before .before .before .before .before .before .before .record-fault2 .ensures) (c .before .before .before .before .before .before .before .before .if2 .left) in
+    let w = c .before .before .before .before .before .before .u16-at2 .result in
+    let n2 : w ≡ le 2 (drop (4 + u) x) = c .before .before .before .before .before .before .u16-at2 .ensures in
+    let st = c .before .before .before .before .before .before .before .before .before .before .before .settings-at .result in
+    let se = c .before .before .before .before .before .before .before .before .before .before .before .settings-at .ensures in
+    let ss = c .before .before .before .scan-tiles .ensures .1 (c .before .if3 .left) in
+    (few-code x z1 u n1 z2 w n2 st se, λ t h. omega (arith, ss t h .room))
 
 canisters-of-requires : tie.Need-canisters-of-requires
 canisters-of-requires c κs =
@@ -163,7 +174,8 @@ canisters-of-requires c κs =
     let n2 : w ≡ le 2 (drop (4 + u) x) = c .before .before .before .before .before .before .before .u16-at2 .ensures in
     let st = c .before .before .before .before .before .before .before .before .before .before .before .before .settings-at .result in
     let se = c .before .before .before .before .before .before .before .before .before .before .before .before .settings-at .ensures in
-    (few-code x z1 u n1 z2 w n2 st se, λ t h. c .before .before .before .before .scan-tiles .ensures .1 (c .before .before .if3 .left) t h .room)
+    let ss = c .before .before .before .before .scan-tiles .ensures .1 (c .before .before .if3 .left) in
+    (few-code x z1 u n1 z2 w n2 st se, λ t h. ss t h .room, λ t h. ss t h .few)
 
 returns-4 : tie.Need-returns-4
 returns-4 c =

@@ -1,26 +1,25 @@
-use mathlib.Core.Path.{_≡_, refl}
+use mathlib.Core.Path.{_≡_}
 use Prim.Native.Nat.{_-_, _≤_}
 use native.Mathlib.Omega.{arith}
-use borrow.Author.Tests.{ltb-true}
-use lib.ListN.{length, length-set}
-use Rattle.reader.specs.Scan.{tileFrom}
-use Rattle.laws.specs.Tables.{Upto, filled, upto-turn}
+use lib.ListN.{length}
 use Rattle.floor.specs.Memory.{zeroTile}
+use Rattle.reader.specs.Scan.{tileFrom}
+use Rattle.reader.proofs.Places.{Tiled, filled-none, tiled-turn, tiled-all}
 use borrow.Author.Needs.{needs}
 use Rattle.reader.proofs.tiles_of.Statement.{statement}
 use Rattle.reader.proofs.tiles_of.Tie as tie
 use Rattle.reader.proofs.tiles_of.Reads as reads
 use Rattle.reader.proofs.tiles_of.Lts as lts
-use Rattle.reader.proofs.tile_or_zero.Reads as tile-or-zero-reads
+use Rattle.reader.proofs.tile_at.Reads as tile-at-reads
 
 abbrev Inv-loop : tie.InvT-loop
-Inv-loop s c starts out₀ t₀ out t = (t ≤ 64) × (length out ≡ 64) × (length starts ≡ 64) × Upto t (tileFrom s starts c) zeroTile out
+Inv-loop s c starts out₀ t₀ out t = (t ≤ c) × (c ≤ 64) × (length starts ≡ 64) × Tiled s starts c t out
 
 abbrev μ-loop : tie.MeasureT-loop
-μ-loop s c starts out₀ t₀ out t = 64 - t
+μ-loop s c starts out₀ t₀ out t = c - t
 
 loop-holds : tie.Need-loop-holds Inv-loop μ-loop
-loop-holds c = (omega arith, refl, c .before .good .1 .0 .1 .0 .1, λ i h. absurd (omega arith))
+loop-holds c = (omega arith, c .before .pre .0, c .before .good .1 .0 .1 .0 .1, filled-none 64 (tileFrom (c .before .args .s .now) (c .before .args .t2) (c .before .args .c)) zeroTile)
 
 mul-at : tie.Need-mul-at Inv-loop μ-loop
 mul-at c = search needs
@@ -28,9 +27,8 @@ mul-at c = search needs
 array-read-at : tie.Need-array-read-at Inv-loop μ-loop
 array-read-at c = search needs
 
-tile-or-zero-requires : tie.Need-tile-or-zero-requires Inv-loop μ-loop
-tile-or-zero-requires c κs =
-    λ e. c .before .before .before .pre _ (ltb-true _ _ e)
+tile-at-requires : tie.Need-tile-at-requires Inv-loop μ-loop
+tile-at-requires c κs = c .before .before .before .pre .1 _ (omega arith)
 
 mul-out : tie.Need-mul-out Inv-loop μ-loop
 mul-out c = search needs
@@ -48,13 +46,13 @@ loop-again : tie.Need-loop-again Inv-loop μ-loop
 loop-again c =
     let l = c .before .before .loop in
     let g = c .before .before .before .before .args in
-    (omega arith, simp length-set (l .inv .1), l .inv .2, upto-turn (l .t) (tileFrom (g.s .now) g.t2 g.c) zeroTile (l .out) _ (omega arith) (l .inv .3) (c .tile-or-zero .ensures))
+    (omega arith, l .inv .1, l .inv .2, tiled-turn (g.s .now) g.t2 g.c (l .t) (l .out) _ (omega arith) (l .inv .1) (c .tile-at .ensures) (l .inv .3))
 
 returns : tie.Need-returns Inv-loop μ-loop
 returns c =
     let l = c .before .loop in
     let g = c .before .before .before .args in
-    filled 64 (tileFrom (g.s .now) g.t2 g.c) zeroTile (l .out) (l .inv .1) (λ i h. l .inv .3 i (omega arith))
+    tiled-all (g.s .now) g.t2 g.c (l .t) (l .out) (omega arith) (omega arith) (l .inv .3)
 
 pub tiles-of-spec : {M : Type 1} → statement M
 tiles-of-spec =
@@ -65,7 +63,7 @@ tiles-of-spec =
     loop-holds
     mul-at
     array-read-at
-    tile-or-zero-requires
+    tile-at-requires
     mul-out
     array-set-from-out
     add-t

@@ -14,7 +14,7 @@ use Rattle.prompt.proofs.say.shown.Reads as shown-reads
 use Rattle.prompt.proofs.say.text.Reads as text-reads
 
 abbrev Inv-loop : tie.InvT-loop
-Inv-loop at line copy₀ n i₀ t8 copy i = length copy ≡ 200
+Inv-loop at line copy₀ n i₀ t8 copy i = length copy ≡ 400
 
 abbrev μ-loop : tie.MeasureT-loop
 μ-loop at line copy₀ n i₀ t8 copy i = n - i
