@@ -38,6 +38,10 @@ pub answer-accepted : (f g : Floor) (tests : List (Bool × ℕ)) (m : Model) →
 unfolding answer
 answer-accepted f g tests m e p = rw (e, p)
 
+pub answer-by : (f g : Floor) (tests : List (Bool × ℕ)) (m : Model) (n : ℕ) → refusalOf f tests ≡ n → n ≡ 0 → g ≡ pack m → _≡_ {A = Answer} (record { refusal = n; floor = g }) (answer f tests m)
+unfolding answer
+answer-by f g tests m n e z p = rw (e, z, p)
+
 -- ---- fresh
 pub fresh-refused : (s : Settings) (z : Floor) (n : ℕ) → n ≡ settingsRefusal s → n ≢ 0 → z ≡ zeroFloor → _≡_ {A = Answer} (record { refusal = n; floor = z }) (freshAnswer s)
 unfolding freshAnswer

@@ -3,7 +3,6 @@ ghost use mathlib.Core.Path.{_≡_};
 ghost use Rattle.floor.specs.Calls.{freshAnswer, bookAnswer, stopAnswer, repairAnswer, readAnswer, zeroReport, roundAnswer};
 ghost use Rattle.calls.specs.Refused.{unreadWith};
 use changes::book_refusal;
-use changes::booked_floor;
 use changes::fresh_floor;
 use changes::read_refusal;
 use changes::repair_refusal;
@@ -12,9 +11,12 @@ use changes::stop_refusal;
 use changes::stopped_floor;
 use changes::tile_head;
 use changes::tile_members;
+use changes::with_booking;
+use changes::with_count;
 use floor::Answer;
 use floor::Canister;
 use floor::Floor;
+use floor::Members;
 use floor::Reading;
 use floor::Report;
 use floor::Rounded;
@@ -22,6 +24,7 @@ use floor::Settings;
 use floor::Side;
 use floor::Tile;
 use floor::zero_floor;
+use members::insert;
 use motion::move_floor;
 use settings::settings_refusal;
 use signal::route_and_signal;
@@ -46,28 +49,40 @@ pub fn fresh(settings: Settings) -> Answer
     }
 }
 
-// Books a canister on a fill tile.
+// Books a canister on a fill tile. The floor is copied once and changed in place, and has one way out: each further way costs another copy.
 pub fn book(floor: Floor, tile: u32, canister: Canister) -> Answer
     ensures { λ r. ⌜ r ≡ bookAnswer floor tile canister ⌝ }
 {
     let well = well_formed(floor);
-    if !well {
-        return Answer {
-            refusal: 30,
-            floor: floor,
+    let mut changed = floor;
+    let mut number: u8 = 30;
+    if well {
+        let t = (tile % 64) as usize;
+        let s = changed.settings;
+        let counters = changed.counters;
+        let old = changed.tiles[t];
+        let mut items = [canister; 16];
+        for k in 0usize..16 {
+            items[k] = changed.canisters[16 * t + k];
+        }
+        let own = Members {
+            count: old.count,
+            items: items,
         };
+        number = book_refusal(s, counters.last, tile, canister, old.running, own);
+        if number == 0 {
+            let more = insert(own, canister);
+            let places = more.items;
+            for j in 0usize..16 {
+                changed.canisters[16 * t + j] = places[j];
+            }
+            changed.tiles[t] = with_count(old, more.count);
+            changed.counters = with_booking(counters, canister.number);
+        }
     }
-    let n = book_refusal(floor, tile, canister);
-    if n != 0 {
-        return Answer {
-            refusal: n,
-            floor: floor,
-        };
-    }
-    let booked = booked_floor(floor, tile, canister);
     Answer {
-        refusal: 0,
-        floor: booked,
+        refusal: number,
+        floor: changed,
     }
 }
 

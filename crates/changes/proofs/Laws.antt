@@ -5,52 +5,21 @@ use mathlib.Core.Bool.{true}
 use mathlib.Core.List.{List}
 use Prim.Native.Nat.{ℕ, zero, suc, _+_, _*_, _/_, _%_, _≤_, _<_}
 use native.Mathlib.Omega.{arith}
-use native.Mathlib.Decide.{ℕ-discrete}
-use lib.ListN.{length, getD, set, take, replicate, length-replicate, length-set, getD-replicate}
-use lib.Seq.{getD-set-same, getD-set-other}
+use lib.ListN.{length, getD, set, replicate, length-replicate, getD-replicate}
 use borrow.Author.Tests.{eq-eqb, ne-eqb}
-use Rattle.laws.specs.Define.{tab}
-use Rattle.laws.specs.Tables.{tab-length, tab-at, Upto, From}
-use Rattle.floor.specs.declared.Canister.{Canister}
+use Rattle.laws.specs.Tables.{tab-at, Upto, From}
 use Rattle.floor.specs.declared.Settings.{Settings}
-use Rattle.floor.specs.declared.Counters.{Counters}
 use Rattle.floor.specs.declared.Tile.{Tile}
 use Rattle.floor.specs.declared.Floor.{Floor}
-use Rattle.floor.specs.declared.Members.{Members}
 use Rattle.floor.specs.Settings.{total, isHopper, settingsPass}
-use Rattle.floor.specs.Model.{TileState, noTile, tileOf, membersOf, withTile, withMembers}
+use Rattle.floor.specs.Model.{TileState, noTile, tileOf, membersOf, withTile}
 use Rattle.floor.specs.Memory.{zeroTile, zeroCanister, zeroFloor, headOf, stateOf, view, unused, head, pack}
 use Rattle.floor.specs.Well.{wellFormed}
-use Rattle.floor.specs.Move.{insert}
-use Rattle.floor.specs.Calls.{freshTile, freshFloor, booked, stopped, repaired}
+use Rattle.floor.specs.Calls.{freshTile, freshFloor, stopped, repaired}
 use Rattle.floor.proofs.Well.{settings-fact}
 use Rattle.floor.proofs.Rows.{view-at}
-use Rattle.floor.proofs.Pack.{shown, place-shown, pack-put, pack-head, pack-tab, well-sound, well-fits, well-few, well-head}
+use Rattle.floor.proofs.Pack.{shown, place-shown, pack-head, pack-tab, well-sound, well-fits, well-few, well-head}
 use Rattle.floor.proofs.Capacity.{sound-small}
-use Rattle.members.specs.Held.{Places, Holds}
-use Rattle.members.proofs.Laws.{holds-list}
-use Rattle.changes.specs.Places.{Put}
-
--- ---- the loop that writes sixteen places
-pub put-none : (t : ℕ) (items all : List Canister) → length all ≡ 1024 → Put t 0 items all all
-put-none t items all e = (e, (λ i h q k. absurd (omega arith), λ i h q. refl))
-
-pub put-turn : (t k : ℕ) (items all out : List Canister) → t < 64 → k < 16 → Put t k items all out
-    → Put t (k + 1) items all (set out (16 * t + k) (getD items k zeroCanister))
-put-turn t k items all out ht hk p = (length-set out (16 * t + k) (getD items k zeroCanister) ∙ p .0, (own, others))
-  where
-    own : (i : ℕ) → i < 1024 → i / 16 ≡ t → i % 16 < k + 1 → getD (set out (16 * t + k) (getD items k zeroCanister)) i zeroCanister ≡ getD items (i % 16) zeroCanister
-    own i h q l = go (ℕ-discrete i (16 * t + k))
-      where
-        go : Dec (i ≡ 16 * t + k) → getD (set out (16 * t + k) (getD items k zeroCanister)) i zeroCanister ≡ getD items (i % 16) zeroCanister
-        go (yes e) =
-            let r : k ≡ i % 16 = omega arith in
-            ap (λ (j : ℕ). getD (set out (16 * t + k) (getD items k zeroCanister)) j zeroCanister) e
-            ∙ getD-set-same out (16 * t + k) (getD items k zeroCanister) zeroCanister (omega (arith, p .0)) ∙ ap (λ (j : ℕ). getD items j zeroCanister) r
-        go (no e) = getD-set-other out (16 * t + k) i (getD items k zeroCanister) zeroCanister e ∙ p .1 .0 i h q (omega arith)
-
-    others : (i : ℕ) → i < 1024 → i / 16 ≢ t → getD (set out (16 * t + k) (getD items k zeroCanister)) i zeroCanister ≡ getD all i zeroCanister
-    others i h q = getD-set-other out (16 * t + k) i (getD items k zeroCanister) zeroCanister (λ e. absurd (omega arith)) ∙ p .1 .1 i h q
 
 -- ---- a tile of a well-formed floor
 module _ (f : Floor) (t : ℕ) (w : wellFormed f ≡ true) (on : t < total (f .settings)) where
@@ -70,26 +39,6 @@ module _ (f : Floor) (t : ℕ) (w : wellFormed f ≡ true) (on : t < total (f .s
 
   pub few-view : length (membersOf (view f) t) ≤ 16
   few-view = sound-small (view f) (well-sound f w) t
-
-  pub count-view : (h : Tile) → h ≡ head (tileOf (view f) t) → h .count ≤ 16
-  unfolding head
-  count-view h e = omega (arith, ap (λ (x : Tile). x .count) e, few-view)
-
-  -- a tile's head and its sixteen places, as the code has them
-  pub own-holds : (h : Tile) (items : List Canister) → h ≡ head (tileOf (view f) t) → items ≡ tab 16 (λ k. getD (membersOf (view f) t) k zeroCanister)
-      → Holds (record { count = h .count; items = items }) (membersOf (view f) t)
-  unfolding head
-  own-holds h items e q = (ap (λ (x : Tile). x .count) e, λ i k. ap (λ (l : List Canister). getD l i zeroCanister) q ∙ tab-at 16 (λ k. getD (membersOf (view f) t) k zeroCanister) i zeroCanister k)
-
-  pub own-list : (h : Tile) (items : List Canister) → h ≡ head (tileOf (view f) t) → items ≡ tab 16 (λ k. getD (membersOf (view f) t) k zeroCanister)
-      → take (h .count) items ≡ membersOf (view f) t
-  own-list h items e q =
-      holds-list (record { count = h .count; items = items }) (membersOf (view f) t)
-      (ap length q ∙ tab-length 16 (λ k. getD (membersOf (view f) t) k zeroCanister)) few-view (own-holds h items e q)
-
-  pub own-places : (h : Tile) (items : List Canister) → h ≡ head (tileOf (view f) t) → items ≡ tab 16 (λ k. getD (membersOf (view f) t) k zeroCanister)
-      → Places (take (h .count) items) items
-  own-places h items e q = rw (own-list h items e q) (own-holds h items e q .1)
 
   -- ---- one tile anew
   pub stopped-pack : (h : Tile) → h ≡ head (tileOf (view f) t)
@@ -113,31 +62,6 @@ module _ (f : Floor) (t : ℕ) (w : wellFormed f ≡ true) (on : t < total (f .s
     where
       put : Tile → Floor
       put x = record { settings = f .settings; counters = f .counters; tiles = set (f .tiles) t x; canisters = f .canisters }
-
-  pub booked-pack : (c : Canister) (h : Tile) (more : Members) (cs : List Canister)
-      → h ≡ head (tileOf (view f) t) → Holds more (insert c (membersOf (view f) t)) → Put t 16 (more .items) (f .canisters) cs
-      → _≡_ {A = Floor} (record {
-        settings = f .settings;
-        counters = record { last = c .number; booked = f .counters .booked + 1; delivered = f .counters .delivered };
-        tiles = set (f .tiles) t (record { running = h .running; distance = h .distance; next = h .next; token = h .token; count = more .count });
-        canisters = cs;
-      })
-      (pack (booked (view f) t c))
-  unfolding booked head view
-  booked-pack c h more cs e p q =
-      ap (λ (x : Tile). put (record { running = x .running; distance = x .distance; next = x .next; token = x .token; count = more .count })) e
-      ∙ ap (λ (n : ℕ). put (record { running = old .running; distance = old .distance; next = record { code = old .next }; token = record { code = old .token }; count = n })) (p .0)
-      ∙ pack-put f (well-few f w) (well-fits f w) anew t (withMembers old (insert c (old .members))) cs on (q .0)
-      (λ i k j. q .1 .0 i k j (omega arith) ∙ p .1 (i % 16) (omega arith)) (q .1 .1)
-    where
-      old : TileState
-      old = tileOf (view f) t
-
-      anew : Counters
-      anew = record { last = c .number; booked = f .counters .booked + 1; delivered = f .counters .delivered }
-
-      put : Tile → Floor
-      put x = record { settings = f .settings; counters = anew; tiles = set (f .tiles) t x; canisters = cs }
 
 -- ---- a fresh floor
 pub fresh-hopper : (s : Settings) (t : ℕ) → t ≡ s .hopper

@@ -2,16 +2,18 @@
 use mathlib.Core.Path.{_≡_, sym, ap, _∙_}
 use mathlib.Core.Logic.{_≢_}
 use mathlib.Core.Bool.{Bool, true, false, _&&_, true≢false}
-use Prim.Native.Nat.{ℕ, suc, _+_, _^_, _≤_, _<_}
+use mathlib.Core.List.{List}
+use Prim.Native.Nat.{ℕ, suc, _≤_, _<_}
 use native.Mathlib.Omega.{arith}
 use native.Mathlib.Decide.{decLe}
-use lib.Dec.{leb}
+use lib.Dec.{leb, eqb}
 use lib.ListN.{length}
 use borrow.Author.Tests.{le-leb, lt-leb, eq-eqb, ne-eqb, leb-false, not-false}
 use Rattle.laws.specs.Define.{allOf, bit, refusal}
 use Rattle.laws.specs.Every.{All}
 use Rattle.laws.specs.Tests.{refusal-none}
 use Rattle.floor.specs.declared.Canister.{Canister}
+use Rattle.floor.specs.declared.Settings.{Settings}
 use Rattle.floor.specs.declared.Tile.{Tile}
 use Rattle.floor.specs.declared.Floor.{Floor}
 use Rattle.floor.specs.Settings.{total, spacing, span, isHopper}
@@ -23,6 +25,7 @@ use Rattle.floor.proofs.Sound.{Inside}
 use Rattle.floor.proofs.Well.{inside-fact}
 use Rattle.floor.proofs.Pack.{well-sound}
 use Rattle.floor.proofs.Capacity.{full-refused, sound-small}
+use Rattle.changes.specs.Booking.{bookingTests}
 
 -- whether a tile runs, by the head that the code read
 module _ (f : Floor) (t : ℕ) (h : Tile) (e : h ≡ head (tileOf (view f) t)) where
@@ -35,13 +38,13 @@ module _ (f : Floor) (t : ℕ) (h : Tile) (e : h ≡ head (tileOf (view f) t)) w
   runs-no n = ne-eqb _ 1 (λ q. n (ap (λ (x : Tile). x .running) e ∙ q))
 
 -- whether a canister lies within, by the test that the code made
-pub within-no : (f : Floor) (c : Canister) → (leb (c .a) (span (f .settings)) && leb (c .b) (span (f .settings))) ≡ false → inside (f .settings) c ≡ false
+pub within-no : (s : Settings) (c : Canister) → (leb (c .a) (span s) && leb (c .b) (span s)) ≡ false → inside s c ≡ false
 unfolding inside
-within-no f c h = h
+within-no s c h = h
 
-pub within-yes : (f : Floor) (c : Canister) → (leb (c .a) (span (f .settings)) && leb (c .b) (span (f .settings))) ≡ true → inside (f .settings) c ≡ true
+pub within-yes : (s : Settings) (c : Canister) → (leb (c .a) (span s) && leb (c .b) (span s)) ≡ true → inside s c ≡ true
 unfolding inside
-within-yes f c h = h
+within-yes s c h = h
 
 -- ---- reading
 module _ (f : Floor) (t : ℕ) where
@@ -98,45 +101,57 @@ module _ (f : Floor) (t : ℕ) where
   unfolding stopTests view
   stop-on h = leb-false _ _ (refusal-none (stopTests (view f) t) (omega arith) h .0)
 
--- ---- booking
-module _ (f : Floor) (t : ℕ) (c : Canister) where
-  pub book-4 : total (f .settings) ≤ t → 4 ≡ refusal (bookTests (view f) t c)
-  unfolding bookTests refusal view
-  book-4 h = rw (le-leb (total (f .settings)) t h)
+-- ---- booking, by what the code read
+module _ (s : Settings) (last t : ℕ) (c : Canister) (running : ℕ) (l : List Canister) where
+  pub book-4 : total s ≤ t → 4 ≡ refusal (bookingTests s last t c running l)
+  unfolding bookingTests refusal
+  book-4 o = rw (le-leb (total s) t o)
 
-  module _ (on : t < total (f .settings)) where
-    pub book-5 : bit (f .settings .sources) t ≡ false → 5 ≡ refusal (bookTests (view f) t c)
-    unfolding bookTests refusal view
-    book-5 b = rw (lt-leb (total (f .settings)) t on, b)
+  module _ (on : t < total s) where
+    pub book-5 : bit (s .sources) t ≡ false → 5 ≡ refusal (bookingTests s last t c running l)
+    unfolding bookingTests refusal
+    book-5 b = rw (lt-leb (total s) t on, b)
 
-    module _ (b : bit (f .settings .sources) t ≡ true) where
-      pub book-6 : c .number ≡ 0 → 6 ≡ refusal (bookTests (view f) t c)
-      unfolding bookTests refusal view
-      book-6 z = rw (lt-leb (total (f .settings)) t on, b, eq-eqb (c .number) 0 z)
+    module _ (b : bit (s .sources) t ≡ true) where
+      pub book-6 : c .number ≡ 0 → 6 ≡ refusal (bookingTests s last t c running l)
+      unfolding bookingTests refusal
+      book-6 z = rw (lt-leb (total s) t on, b, eq-eqb (c .number) 0 z)
 
       module _ (z : c .number ≢ 0) where
-        pub book-7 : inside (f .settings) c ≡ false → 7 ≡ refusal (bookTests (view f) t c)
-        unfolding bookTests refusal view
-        book-7 i = rw (lt-leb (total (f .settings)) t on, b, ne-eqb (c .number) 0 z, i)
+        pub book-7 : inside s c ≡ false → 7 ≡ refusal (bookingTests s last t c running l)
+        unfolding bookingTests refusal
+        book-7 i = rw (lt-leb (total s) t on, b, ne-eqb (c .number) 0 z, i)
 
-        module _ (i : inside (f .settings) c ≡ true) (h : Tile) (e : h ≡ head (tileOf (view f) t)) where
-          pub book-31 : h .running ≢ 1 → 31 ≡ refusal (bookTests (view f) t c)
-          unfolding bookTests refusal view
-          book-31 r = rw (lt-leb (total (f .settings)) t on, b, ne-eqb (c .number) 0 z, i, runs-no f t h e r)
+        module _ (i : inside s c ≡ true) where
+          pub book-31 : eqb running 1 ≡ false → 31 ≡ refusal (bookingTests s last t c running l)
+          unfolding bookingTests refusal
+          book-31 r = rw (lt-leb (total s) t on, b, ne-eqb (c .number) 0 z, i, r)
 
-          module _ (r : h .running ≡ 1) where
-            pub book-33 : c .number ≤ f .counters .last → 33 ≡ refusal (bookTests (view f) t c)
-            unfolding bookTests refusal view
-            book-33 l = rw (lt-leb (total (f .settings)) t on, b, ne-eqb (c .number) 0 z, i, runs-yes f t h e r, le-leb (c .number) (f .counters .last) l)
+          module _ (r : eqb running 1 ≡ true) where
+            pub book-33 : leb (c .number) last ≡ true → 33 ≡ refusal (bookingTests s last t c running l)
+            unfolding bookingTests refusal
+            book-33 p = rw (lt-leb (total s) t on, b, ne-eqb (c .number) 0 z, i, r, p)
 
-            module _ (l : f .counters .last < c .number) where
-              pub book-34 : allOf (apart (spacing (f .settings)) c) (membersOf (view f) t) ≡ false → 34 ≡ refusal (bookTests (view f) t c)
-              unfolding bookTests refusal view
-              book-34 a = rw (lt-leb (total (f .settings)) t on, b, ne-eqb (c .number) 0 z, i, runs-yes f t h e r, lt-leb (c .number) (f .counters .last) l, a)
+            module _ (p : leb (c .number) last ≡ false) where
+              pub book-34 : allOf (apart (spacing s) c) l ≡ false → 34 ≡ refusal (bookingTests s last t c running l)
+              unfolding bookingTests refusal
+              book-34 a = rw (lt-leb (total s) t on, b, ne-eqb (c .number) 0 z, i, r, p, a)
 
-              pub book-0 : allOf (apart (spacing (f .settings)) c) (membersOf (view f) t) ≡ true → 0 ≡ refusal (bookTests (view f) t c)
-              unfolding bookTests refusal view
-              book-0 a = rw (lt-leb (total (f .settings)) t on, b, ne-eqb (c .number) 0 z, i, runs-yes f t h e r, lt-leb (c .number) (f .counters .last) l, a)
+              pub book-0 : allOf (apart (spacing s) c) l ≡ true → 0 ≡ refusal (bookingTests s last t c running l)
+              unfolding bookingTests refusal
+              book-0 a = rw (lt-leb (total s) t on, b, ne-eqb (c .number) 0 z, i, r, p, a)
+
+-- ---- booking on a floor
+module _ (f : Floor) (t : ℕ) (c : Canister) where
+  -- they are the floor's tests, where the tile has what the code read
+  pub book-same : (running : ℕ) (l : List Canister) → (t < total (f .settings) → (running ≡ tileOf (view f) t .running) × (l ≡ membersOf (view f) t))
+      → refusal (bookingTests (f .settings) (f .counters .last) t c running l) ≡ refusal (bookTests (view f) t c)
+  unfolding bookingTests bookTests refusal view
+  book-same running l own = go (decLe (suc t) (total (f .settings)))
+    where
+      go : Dec (t < total (f .settings)) → refusal (bookingTests (f .settings) (f .counters .last) t c running l) ≡ refusal (bookTests (view f) t c)
+      go (yes on) = rw (own on .0, own on .1)
+      go (no o) = let off : total (f .settings) ≤ t = omega arith in rw (le-leb (total (f .settings)) t off)
 
   -- accepted
   module _ (h : refusal (bookTests (view f) t c) ≡ 0) where
@@ -148,14 +163,14 @@ module _ (f : Floor) (t : ℕ) (c : Canister) where
     unfolding bookTests view
     book-on = leb-false _ _ (passed .0)
 
-    pub book-above : f .counters .last < c .number
+    book-above : f .counters .last < c .number
     unfolding bookTests view
     book-above = leb-false _ _ (passed .1 .1 .1 .1 .1 .0)
 
     -- the counter of bookings has room for one more
-    pub book-fits : wellFormed f ≡ true → c .number < 2 ^ 32 → f .counters .booked + 1 < 2 ^ 32
+    pub book-fits : wellFormed f ≡ true → f .counters .booked < c .number
     unfolding view
-    book-fits w n = omega (arith, well-sound f w .booked-last, book-above)
+    book-fits w = omega (arith, well-sound f w .booked-last, book-above)
 
     book-inside : Inside (f .settings) c
     unfolding bookTests view

@@ -8,8 +8,8 @@ ghost use Rattle.floor.specs.Settings.{total, spacing, settingsPass};
 ghost use Rattle.floor.specs.Model.{tileOf, membersOf, withTile};
 ghost use Rattle.floor.specs.Memory.{zeroCanister, view, head, pack};
 ghost use Rattle.floor.specs.Well.{apart, wellFormed};
-ghost use Rattle.floor.specs.Calls.{freshTile, freshFloor, bookTests, booked, stopTests, stopped, repairTests, repaired, readTests};
-ghost use Rattle.changes.specs.Places.{Put};
+ghost use Rattle.floor.specs.Calls.{freshTile, freshFloor, stopTests, stopped, repairTests, repaired, readTests};
+ghost use Rattle.changes.specs.Booking.{bookingTests, withCount, withBooking};
 use floor::Canister;
 use floor::Counters;
 use floor::Floor;
@@ -18,7 +18,6 @@ use floor::Settings;
 use floor::Side;
 use floor::Tile;
 use floor::zero_floor;
-use members::insert;
 use sets::has;
 use settings::tiles_of;
 
@@ -107,12 +106,11 @@ pub fn has_room(s: Settings, c: Canister, items: [Canister; 16], n: usize) -> bo
     ok
 }
 
-// The number that a booking on a well-formed floor is refused by, 0 where it is accepted.
-pub fn book_refusal(floor: Floor, tile: u32, canister: Canister) -> u8
-    requires { ⌜ wellFormed floor ≡ true ⌝ }
-    ensures { λ r. ⌜ r ≡ refusal (bookTests (view floor) tile canister) ⌝ }
+// The number that a booking is refused by, 0 where it is accepted: by the settings, the last number, and what the tile has.
+pub fn book_refusal(s: Settings, last: u32, tile: u32, c: Canister, running: u8, own: Members) -> u8
+    requires { ⌜ (total s ≤ 64) × (s .length ≤ s .width) × (tile < total s → own .count ≤ 16) ⌝ }
+    ensures { λ r. ⌜ r ≡ refusal (bookingTests s last tile c running (take (own .count) (own .items))) ⌝ }
 {
-    let s = floor.settings;
     let all = tiles_of(s);
     let off = all <= tile as usize;
     let fill = has(s.sources, (tile % 64) as u8);
@@ -122,78 +120,55 @@ pub fn book_refusal(floor: Floor, tile: u32, canister: Canister) -> u8
     if !fill {
         return 5;
     }
-    if canister.number == 0 {
+    if c.number == 0 {
         return 6;
     }
     let span = s.width - s.length;
-    let within = (canister.a <= span) & (canister.b <= span);
+    let within = (c.a <= span) & (c.b <= span);
     if !within {
         return 7;
     }
-    let old = tile_head(floor, tile);
-    let idle = old.running != 1;
-    let past = canister.number <= floor.counters.last;
+    let idle = running != 1;
+    let past = c.number <= last;
     if idle {
         return 31;
     }
     if past {
         return 33;
     }
-    let items = tile_members(floor, tile);
-    let room = has_room(s, canister, items, old.count as usize);
+    let items = own.items;
+    let room = has_room(s, c, items, own.count as usize);
     if !room {
         return 34;
     }
     0
 }
 
-// The places of all tiles with these sixteen for tile t.
-pub fn put_members(all: [Canister; 1024], t: usize, items: [Canister; 16]) -> [Canister; 1024]
-    requires { ⌜ t < 64 ⌝ }
-    ensures { λ r. ⌜ Put t 16 items all r ⌝ }
+// A tile's head with another count.
+pub fn with_count(old: Tile, n: u8) -> Tile
+    ensures { λ r. ⌜ r ≡ withCount old n ⌝ }
 {
-    let mut out = all;
-    for k in 0usize..16 {
-        out[16 * t + k] = items[k];
-    }
-    out
-}
-
-// The floor after an accepted booking.
-pub fn booked_floor(floor: Floor, tile: u32, canister: Canister) -> Floor
-    requires { ⌜ (wellFormed floor ≡ true) × (refusal (bookTests (view floor) tile canister) ≡ 0) ⌝ }
-    ensures { λ r. ⌜ r ≡ pack (booked (view floor) tile canister) ⌝ }
-{
-    let t = tile as usize;
-    let old = tile_head(floor, tile);
-    let items = tile_members(floor, tile);
-    let own = Members {
-        count: old.count,
-        items: items,
-    };
-    let more = insert(own, canister);
-    let places = more.items;
-    let all = floor.canisters;
-    let canisters = put_members(all, t, places);
     let next = old.next;
     let token = old.token;
-    let counters = floor.counters;
-    let anew = Counters {
-        last: canister.number,
-        booked: counters.booked + 1,
-        delivered: counters.delivered,
-    };
-    let mut after = floor;
-    after.counters = anew;
-    after.tiles[t] = Tile {
+    Tile {
         running: old.running,
         distance: old.distance,
         next: next,
         token: token,
-        count: more.count,
-    };
-    after.canisters = canisters;
-    after
+        count: n,
+    }
+}
+
+// The counters after a booking.
+pub fn with_booking(counters: Counters, number: u32) -> Counters
+    requires { ⌜ counters .booked < number ⌝ }
+    ensures { λ r. ⌜ r ≡ withBooking counters number ⌝ }
+{
+    Counters {
+        last: number,
+        booked: counters.booked + 1,
+        delivered: counters.delivered,
+    }
 }
 
 // The number that a stop is refused by.
