@@ -27,7 +27,7 @@ use floor::zero_floor;
 use members::insert;
 use motion::move_floor;
 use settings::settings_refusal;
-use signal::route_and_signal;
+use signal::turned;
 use soundness::well_formed;
 
 // A fresh floor; refused, the all-zero floor.
@@ -204,10 +204,10 @@ pub fn round(floor: Floor) -> Rounded
             report: report,
         };
     }
-    let signalled = route_and_signal(floor);
-    let ready = signalled.floor;
-    let grants = signalled.grants;
-    let moved = move_floor(ready, grants);
+    let next = turned(floor);
+    let tiles = next.tiles;
+    let grants = next.grants;
+    let moved = move_floor(floor, tiles, grants);
     let after = moved.floor;
     let count = moved.count;
     let delivered = moved.delivered;

@@ -1,14 +1,11 @@
 // Route, the first step of a round: "Distance = 1 + the least old distance among the neighbours".
 
 ghost use mathlib.Core.Path.{_≡_};
-ghost use mathlib.Core.Bool.{true};
 ghost use Prim.Native.Nat.{_≤_};
 ghost use Rattle.laws.specs.Tables.{Upto};
-ghost use Rattle.floor.specs.Settings.{total, settingsPass};
-ghost use Rattle.floor.specs.Memory.{view, pack, fits};
+ghost use Rattle.floor.specs.Settings.{total};
 ghost use Rattle.floor.specs.Route as R;
 ghost use Rattle.route.specs.Routed.{Ranged, Redone, within, distanceIn, routedTile, routedAt};
-use floor::Floor;
 use floor::Heading;
 use floor::Settings;
 use floor::Side;
@@ -117,18 +114,5 @@ pub fn route_pass(s: Settings, tiles: [Tile; 64]) -> [Tile; 64]
         let east = d[Side::EAST.neighbour(s, t)];
         out[t] = route_tile(s, t, tiles[t], west, south, north, east);
     }
-    out
-}
-
-// The whole floor's first step.
-pub fn route_floor(f: Floor) -> Floor
-    requires { ⌜ (settingsPass (f .settings) ≡ true) × (fits f ≡ true) ⌝ }
-    ensures { λ r. ⌜ r ≡ pack (R.route (view f)) ⌝ }
-{
-    let s = f.settings;
-    let tiles = f.tiles;
-    let next = route_pass(s, tiles);
-    let mut out = f;
-    out.tiles = next;
     out
 }

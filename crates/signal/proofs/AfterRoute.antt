@@ -19,8 +19,7 @@ use Rattle.floor.proofs.Rows.{view-settings}
 use Rattle.floor.proofs.Pack.{state-packed, view-pack, fits-pack, well-sound, well-few, well-settings}
 use Rattle.floor.proofs.Capacity.{sound-small}
 use Rattle.route.proofs.RouteFloor.{route-settings, route-length, route-token, route-members}
-use Rattle.signal.specs.declared.Signalled.{Signalled}
-use Rattle.signal.specs.Signalling.{Ready, signalledOf}
+use Rattle.signal.specs.Signalling.{Ready}
 use Rattle.signal.proofs.SignalFloor.{signal-settings, signal-length, signal-members}
 
 -- a turn that is none or faces a tile is one of the numbers up to 4
@@ -63,8 +62,8 @@ module _ (f : Floor) (w : wellFormed f ≡ true) where
   unfolding pack build
   signal-asks g e = rw e (rw kept (well-settings f w), fits-pack m len few small, ready)
 
-  pub after-route : {r : Signalled} (g : Floor) → g ≡ pack m → r ≡ signalledOf (view g) → r ≡ signalledOf m
-  after-route g e q = q ∙ ap (λ (x : Floor). signalledOf (view x)) e ∙ ap signalledOf (view-pack m len few small)
+  pub after-route : (g : Floor) → g ≡ pack m → view g ≡ m
+  after-route g e = ap view e ∙ view-pack m len few small
 
   -- ---- the floor after both steps is read back too; for the step that follows
   abbrev last : Model

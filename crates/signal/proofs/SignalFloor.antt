@@ -22,8 +22,7 @@ use Rattle.floor.proofs.Rows.{view-at}
 use Rattle.floor.proofs.Pack.{few-on, head-state, pack-heads}
 use Rattle.route.specs.Routed.{Redone, within}
 use Rattle.route.proofs.Passes.{within-view, head-view, tile-off}
-use Rattle.signal.specs.declared.Signalled.{Signalled}
-use Rattle.signal.specs.Signalling.{Granted, shownIn, signalFrom, signalAt, tokened, tileAt, grantAt, signalledOf}
+use Rattle.signal.specs.Signalling.{Granted, shownIn, signalFrom, signalAt, tokened, tileAt, grantAt, retiled}
 
 head-token : (x : TileState) (k : ℕ) → tokened (head x) k ≡ head (withToken x k)
 unfolding tokened head
@@ -60,7 +59,7 @@ module _ (f : Floor) (few : total (f .settings) ≤ 64) (ok : fits f ≡ true) w
   same t h = ap (λ (x : TileState). x .members) (view-at f t noTile h)
 
   tiles-view : (ts : List Tile) → Redone (total (f .settings)) (tileAt (f .settings) (f .tiles) (f .canisters)) (f .tiles) ts
-      → _≡_ {A = Floor} (record { settings = f .settings; counters = f .counters; tiles = ts; canisters = f .canisters }) (pack (signal (view f)))
+      → retiled f ts ≡ pack (signal (view f))
   unfolding signal view
   tiles-view ts r = pack-heads f few ok (turned (view f)) ts (r .0) same (λ t k h. r .1 t h ∙ tile-view t h) (λ t k h. r .2 t h)
 
@@ -79,12 +78,8 @@ module _ (f : Floor) (few : total (f .settings) ≤ 64) (ok : fits f ≡ true) w
 
   pub signal-pack : (ts : List Tile) (gs : List ℕ) → Redone (total (f .settings)) (tileAt (f .settings) (f .tiles) (f .canisters)) (f .tiles) ts
       → Granted (total (f .settings)) (grantAt (f .settings) (f .tiles) (f .canisters)) gs
-      → _≡_ {A = Signalled} (record { floor = record { settings = f .settings; counters = f .counters; tiles = ts; canisters = f .canisters }; grants = gs }) (signalledOf (view f))
-  unfolding signalledOf
-  signal-pack ts gs r q = ap (λ (x : Floor). both x gs) (tiles-view ts r) ∙ ap (both (pack (signal (view f)))) (grants-view gs q)
-    where
-      both : Floor → List ℕ → Signalled
-      both x g = record { floor = x; grants = g }
+      → (retiled f ts ≡ pack (signal (view f))) × (gs ≡ tab 64 (grantOf (view f)))
+  signal-pack ts gs r q = (tiles-view ts r, grants-view gs q)
 
 -- ---- a value after Signal: all but the tokens is the old
 module _ (m : Model) where

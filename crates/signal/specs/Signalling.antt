@@ -4,19 +4,17 @@ use mathlib.Core.List.{List}
 use Prim.Native.Nat.{ℕ, _≤_, _<_}
 use lib.Dec.{eqb}
 use lib.ListN.{length, getD, take}
-use Rattle.laws.specs.Define.{tab}
 use Rattle.laws.specs.Tables.{Upto, From}
 use Rattle.floor.specs.declared.Canister.{Canister}
 use Rattle.floor.specs.declared.Settings.{Settings}
 use Rattle.floor.specs.declared.Tile.{Tile}
+use Rattle.floor.specs.declared.Floor.{Floor}
 use Rattle.floor.specs.declared.Signal.{Signal}
 use Rattle.floor.specs.Settings.{total}
 use Rattle.floor.specs.Grid.{around}
-use Rattle.floor.specs.Model.{Model}
-use Rattle.floor.specs.Memory.{zeroTile, block, pack}
-use Rattle.floor.specs.Signal.{shownNext, requests, signalBy, signal, grantOf}
+use Rattle.floor.specs.Memory.{zeroTile, block}
+use Rattle.floor.specs.Signal.{shownNext, requests, signalBy}
 use Rattle.route.specs.Routed.{within}
-use Rattle.signal.specs.declared.Signalled.{Signalled}
 
 -- every token is a side or none
 abbrev pub Ready : Settings → List Tile → Type 0
@@ -53,6 +51,6 @@ tileAt s ts cs t = tokened (getD ts t zeroTile) (signalAt s ts cs t .token)
 unfoldable pub grantAt : Settings → List Tile → List Canister → ℕ → ℕ
 grantAt s ts cs t = signalAt s ts cs t .grant
 
--- what Signal gives of a floor: the floor with its new turns, and every tile's grant
-unfoldable pub signalledOf : Model → Signalled
-signalledOf m = record { floor = pack (signal m); grants = tab 64 (grantOf m) }
+-- the floor in memory with other tiles
+abbrev pub retiled : Floor → List Tile → Floor
+retiled f ts = record { settings = f .settings; counters = f .counters; tiles = ts; canisters = f .canisters }

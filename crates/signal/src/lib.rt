@@ -4,17 +4,18 @@ ghost use mathlib.Core.Path.{_≡_};
 ghost use mathlib.Core.Bool.{true, cond};
 ghost use Prim.Native.Nat.{_≤_, _<_};
 ghost use lib.ListN.{take};
+ghost use Rattle.laws.specs.Define.{tab};
 ghost use Rattle.laws.specs.Tables.{Upto};
 ghost use Rattle.floor.specs.Sides as S;
 ghost use Rattle.floor.specs.Sides.{inSet};
-ghost use Rattle.floor.specs.Settings.{total, settingsPass};
-ghost use Rattle.floor.specs.Memory.{view, fits};
+ghost use Rattle.floor.specs.Settings.{total};
+ghost use Rattle.floor.specs.Memory.{view, pack};
 ghost use Rattle.floor.specs.Well.{wellFormed};
 ghost use Rattle.floor.specs.Route as R;
 ghost use Rattle.floor.specs.Signal as G;
 ghost use Rattle.floor.specs.Signal.{requests, shownNext, hasGap};
 ghost use Rattle.route.specs.Routed.{Ranged, Redone, within};
-ghost use Rattle.signal.specs.Signalling.{Ready, Roomy, Granted, shownIn, signalFrom, tokened, tileAt, grantAt, signalledOf};
+ghost use Rattle.signal.specs.Signalling.{Ready, Roomy, Granted, shownIn, signalFrom, tokened, tileAt, grantAt, retiled};
 use floor::Canister;
 use floor::Floor;
 use floor::Members;
@@ -22,17 +23,11 @@ use floor::Settings;
 use floor::Side;
 use floor::Signal;
 use floor::Tile;
-use route::route_floor;
+use route::route_pass;
 
 // The tiles with their new tokens, and every tile's grant.
 pub struct Signals {
     pub tiles: [Tile; 64],
-    pub grants: [u8; 64],
-}
-
-// A floor after Signal, and every tile's grant.
-pub struct Signalled {
-    pub floor: Floor,
     pub grants: [u8; 64],
 }
 
@@ -211,30 +206,14 @@ pub fn signal_pass(s: Settings, tiles: [Tile; 64], canisters: [Canister; 1024]) 
     }
 }
 
-// The whole floor's second step. It asks that the floor fits its memory and each turn is a side, not that it is well formed: so it can go on from Route.
-pub fn signal_floor(f: Floor) -> Signalled
-    requires { ⌜ (settingsPass (f .settings) ≡ true) × (fits f ≡ true) × Ready (f .settings) (f .tiles) ⌝ }
-    ensures { λ r. ⌜ r ≡ signalledOf (view f) ⌝ }
+// Route, then Signal: what they give of a floor, whose canisters stay.
+pub fn turned(f: Floor) -> Signals
+    requires { ⌜ wellFormed f ≡ true ⌝ }
+    ensures { λ r. ⌜ (retiled f (r .tiles) ≡ pack (G.signal (R.route (view f)))) × (r .grants ≡ tab 64 (G.grantOf (R.route (view f)))) ⌝ }
 {
     let s = f.settings;
     let tiles = f.tiles;
     let canisters = f.canisters;
-    let next = signal_pass(s, tiles, canisters);
-    let mut out = f;
-    let turned = next.tiles;
-    out.tiles = turned;
-    let grants = next.grants;
-    Signalled {
-        floor: out,
-        grants: grants,
-    }
-}
-
-// Route, then Signal.
-pub fn route_and_signal(f: Floor) -> Signalled
-    requires { ⌜ wellFormed f ≡ true ⌝ }
-    ensures { λ r. ⌜ r ≡ signalledOf (R.route (view f)) ⌝ }
-{
-    let next = route_floor(f);
-    signal_floor(next)
+    let routed = route_pass(s, tiles);
+    signal_pass(s, routed, canisters)
 }

@@ -8,7 +8,7 @@ use Rattle.calls.proofs.round.Reads as reads
 use Rattle.calls.proofs.round.Lts as lts
 use Rattle.calls.proofs.no_report.Reads as no-report-reads
 use Rattle.motion.proofs.move_floor.Reads as move-floor-reads
-use Rattle.signal.proofs.route_and_signal.Reads as route-and-signal-reads
+use Rattle.signal.proofs.turned.Reads as turned-reads
 use Rattle.soundness.proofs.well_formed.Reads as well-formed-reads
 
 well-formed-requires : tie.Need-well-formed-requires
@@ -23,21 +23,21 @@ returns c = let g = c .before .before .before .args in
     let r = c .no-report in
     round-refused g.floor (r .result) w (r .ensures)
 
-route-and-signal-requires : tie.Need-route-and-signal-requires
-route-and-signal-requires c κs = sym (c .before .well-formed .ensures) ∙ not-false _ (c .if1 .left)
+turned-requires : tie.Need-turned-requires
+turned-requires c κs = sym (c .before .well-formed .ensures) ∙ not-false _ (c .if1 .left)
 
 move-floor-requires : tie.Need-move-floor-requires
 move-floor-requires c κs = let g = c .before .before .before .before .before .args in
     let w = sym (c .before .before .before .before .well-formed .ensures) ∙ not-false _ (c .before .before .before .if1 .left) in
-    let x = c .before .before .route-and-signal in
-    move-asks g.floor w (x .result) (x .ensures)
+    let x = c .before .before .turned in
+    move-asks g.floor w (x .result .tiles) (x .result .grants) (x .ensures .0) (x .ensures .1)
 
 returns-2 : tie.Need-returns-2
 returns-2 c = let g = c .before .before .before .before .before .before .before .before .args in
     let w = sym (c .before .before .before .before .before .before .before .well-formed .ensures) ∙ not-false _ (c .before .before .before .before .before .before .if1 .left) in
-    let x = c .before .before .before .before .before .route-and-signal in
+    let x = c .before .before .before .before .before .turned in
     let y = c .before .before .move-floor in
-    round-accepted g.floor w (x .result) (y .result .floor) (y .result .count) (y .result .delivered) (x .ensures) (y .ensures .0) (y .ensures .1) (y .ensures .2)
+    round-accepted g.floor w (x .result .tiles) (x .result .grants) (x .ensures .0) (x .ensures .1) (y .result .floor) (y .result .count) (y .result .delivered) (y .ensures .0) (y .ensures .1) (y .ensures .2)
 
 pub round-spec : {M : Type 1} → statement M
 round-spec =
@@ -46,6 +46,6 @@ round-spec =
     well-formed-requires
     no-report-requires
     returns
-    route-and-signal-requires
+    turned-requires
     move-floor-requires
     returns-2)

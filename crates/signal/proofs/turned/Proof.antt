@@ -1,0 +1,47 @@
+use mathlib.Core.Path.{_≡_, ap, _∙_}
+use Rattle.laws.specs.Define.{tab}
+use Rattle.floor.specs.Model.{Model}
+use Rattle.floor.specs.Memory.{view, pack}
+use Rattle.floor.specs.Route.{route}
+use Rattle.floor.specs.Signal.{signal, grantOf}
+use Rattle.floor.proofs.Pack.{well-settings, well-fits, few-on}
+use Rattle.route.proofs.Passes.{ranged}
+use Rattle.route.proofs.RouteFloor.{route-pack}
+use Rattle.signal.specs.Signalling.{retiled}
+use Rattle.signal.proofs.SignalFloor.{signal-pack}
+use Rattle.signal.proofs.AfterRoute.{signal-asks, after-route}
+use Rattle.signal.proofs.turned.Statement.{statement}
+use Rattle.signal.proofs.turned.Tie as tie
+use Rattle.signal.proofs.turned.Reads as reads
+use Rattle.signal.proofs.turned.Lts as lts
+use Rattle.route.proofs.route_pass.Reads as route-pass-reads
+use Rattle.signal.proofs.signal_pass.Reads as signal-pass-reads
+
+route-pass-requires : tie.Need-route-pass-requires
+route-pass-requires c κs = let s = c .before .before .before in ranged (s .args .f .settings) (well-settings (s .args .f) (s .pre))
+
+signal-pass-requires : tie.Need-signal-pass-requires
+signal-pass-requires c κs =
+    let s = c .before .before .before .before in
+    let f = s .args .f in
+    let r = ranged (f .settings) (well-settings f (s .pre)) in
+    let g = retiled f (c .route-pass .result) in
+    let e = route-pack f (r .2) (well-fits f (s .pre)) (c .route-pass .result) (c .route-pass .ensures) in
+    let asks = signal-asks f (s .pre) g e in
+    (r, asks .2, few-on g (r .2) (asks .1))
+
+returns : tie.Need-returns
+returns c =
+    let s = c .before .before .before .before .before in
+    let f = s .args .f in
+    let few = ranged (f .settings) (well-settings f (s .pre)) .2 in
+    let p = c .before .route-pass in
+    let g = retiled f (p .result) in
+    let e = route-pack f few (well-fits f (s .pre)) (p .result) (p .ensures) in
+    let n = c .signal-pass in
+    let both = signal-pack g few (signal-asks f (s .pre) g e .1) (n .result .tiles) (n .result .grants) (n .ensures .0) (n .ensures .1) in
+    let q : view g ≡ route (view f) = after-route f (s .pre) g e in
+    (both .0 ∙ ap (λ (x : Model). pack (signal x)) q, both .1 ∙ ap (λ (x : Model). tab 64 (grantOf x)) q)
+
+pub turned-spec : {M : Type 1} → statement M
+turned-spec = tie.close (tie.spec route-pass-requires signal-pass-requires returns)
