@@ -7,7 +7,7 @@
 
    What the caller owes: a pointer to `length` bytes that stay valid and that nobody else writes during the call (any
    pointer but NULL where length is 0); for ceromby_write nobody else reads them either. A floor takes 8,552 bytes, and a
-   call up to STACKKB KB of stack. */
+   call about 100 KB of stack. */
 
 #ifndef CEROMBY_H
 #define CEROMBY_H
