@@ -4,8 +4,6 @@ mod typed;
 ghost use Prim.Native.Nat.{_≤_};
 ghost use lib.ListN.{length};
 use libc::STDIN_FILENO;
-use prompt::parse;
-use prompt::say;
 use typed::Session;
 
 // A session, and the place of the first byte not yet obeyed.

@@ -2,9 +2,7 @@
 use floor::Canister;
 use floor::Floor;
 use floor::Settings;
-use prompt::parse;
-use prompt::parse::Sources;
-use prompt::say;
+use parse::Sources;
 
 // The floor, how many lines were read, how many rounds it went, whether to go on.
 pub struct Session {
@@ -89,13 +87,7 @@ fn fresh(s: Session, line: &[u8]) -> Session {
         say::refused(b"fresh", answer.refusal);
         return s;
     }
-    say::text(b"fresh: ");
-    say::small(a.at[0]);
-    say::text(b" x ");
-    say::small(a.at[1]);
-    say::text(b" tiles, hopper ");
-    say::small(a.at[2]);
-    say::text(b"\n");
+    say::made(a.at[0], a.at[1], a.at[2]);
     let mut next = s;
     let made = answer.floor;
     next.floor = made;
@@ -119,11 +111,7 @@ fn book(s: Session, line: &[u8]) -> Session {
         say::refused(b"book", answer.refusal);
         return s;
     }
-    say::text(b"book: ");
-    say::canister(c);
-    say::text(b" on tile ");
-    say::small(n.at[0]);
-    say::text(b"\n");
+    say::booked(c, n.at[0]);
     let mut next = s;
     let booked = answer.floor;
     next.floor = booked;
@@ -141,9 +129,7 @@ fn stop(s: Session, line: &[u8]) -> Session {
         say::refused(b"stop", answer.refusal);
         return s;
     }
-    say::text(b"stop: tile ");
-    say::small(n.at[0]);
-    say::text(b" stopped\n");
+    say::stopped(n.at[0]);
     let mut next = s;
     let stopped = answer.floor;
     next.floor = stopped;
@@ -161,9 +147,7 @@ fn repair(s: Session, line: &[u8]) -> Session {
         say::refused(b"repair", answer.refusal);
         return s;
     }
-    say::text(b"repair: tile ");
-    say::small(n.at[0]);
-    say::text(b" running\n");
+    say::repaired(n.at[0]);
     let mut next = s;
     let repaired = answer.floor;
     next.floor = repaired;
@@ -230,11 +214,7 @@ fn go(s: Session, n: u32) -> Session {
         }
         k += 1;
     }
-    say::text(b"rounds: ");
-    say::small(n);
-    say::text(b" done, now at round ");
-    say::number(next.rounds);
-    say::text(b"\n");
+    say::rounds(n, next.rounds);
     next
 }
 
@@ -264,12 +244,7 @@ fn read(s: Session, line: &[u8]) -> Session {
     }
     let t = answer.tile;
     let members = answer.members;
-    say::text(b"read: tile ");
-    say::small(n.at[0]);
-    say::text(b" ");
-    say::tile(t);
-    say::canisters(t.count, members);
-    say::text(b"\n");
+    say::reading(n.at[0], t, members);
     s
 }
 
@@ -310,15 +285,7 @@ fn show(s: Session, line: &[u8]) -> Session {
         return s;
     }
     let counters = floor.counters;
-    say::text(b"show: last ");
-    say::small(counters.last);
-    say::text(b", booked ");
-    say::small(counters.booked);
-    say::text(b", delivered ");
-    say::small(counters.delivered);
-    say::text(b", round ");
-    say::number(s.rounds);
-    say::text(b"\n");
+    say::counters(counters, s.rounds);
     let settings = floor.settings;
     show_rows(floor, settings.columns, settings.rows);
     s

@@ -6,18 +6,16 @@ use Rattle.console.proofs.typed.go.Statement.{statement}
 use Rattle.console.proofs.typed.go.Tie as tie
 use Rattle.console.proofs.typed.go.Reads as reads
 use Rattle.console.proofs.typed.go.Lts as lts
-use Rattle.prompt.proofs.say.delivered.Reads as delivered-reads
-use Rattle.prompt.proofs.say.number.Reads as number-reads
-use Rattle.prompt.proofs.say.refused.Reads as refused-reads
-use Rattle.prompt.proofs.say.small.Reads as small-reads
-use Rattle.prompt.proofs.say.text.Reads as text-reads
+use Rattle.say.proofs.delivered.Reads as delivered-reads
+use Rattle.say.proofs.refused.Reads as refused-reads
+use Rattle.say.proofs.rounds.Reads as rounds-reads
 use Rattle.console.proofs.typed.step.Reads as step-reads
 
 abbrev Inv-loop : tie.InvT-loop
-Inv-loop n next₀ k₀ t8 t9 t10 t11 next k = k ≤ n
+Inv-loop n next₀ k₀ t8 next k = k ≤ n
 
 abbrev μ-loop : tie.MeasureT-loop
-μ-loop n next₀ k₀ t8 t9 t10 t11 next k = n - k
+μ-loop n next₀ k₀ t8 next k = n - k
 
 loop-holds : tie.Need-loop-holds Inv-loop μ-loop
 loop-holds c = search needs
@@ -46,29 +44,8 @@ loop-less c = search needs
 loop-again : tie.Need-loop-again Inv-loop μ-loop
 loop-again c = search needs
 
-slice-aggregate-text : tie.Need-slice-aggregate-text Inv-loop μ-loop
-slice-aggregate-text c = search needs
-
-text-requires : tie.Need-text-requires Inv-loop μ-loop
-text-requires c κs = search needs
-
-small-requires : tie.Need-small-requires Inv-loop μ-loop
-small-requires c κs = search needs
-
-slice-aggregate-text-2 : tie.Need-slice-aggregate-text-2 Inv-loop μ-loop
-slice-aggregate-text-2 c = search needs
-
-text-requires-2 : tie.Need-text-requires-2 Inv-loop μ-loop
-text-requires-2 c κs = search needs
-
-number-requires : tie.Need-number-requires Inv-loop μ-loop
-number-requires c κs = search needs
-
-slice-aggregate-text-3 : tie.Need-slice-aggregate-text-3 Inv-loop μ-loop
-slice-aggregate-text-3 c = search needs
-
-text-requires-3 : tie.Need-text-requires-3 Inv-loop μ-loop
-text-requires-3 c κs = search needs
+rounds-requires : tie.Need-rounds-requires Inv-loop μ-loop
+rounds-requires c κs = search needs
 
 returns-2 : tie.Need-returns-2 Inv-loop μ-loop
 returns-2 c = search needs
@@ -88,12 +65,5 @@ go-spec =
     add-k
     loop-less
     loop-again
-    slice-aggregate-text
-    text-requires
-    small-requires
-    slice-aggregate-text-2
-    text-requires-2
-    number-requires
-    slice-aggregate-text-3
-    text-requires-3
+    rounds-requires
     returns-2)

@@ -7,9 +7,9 @@ use Rattle.console.proofs.typed.show_row.Tie as tie
 use Rattle.console.proofs.typed.show_row.Reads as reads
 use Rattle.console.proofs.typed.show_row.Lts as lts
 use Rattle.calls.proofs.read.Reads as read-reads
-use Rattle.prompt.proofs.parse.byte.Reads as byte-reads
-use Rattle.prompt.proofs.say.cell.Reads as cell-reads
-use Rattle.prompt.proofs.say.text.Reads as text-reads
+use Rattle.parse.proofs.byte.Reads as byte-reads
+use Rattle.say.proofs.cell.Reads as cell-reads
+use Rattle.say.proofs.text.Reads as text-reads
 
 abbrev Inv-loop : tie.InvT-loop
 Inv-loop floor columns rows row at₀ column₀ t9 t10 at column = (column ≤ columns) × (at ≤ 255 * column + 255)

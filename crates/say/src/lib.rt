@@ -1,0 +1,256 @@
+// What the console writes: answers in plain words.
+ghost use Prim.Native.Nat.{_≤_};
+use floor::Canister;
+use floor::Counters;
+use floor::Tile;
+use libc::STDOUT_FILENO;
+
+pub fn text(s: &[u8]) {
+    io::write_all(STDOUT_FILENO, s);
+}
+
+pub fn number(n: u64) {
+    io::print_decimal(STDOUT_FILENO, n);
+}
+
+pub fn small(n: u32) {
+    number(n as u64);
+}
+
+fn at_most(x: usize, most: usize) -> usize
+    ensures { λ r. ⌜ (r ≤ x) × (r ≤ most) ⌝ }
+{
+    if x < most { x } else { most }
+}
+
+// A number below a hundred, in two columns.
+pub fn two(n: u8) {
+    if n < 10 {
+        text(b" ");
+    }
+    number(n as u64);
+}
+
+pub fn side(code: u8) {
+    match code {
+        1 => text(b"W"),
+        2 => text(b"S"),
+        3 => text(b"N"),
+        4 => text(b"E"),
+        _ => text(b"-"),
+    }
+}
+
+// Document 01's refusals in a few words.
+fn meaning(n: u8) {
+    match n {
+        1 => text(b"W or H outside 1 to 8, or a single tile"),
+        2 => text(b"hopper not on the floor, or a fill tile that is the hopper or no tile"),
+        3 => text(b"a measure breaks the rules"),
+        4 => text(b"tile not on the floor"),
+        5 => text(b"not a fill tile"),
+        6 => text(b"canister number 0"),
+        7 => text(b"a or b above U - l"),
+        8 => text(b"the hopper can't be stopped"),
+        30 => text(b"the floor isn't well formed"),
+        31 => text(b"the tile is stopped"),
+        32 => text(b"the tile is running"),
+        33 => text(b"number not above the last booked"),
+        34 => text(b"too near a canister of the tile"),
+        _ => text(b"unknown"),
+    }
+}
+
+pub fn refused(name: &[u8], n: u8) {
+    text(name);
+    text(b": refused ");
+    number(n as u64);
+    text(b": ");
+    meaning(n);
+    text(b"\n");
+}
+
+// A byte as it can be shown on a terminal.
+fn shown(b: u8) -> u8 {
+    if b < 32 || 126 < b { b'?' } else { b }
+}
+
+// A line that can't be read, with its number.
+pub fn unreadable(at: u64, line: &[u8]) {
+    text(b"line ");
+    number(at);
+    text(b": cannot read: ");
+    let mut copy = [b' '; 400];
+    let n = at_most(line.len(), 400);
+    let mut i = 0;
+    while i < n {
+        copy[i] = shown(line[i]);
+        i += 1;
+    }
+    text(&copy[..n]);
+    text(b"\n");
+}
+
+pub fn too_long(at: u64) {
+    text(b"line ");
+    number(at);
+    text(b": cannot read: over 400 bytes\n");
+}
+
+// The numbers that a round delivered.
+pub fn delivered(at: u64, count: u8, numbers: [u32; 4]) {
+    text(b"round ");
+    number(at);
+    text(b": delivered");
+    if count == 0 {
+        text(b" none");
+    }
+    let n = at_most(count as usize, 4);
+    let mut k: usize = 0;
+    while k < n {
+        text(b" ");
+        small(numbers[k]);
+        k += 1;
+    }
+    text(b"\n");
+}
+
+fn distance(n: u8) {
+    if n == 255 {
+        text(b"--");
+    } else {
+        number(n as u64);
+    }
+}
+
+// A canister: its number and its place.
+pub fn canister(c: Canister) {
+    number(c.number as u64);
+    text(b" at (");
+    number(c.a as u64);
+    text(b", ");
+    number(c.b as u64);
+    text(b")");
+}
+
+// The canisters of a tile.
+pub fn canisters(count: u8, members: [Canister; 16]) {
+    let n = at_most(count as usize, 16);
+    let mut k: usize = 0;
+    while k < n {
+        text(b", ");
+        canister(members[k]);
+        k += 1;
+    }
+}
+
+// A tile as `read` tells it, without its canisters.
+pub fn tile(t: Tile) {
+    if t.running == 0 {
+        text(b"stopped, ");
+    } else {
+        text(b"running, distance ");
+        distance(t.distance);
+        text(b", arrow ");
+        side(t.next.code);
+        text(b", turn ");
+        side(t.token.code);
+        text(b", ");
+    }
+    number(t.count as u64);
+    if t.count == 1 {
+        text(b" canister");
+    } else {
+        text(b" canisters");
+    }
+}
+
+// A tile with its canisters.
+pub fn reading(at: u32, t: Tile, members: [Canister; 16]) {
+    text(b"read: tile ");
+    small(at);
+    text(b" ");
+    tile(t);
+    canisters(t.count, members);
+    text(b"\n");
+}
+
+// A fresh floor.
+pub fn made(columns: u32, rows: u32, hopper: u32) {
+    text(b"fresh: ");
+    small(columns);
+    text(b" x ");
+    small(rows);
+    text(b" tiles, hopper ");
+    small(hopper);
+    text(b"\n");
+}
+
+pub fn booked(c: Canister, at: u32) {
+    text(b"book: ");
+    canister(c);
+    text(b" on tile ");
+    small(at);
+    text(b"\n");
+}
+
+pub fn stopped(at: u32) {
+    text(b"stop: tile ");
+    small(at);
+    text(b" stopped\n");
+}
+
+pub fn repaired(at: u32) {
+    text(b"repair: tile ");
+    small(at);
+    text(b" running\n");
+}
+
+// n rounds at once; the last has the number `at`.
+pub fn rounds(n: u32, at: u64) {
+    text(b"rounds: ");
+    small(n);
+    text(b" done, now at round ");
+    number(at);
+    text(b"\n");
+}
+
+// The first line of a shown floor.
+pub fn counters(c: Counters, round: u64) {
+    text(b"show: last ");
+    small(c.last);
+    text(b", booked ");
+    small(c.booked);
+    text(b", delivered ");
+    small(c.delivered);
+    text(b", round ");
+    number(round);
+    text(b"\n");
+}
+
+// A tile as `show` tells it: number, canisters, arrow, distance.
+pub fn cell(at: u8, t: Tile) {
+    two(at);
+    text(b":");
+    two(t.count);
+    if t.running == 0 {
+        text(b" XX");
+        return;
+    }
+    side(t.next.code);
+    if t.distance == 255 {
+        text(b"--");
+    } else {
+        two(t.distance);
+    }
+}
+
+pub fn help() {
+    text(b"help: fresh W H HOPPER FILL U l r v   (FILL: all, none, or tiles as 0,2,3)\n");
+    text(b"      book TILE NUMBER A B | stop TILE | repair TILE | round | rounds N | read TILE\n");
+    text(b"      show | help | quit | # a remark\n");
+    text(b"      tile = column x H + row, from the south-west; rounds takes at most 100000\n");
+    text(b"      show: north row first; each tile as number:canisters arrow distance\n");
+    text(b"      XX stopped, - no arrow, -- no distance\n");
+    text(b"      a line has at most 400 bytes, all input at most 65536\n");
+}
