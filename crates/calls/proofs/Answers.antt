@@ -1,12 +1,12 @@
--- A refused answer and an accepted one, as the definitions give them.
+-- The answers of fresh and of reading, refused and accepted, as the definitions give them.
 use mathlib.Core.Path.{_≡_, sym, _∙_}
 use mathlib.Core.Logic.{_≢_}
-use mathlib.Core.Bool.{Bool, true, false}
+use mathlib.Core.Bool.{true}
 use mathlib.Core.List.{List}
 use Prim.Native.Nat.{ℕ}
 use lib.ListN.{getD}
 use borrow.Author.Tests.{eq-eqb, ne-eqb}
-use Rattle.laws.specs.Define.{tab, refusal}
+use Rattle.laws.specs.Define.{tab}
 use Rattle.floor.specs.declared.Canister.{Canister}
 use Rattle.floor.specs.declared.Settings.{Settings}
 use Rattle.floor.specs.declared.Tile.{Tile}
@@ -14,33 +14,10 @@ use Rattle.floor.specs.declared.Floor.{Floor}
 use Rattle.floor.specs.declared.Answer.{Answer}
 use Rattle.floor.specs.declared.Reading.{Reading}
 use Rattle.floor.specs.Settings.{settingsRefusal, settingsPass}
-use Rattle.floor.specs.Model.{Model, tileOf, membersOf}
+use Rattle.floor.specs.Model.{tileOf, membersOf}
 use Rattle.floor.specs.Memory.{zeroCanister, zeroFloor, view, head, pack}
-use Rattle.floor.specs.Well.{wellFormed}
-use Rattle.floor.specs.Calls.{refusalOf, answer, freshFloor, freshAnswer, readTests, readAnswer}
+use Rattle.floor.specs.Calls.{refusalOf, freshFloor, freshAnswer, readTests, readAnswer}
 use Rattle.calls.specs.Refused.{unreadWith}
-
--- ---- the number of a call that takes a floor
-pub malformed : (f : Floor) (tests : List (Bool × ℕ)) → wellFormed f ≡ false → refusalOf f tests ≡ 30
-unfolding refusalOf refusal
-malformed f tests w = rw w
-
-pub formed : (f : Floor) (tests : List (Bool × ℕ)) (n : ℕ) → wellFormed f ≡ true → n ≡ refusal tests → refusalOf f tests ≡ n
-unfolding refusalOf refusal
-formed f tests n w e = rw w (sym e)
-
--- ---- book, stop, repair
-pub answer-refused : (f : Floor) (tests : List (Bool × ℕ)) (m : Model) (n : ℕ) → refusalOf f tests ≡ n → n ≢ 0 → _≡_ {A = Answer} (record { refusal = n; floor = f }) (answer f tests m)
-unfolding answer
-answer-refused f tests m n e z = rw (e, ne-eqb n 0 z)
-
-pub answer-accepted : (f g : Floor) (tests : List (Bool × ℕ)) (m : Model) → refusalOf f tests ≡ 0 → g ≡ pack m → _≡_ {A = Answer} (record { refusal = 0; floor = g }) (answer f tests m)
-unfolding answer
-answer-accepted f g tests m e p = rw (e, p)
-
-pub answer-by : (f g : Floor) (tests : List (Bool × ℕ)) (m : Model) (n : ℕ) → refusalOf f tests ≡ n → n ≡ 0 → g ≡ pack m → _≡_ {A = Answer} (record { refusal = n; floor = g }) (answer f tests m)
-unfolding answer
-answer-by f g tests m n e z p = rw (e, z, p)
 
 -- ---- fresh
 pub fresh-refused : (s : Settings) (z : Floor) (n : ℕ) → n ≡ settingsRefusal s → n ≢ 0 → z ≡ zeroFloor → _≡_ {A = Answer} (record { refusal = n; floor = z }) (freshAnswer s)

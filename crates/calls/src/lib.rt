@@ -1,8 +1,8 @@
-// The calls on a floor. Each takes any bytes, and its contract determines the whole answer on all of them.
+// The calls on a floor; book comes from a crate of its own. Each takes any bytes, and its contract determines the whole answer on all of them.
 ghost use mathlib.Core.Path.{_≡_};
-ghost use Rattle.floor.specs.Calls.{freshAnswer, bookAnswer, stopAnswer, repairAnswer, readAnswer, zeroReport, roundAnswer};
+ghost use Rattle.floor.specs.Calls.{freshAnswer, stopAnswer, repairAnswer, readAnswer, zeroReport, roundAnswer};
 ghost use Rattle.calls.specs.Refused.{unreadWith};
-use changes::book_refusal;
+pub use book::book;
 use changes::fresh_floor;
 use changes::read_refusal;
 use changes::repair_refusal;
@@ -11,12 +11,9 @@ use changes::stop_refusal;
 use changes::stopped_floor;
 use changes::tile_head;
 use changes::tile_members;
-use changes::with_booking;
-use changes::with_count;
 use floor::Answer;
 use floor::Canister;
 use floor::Floor;
-use floor::Members;
 use floor::Reading;
 use floor::Report;
 use floor::Rounded;
@@ -24,7 +21,6 @@ use floor::Settings;
 use floor::Side;
 use floor::Tile;
 use floor::zero_floor;
-use members::insert;
 use motion::move_floor;
 use settings::settings_refusal;
 use signal::turned;
@@ -46,43 +42,6 @@ pub fn fresh(settings: Settings) -> Answer
     Answer {
         refusal: 0,
         floor: made,
-    }
-}
-
-// Books a canister on a fill tile. The floor is copied once and changed in place, and has one way out: each further way costs another copy.
-pub fn book(floor: Floor, tile: u32, canister: Canister) -> Answer
-    ensures { λ r. ⌜ r ≡ bookAnswer floor tile canister ⌝ }
-{
-    let well = well_formed(floor);
-    let mut changed = floor;
-    let mut number: u8 = 30;
-    if well {
-        let t = (tile % 64) as usize;
-        let s = changed.settings;
-        let counters = changed.counters;
-        let old = changed.tiles[t];
-        let mut items = [canister; 16];
-        for k in 0usize..16 {
-            items[k] = changed.canisters[16 * t + k];
-        }
-        let own = Members {
-            count: old.count,
-            items: items,
-        };
-        number = book_refusal(s, counters.last, tile, canister, old.running, own);
-        if number == 0 {
-            let more = insert(own, canister);
-            let places = more.items;
-            for j in 0usize..16 {
-                changed.canisters[16 * t + j] = places[j];
-            }
-            changed.tiles[t] = with_count(old, more.count);
-            changed.counters = with_booking(counters, canister.number);
-        }
-    }
-    Answer {
-        refusal: number,
-        floor: changed,
     }
 }
 

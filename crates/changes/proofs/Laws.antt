@@ -18,8 +18,7 @@ use Rattle.floor.specs.Well.{wellFormed}
 use Rattle.floor.specs.Calls.{freshTile, freshFloor, stopped, repaired}
 use Rattle.floor.proofs.Well.{settings-fact}
 use Rattle.floor.proofs.Rows.{view-at}
-use Rattle.floor.proofs.Pack.{shown, place-shown, pack-head, pack-tab, well-sound, well-fits, well-few, well-head}
-use Rattle.floor.proofs.Capacity.{sound-small}
+use Rattle.floor.proofs.Pack.{shown, place-shown, pack-head, pack-tab, well-fits, well-few, well-head}
 
 -- ---- a tile of a well-formed floor
 module _ (f : Floor) (t : ℕ) (w : wellFormed f ≡ true) (on : t < total (f .settings)) where
@@ -36,9 +35,6 @@ module _ (f : Floor) (t : ℕ) (w : wellFormed f ≡ true) (on : t < total (f .s
       let e : shown f t ≡ tileOf (view f) t = tab-at (total (f .settings)) (stateOf f) t unused on ∙ sym (view-at f t noTile on) in
       place-shown f (well-few f w) (well-fits f w) (16 * t + k) (omega (arith, below-64)) ∙ ap (λ (j : ℕ). getD (shown f j .members) ((16 * t + k) % 16) zeroCanister) q
       ∙ ap (λ (j : ℕ). getD (shown f t .members) j zeroCanister) r ∙ ap (λ (x : TileState). getD (x .members) k zeroCanister) e
-
-  pub few-view : length (membersOf (view f) t) ≤ 16
-  few-view = sound-small (view f) (well-sound f w) t
 
   -- ---- one tile anew
   pub stopped-pack : (h : Tile) → h ≡ head (tileOf (view f) t)

@@ -1,24 +1,20 @@
-// What the calls do to a well-formed floor: their refusals, and the floor that an accepted one leaves.
+// A fresh floor, and stop, repair and read on a well-formed one: their refusals, the floor that an accepted one leaves, the tile that is read.
 ghost use mathlib.Core.Path.{_≡_};
 ghost use mathlib.Core.Bool.{true};
-ghost use Prim.Native.Nat.{_≤_, _<_};
-ghost use lib.ListN.{getD, take};
-ghost use Rattle.laws.specs.Define.{tab, allOf, refusal};
-ghost use Rattle.floor.specs.Settings.{total, spacing, settingsPass};
+ghost use Prim.Native.Nat.{_<_};
+ghost use lib.ListN.{getD};
+ghost use Rattle.laws.specs.Define.{tab, refusal};
+ghost use Rattle.floor.specs.Settings.{total, settingsPass};
 ghost use Rattle.floor.specs.Model.{tileOf, membersOf, withTile};
 ghost use Rattle.floor.specs.Memory.{zeroCanister, view, head, pack};
-ghost use Rattle.floor.specs.Well.{apart, wellFormed};
+ghost use Rattle.floor.specs.Well.{wellFormed};
 ghost use Rattle.floor.specs.Calls.{freshTile, freshFloor, stopTests, stopped, repairTests, repaired, readTests};
-ghost use Rattle.changes.specs.Booking.{bookingTests, withCount, withBooking};
 use floor::Canister;
-use floor::Counters;
 use floor::Floor;
-use floor::Members;
 use floor::Settings;
 use floor::Side;
 use floor::Tile;
 use floor::zero_floor;
-use sets::has;
 use settings::tiles_of;
 
 // A tile of a fresh floor.
@@ -79,96 +75,6 @@ pub fn tile_members(floor: Floor, tile: u32) -> [Canister; 16]
         items[k] = floor.canisters[16 * t + k];
     }
     items
-}
-
-// Whether the canister stands at least d in a or in b from another.
-pub fn stands_apart(s: Settings, x: Canister, y: Canister) -> bool
-    ensures { λ r. ⌜ r ≡ apart (spacing s) x y ⌝ }
-{
-    let d = (s.length as u32) + (s.gap as u32);
-    let xa = x.a as u32;
-    let xb = x.b as u32;
-    let ya = y.a as u32;
-    let yb = y.b as u32;
-    ((xa + d <= ya) | (ya + d <= xa)) | ((xb + d <= yb) | (yb + d <= xb))
-}
-
-// The same for each of the first n places.
-pub fn has_room(s: Settings, c: Canister, items: [Canister; 16], n: usize) -> bool
-    requires { ⌜ n ≤ 16 ⌝ }
-    ensures { λ r. ⌜ r ≡ allOf (apart (spacing s) c) (take n items) ⌝ }
-{
-    let mut ok = true;
-    for k in 0usize..n {
-        let one = stands_apart(s, c, items[k]);
-        ok = ok & one;
-    }
-    ok
-}
-
-// The number that a booking is refused by, 0 where it is accepted: by the settings, the last number, and what the tile has.
-pub fn book_refusal(s: Settings, last: u32, tile: u32, c: Canister, running: u8, own: Members) -> u8
-    requires { ⌜ (total s ≤ 64) × (s .length ≤ s .width) × (tile < total s → own .count ≤ 16) ⌝ }
-    ensures { λ r. ⌜ r ≡ refusal (bookingTests s last tile c running (take (own .count) (own .items))) ⌝ }
-{
-    let all = tiles_of(s);
-    let off = all <= tile as usize;
-    let fill = has(s.sources, (tile % 64) as u8);
-    if off {
-        return 4;
-    }
-    if !fill {
-        return 5;
-    }
-    if c.number == 0 {
-        return 6;
-    }
-    let span = s.width - s.length;
-    let within = (c.a <= span) & (c.b <= span);
-    if !within {
-        return 7;
-    }
-    let idle = running != 1;
-    let past = c.number <= last;
-    if idle {
-        return 31;
-    }
-    if past {
-        return 33;
-    }
-    let items = own.items;
-    let room = has_room(s, c, items, own.count as usize);
-    if !room {
-        return 34;
-    }
-    0
-}
-
-// A tile's head with another count.
-pub fn with_count(old: Tile, n: u8) -> Tile
-    ensures { λ r. ⌜ r ≡ withCount old n ⌝ }
-{
-    let next = old.next;
-    let token = old.token;
-    Tile {
-        running: old.running,
-        distance: old.distance,
-        next: next,
-        token: token,
-        count: n,
-    }
-}
-
-// The counters after a booking.
-pub fn with_booking(counters: Counters, number: u32) -> Counters
-    requires { ⌜ counters .booked < number ⌝ }
-    ensures { λ r. ⌜ r ≡ withBooking counters number ⌝ }
-{
-    Counters {
-        last: number,
-        booked: counters.booked + 1,
-        delivered: counters.delivered,
-    }
 }
 
 // The number that a stop is refused by.

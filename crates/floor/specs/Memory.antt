@@ -29,6 +29,10 @@ zeroFloor =
 abbrev pub headOf : Floor → ℕ → Tile
 headOf f t = getD (f .tiles) t zeroTile
 
+-- the floor in memory with other tiles
+abbrev pub retiled : Floor → List Tile → Floor
+retiled f ts = record { settings = f .settings; counters = f .counters; tiles = ts; canisters = f .canisters }
+
 abbrev pub stateFrom : Tile → List Canister → TileState
 stateFrom h l = record { running = h .running; distance = h .distance; next = h .next .code; token = h .token .code; members = l }
 

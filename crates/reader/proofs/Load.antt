@@ -25,8 +25,9 @@ use Rattle.image.specs.Image.{tileWidths, lengthIn, bodyIn, restIn, settingsIn,
 use Rattle.image.proofs.Records.{whole}
 use Rattle.image.proofs.Again.{canisters-length, settings-good, counters-good}
 use Rattle.image.proofs.Read.{first-measured, tiles-length}
-use Rattle.reader.specs.Scan.{after, Starts, tileAt, canisterAt, tileFrom, canisterFrom}
-use Rattle.reader.proofs.Walk.{rest-at, record-room}
+use Rattle.faults.specs.Scan.{after, Starts}
+use Rattle.faults.proofs.Walk.{rest-at, record-room}
+use Rattle.reader.specs.Arrays.{tileAt, canisterAt, tileFrom, canisterFrom}
 
 -- ---- the tiles and the canisters, by their place
 after-rest : (t : ℕ) (xs : List ℕ) → after t (restIn xs) ≡ restIn (after t xs)

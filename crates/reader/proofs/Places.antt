@@ -12,7 +12,7 @@ use Rattle.floor.specs.declared.Canister.{Canister}
 use Rattle.floor.specs.declared.Tile.{Tile}
 use Rattle.floor.specs.Memory.{zeroTile, zeroCanister, head}
 use Rattle.image.specs.Image.{canisterIn, tileIn}
-use Rattle.reader.specs.Scan.{tileFrom, canisterFrom}
+use Rattle.reader.specs.Arrays.{tileFrom, canisterFrom}
 use Rattle.reader.proofs.Reading.{tile-none, tile-some, canister-none, canister-past, canister-some}
 
 -- ---- of n places those before k are g's, and those from there on are z

@@ -16,13 +16,13 @@ use Rattle.floor.specs.declared.Signal.{Signal}
 use Rattle.floor.specs.Settings.{total}
 use Rattle.floor.specs.Grid.{around}
 use Rattle.floor.specs.Model.{TileState, Model, noTile, tileOf, membersOf}
-use Rattle.floor.specs.Memory.{headOf, stateOf, block, view, head, pack, fits}
+use Rattle.floor.specs.Memory.{headOf, retiled, stateOf, block, view, head, pack, fits}
 use Rattle.floor.specs.Signal.{shownNext, shownOf, signalBy, signalTile, signalOf, grantOf, withToken, signal}
 use Rattle.floor.proofs.Rows.{view-at}
 use Rattle.floor.proofs.Pack.{few-on, head-state, pack-heads}
 use Rattle.route.specs.Routed.{Redone, within}
 use Rattle.route.proofs.Passes.{within-view, head-view, tile-off}
-use Rattle.signal.specs.Signalling.{Granted, shownIn, signalFrom, signalAt, tokened, tileAt, grantAt, retiled}
+use Rattle.signal.specs.Signalling.{Granted, shownIn, signalFrom, signalAt, tokened, tileAt, grantAt}
 
 head-token : (x : TileState) (k : ℕ) → tokened (head x) k ≡ head (withToken x k)
 unfolding tokened head

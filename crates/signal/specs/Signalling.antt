@@ -8,7 +8,6 @@ use Rattle.laws.specs.Tables.{Upto, From}
 use Rattle.floor.specs.declared.Canister.{Canister}
 use Rattle.floor.specs.declared.Settings.{Settings}
 use Rattle.floor.specs.declared.Tile.{Tile}
-use Rattle.floor.specs.declared.Floor.{Floor}
 use Rattle.floor.specs.declared.Signal.{Signal}
 use Rattle.floor.specs.Settings.{total}
 use Rattle.floor.specs.Grid.{around}
@@ -50,7 +49,3 @@ tileAt s ts cs t = tokened (getD ts t zeroTile) (signalAt s ts cs t .token)
 
 unfoldable pub grantAt : Settings → List Tile → List Canister → ℕ → ℕ
 grantAt s ts cs t = signalAt s ts cs t .grant
-
--- the floor in memory with other tiles
-abbrev pub retiled : Floor → List Tile → Floor
-retiled f ts = record { settings = f .settings; counters = f .counters; tiles = ts; canisters = f .canisters }

@@ -1,22 +1,12 @@
--- The bytes that the writer has put after t tiles, and the front of a tile's record.
+-- The bytes that the writer has put after t tiles.
 use mathlib.Core.List.{List, [], _++_}
-use Prim.Native.Nat.{ℕ, zero, suc, _+_, _*_}
+use Prim.Native.Nat.{ℕ, zero, suc, _*_}
 use lib.ListN.{getD, take, drop}
-use Rattle.wire.specs.Bytes.{bytes, bytesOf}
 use Rattle.floor.specs.declared.Canister.{Canister}
 use Rattle.floor.specs.declared.Tile.{Tile}
 use Rattle.floor.specs.Model.{TileState}
 use Rattle.floor.specs.Memory.{zeroTile, stateFrom}
-use Rattle.image.specs.Image.{canisterWidths, canisterValues, recordOf, tileBody}
-
-abbrev pub canisterBytes : Canister → List ℕ
-canisterBytes c = bytesOf canisterWidths (canisterValues c)
-
--- the ten bytes of a tile's record before its canisters
-unfoldable pub frontBytes : ℕ → Tile → List ℕ
-frontBytes t h =
-    (bytes 2 (6 + 8 * h .count) ++ bytes 2 3)
-    ++ ((bytes 1 t ++ (bytes 1 (h .running) ++ bytes 1 (h .distance))) ++ (bytes 1 (h .next .code) ++ (bytes 1 (h .token .code) ++ bytes 1 (h .count))))
+use Rattle.image.specs.Image.{recordOf, tileBody}
 
 -- tile t of a floor whose arrays are hs and cs, and how many canisters it has
 abbrev pub countAt : List Tile → ℕ → ℕ

@@ -5,7 +5,7 @@ use lib.ListN.{length, drop, getD}
 use Rattle.wire.specs.Bytes.{field}
 use Rattle.image.specs.Image.{tileWidths}
 use Rattle.floor.specs.Memory.{zeroCanister}
-use Rattle.reader.specs.Scan.{canisterFrom}
+use Rattle.reader.specs.Arrays.{canisterFrom}
 use Rattle.reader.proofs.Reading.{count-is}
 use Rattle.reader.proofs.Places.{Placed, filled-none, placed-turn, placed-tile, placed-all}
 use borrow.Author.Needs.{needs}

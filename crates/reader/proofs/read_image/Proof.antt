@@ -13,10 +13,10 @@ use Rattle.reader.proofs.read_image.Reads as reads
 use Rattle.reader.proofs.read_image.Lts as lts
 use Rattle.reader.proofs.canisters_of.Reads as canisters-of-reads
 use Rattle.reader.proofs.counters_at.Reads as counters-at-reads
-use Rattle.reader.proofs.record_fault.Reads as record-fault-reads
+use Rattle.faults.proofs.record_fault.Reads as record-fault-reads
 use Rattle.reader.proofs.refused.Reads as refused-reads
-use Rattle.reader.proofs.scan_tiles.Reads as scan-tiles-reads
-use Rattle.reader.proofs.settings_at.Reads as settings-at-reads
+use Rattle.faults.proofs.scan_tiles.Reads as scan-tiles-reads
+use Rattle.faults.proofs.settings_at.Reads as settings-at-reads
 use Rattle.reader.proofs.tiles_of.Reads as tiles-of-reads
 use Rattle.wire.proofs.u16_at.Reads as u16-at-reads
 

@@ -3,7 +3,7 @@ use Prim.Native.Nat.{_-_, _≤_}
 use native.Mathlib.Omega.{arith}
 use lib.ListN.{length}
 use Rattle.floor.specs.Memory.{zeroTile}
-use Rattle.reader.specs.Scan.{tileFrom}
+use Rattle.reader.specs.Arrays.{tileFrom}
 use Rattle.reader.proofs.Places.{Tiled, filled-none, tiled-turn, tiled-all}
 use borrow.Author.Needs.{needs}
 use Rattle.reader.proofs.tiles_of.Statement.{statement}

@@ -1,13 +1,12 @@
 use mathlib.Core.Path.{_≡_, ap, _∙_}
 use Rattle.laws.specs.Define.{tab}
 use Rattle.floor.specs.Model.{Model}
-use Rattle.floor.specs.Memory.{view, pack}
+use Rattle.floor.specs.Memory.{retiled, view, pack}
 use Rattle.floor.specs.Route.{route}
 use Rattle.floor.specs.Signal.{signal, grantOf}
 use Rattle.floor.proofs.Pack.{well-settings, well-fits, few-on}
 use Rattle.route.proofs.Passes.{ranged}
 use Rattle.route.proofs.RouteFloor.{route-pack}
-use Rattle.signal.specs.Signalling.{retiled}
 use Rattle.signal.proofs.SignalFloor.{signal-pack}
 use Rattle.signal.proofs.AfterRoute.{signal-asks, after-route}
 use Rattle.signal.proofs.turned.Statement.{statement}

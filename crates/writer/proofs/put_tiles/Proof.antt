@@ -16,7 +16,7 @@ use Rattle.writer.proofs.put_tiles.Statement.{statement}
 use Rattle.writer.proofs.put_tiles.Tie as tie
 use Rattle.writer.proofs.put_tiles.Reads as reads
 use Rattle.writer.proofs.put_tiles.Lts as lts
-use Rattle.writer.proofs.put_tile.Reads as put-tile-reads
+use Rattle.records.proofs.put_tile.Reads as put-tile-reads
 
 abbrev Inv-loop2 : tie.InvT-loop2
 Inv-loop2 s from c tiles all zero at t h items₀ k₀ items k = (k ≤ 16) × (t < 64) × (length items ≡ 16) × (length all ≡ 1024) × (take k items ≡ take k (drop (16 * t) all))

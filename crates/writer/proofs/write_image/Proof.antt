@@ -8,7 +8,8 @@ use Rattle.floor.specs.Settings.{total}
 use Rattle.wire.specs.Bytes.{bytes}
 use Rattle.image.proofs.Sizes.{counters-size, settings-size}
 use Rattle.image.specs.Image.{countersBody, recordOf, settingsBody}
-use Rattle.writer.proofs.Laws.{counts-few, encode-is, encode-long, end-record, pair-length, put-four}
+use Rattle.records.proofs.Laws.{pair-length, put-four}
+use Rattle.writer.proofs.Laws.{counts-few, encode-is, encode-long, end-record}
 use Rattle.image.proofs.Records.{record-length}
 use Rattle.writer.specs.Upto.{upto}
 use Rattle.floor.proofs.Pack.{well-few}
@@ -17,9 +18,9 @@ use Rattle.writer.proofs.write_image.Statement.{statement}
 use Rattle.writer.proofs.write_image.Tie as tie
 use Rattle.writer.proofs.write_image.Reads as reads
 use Rattle.writer.proofs.write_image.Lts as lts
-use Rattle.writer.proofs.put_counters.Reads as put-counters-reads
-use Rattle.writer.proofs.put_pair.Reads as put-pair-reads
-use Rattle.writer.proofs.put_settings.Reads as put-settings-reads
+use Rattle.records.proofs.put_counters.Reads as put-counters-reads
+use Rattle.records.proofs.put_pair.Reads as put-pair-reads
+use Rattle.records.proofs.put_settings.Reads as put-settings-reads
 use Rattle.writer.proofs.put_tiles.Reads as put-tiles-reads
 
 cast-c : tie.Need-cast-c

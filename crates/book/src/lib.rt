@@ -1,0 +1,49 @@
+// Book, a call on a floor. It takes any bytes, and its contract determines the whole answer on all of them.
+ghost use mathlib.Core.Path.{_≡_};
+ghost use Rattle.floor.specs.Calls.{bookAnswer};
+use booking::book_refusal;
+use booking::with_booking;
+use booking::with_count;
+use floor::Answer;
+use floor::Canister;
+use floor::Floor;
+use floor::Members;
+use members::insert;
+use soundness::well_formed;
+
+// Books a canister on a fill tile. The floor is copied once and changed in place, and has one way out: each further way costs another copy.
+pub fn book(floor: Floor, tile: u32, canister: Canister) -> Answer
+    ensures { λ r. ⌜ r ≡ bookAnswer floor tile canister ⌝ }
+{
+    let well = well_formed(floor);
+    let mut changed = floor;
+    let mut number: u8 = 30;
+    if well {
+        let t = (tile % 64) as usize;
+        let s = changed.settings;
+        let counters = changed.counters;
+        let old = changed.tiles[t];
+        let mut items = [canister; 16];
+        for k in 0usize..16 {
+            items[k] = changed.canisters[16 * t + k];
+        }
+        let own = Members {
+            count: old.count,
+            items: items,
+        };
+        number = book_refusal(s, counters.last, tile, canister, old.running, own);
+        if number == 0 {
+            let more = insert(own, canister);
+            let places = more.items;
+            for j in 0usize..16 {
+                changed.canisters[16 * t + j] = places[j];
+            }
+            changed.tiles[t] = with_count(old, more.count);
+            changed.counters = with_booking(counters, canister.number);
+        }
+    }
+    Answer {
+        refusal: number,
+        floor: changed,
+    }
+}

@@ -1,0 +1,48 @@
+use native.Mathlib.Omega.{arith}
+use Rattle.wire.specs.Bytes.{bytes, bytes-length}
+use Rattle.wire.specs.Put.{put-three}
+use borrow.Author.Needs.{needs}
+use Rattle.records.proofs.put_numbers.Statement.{statement}
+use Rattle.records.proofs.put_numbers.Tie as tie
+use Rattle.records.proofs.put_numbers.Reads as reads
+use Rattle.records.proofs.put_numbers.Lts as lts
+use Rattle.wire.proofs.put_u32.Reads as put-u32-reads
+
+put-u32-requires : tie.Need-put-u32-requires
+put-u32-requires c κs = search needs
+
+add-put-u32 : tie.Need-add-put-u32
+add-put-u32 c = search needs
+
+put-u32-requires-2 : tie.Need-put-u32-requires-2
+put-u32-requires-2 c κs = search needs
+
+add-put-u32-2 : tie.Need-add-put-u32-2
+add-put-u32-2 c = search needs
+
+put-u32-requires-3 : tie.Need-put-u32-requires-3
+put-u32-requires-3 c κs = search needs
+
+same-length : tie.Need-same-length
+same-length c = search needs
+
+returns : tie.Need-returns
+returns c =
+    let g = c .before .before .before .before .before .before .before .before .before .before .before .before .before .args in
+    let n1 = bytes-length 4 g.x in
+    let n2 = bytes-length 4 g.y in
+    let n3 = bytes-length 4 g.z in
+    put-three (g.s .now) _ _ _ g.at _ _ (bytes 4 g.x) (bytes 4 g.y) (bytes 4 g.z) (omega arith) (omega arith) (omega arith)
+    (c .before .before .before .before .before .before .before .before .before .before .put-u32 .ensures) (c .before .before .before .before .before .before .put-u322 .ensures) (c .before .before .put-u323 .ensures)
+
+pub put-numbers-spec : {M : Type 1} → statement M
+put-numbers-spec =
+    tie.close
+    (tie.spec
+    put-u32-requires
+    add-put-u32
+    put-u32-requires-2
+    add-put-u32-2
+    put-u32-requires-3
+    same-length
+    returns)

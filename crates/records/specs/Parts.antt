@@ -1,0 +1,16 @@
+-- The bytes of a canister, and the front of a tile's record.
+use mathlib.Core.List.{List, _++_}
+use Prim.Native.Nat.{ℕ, _+_, _*_}
+use Rattle.wire.specs.Bytes.{bytes, bytesOf}
+use Rattle.floor.specs.declared.Canister.{Canister}
+use Rattle.floor.specs.declared.Tile.{Tile}
+use Rattle.image.specs.Image.{canisterWidths, canisterValues}
+
+abbrev pub canisterBytes : Canister → List ℕ
+canisterBytes c = bytesOf canisterWidths (canisterValues c)
+
+-- the ten bytes of a tile's record before its canisters
+unfoldable pub frontBytes : ℕ → Tile → List ℕ
+frontBytes t h =
+    (bytes 2 (6 + 8 * h .count) ++ bytes 2 3)
+    ++ ((bytes 1 t ++ (bytes 1 (h .running) ++ bytes 1 (h .distance))) ++ (bytes 1 (h .next .code) ++ (bytes 1 (h .token .code) ++ bytes 1 (h .count))))

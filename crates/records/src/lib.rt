@@ -1,0 +1,112 @@
+// The records of an image, put one by one: each function puts its bytes into a buffer that has room for them, and leaves the others.
+ghost use mathlib.Core.Path.{_≡_};
+ghost use mathlib.Core.List.{_++_};
+ghost use Prim.Native.Nat.{_+_, _*_, _≤_};
+ghost use lib.ListN.{length, take};
+ghost use Rattle.wire.specs.Bytes.{bytes};
+ghost use Rattle.wire.specs.Put.{put};
+ghost use Rattle.floor.specs.Memory.{stateFrom};
+ghost use Rattle.image.specs.Image.{recordOf, settingsBody, countersBody, tileBody};
+ghost use Rattle.records.specs.Parts.{canisterBytes, frontBytes};
+use floor::Canister;
+use floor::Counters;
+use floor::Settings;
+use floor::Tile;
+use wire::put_byte;
+use wire::put_u16;
+use wire::put_u32;
+use wire::put_u64;
+
+// Two numbers of two bytes, as a record's length and kind.
+pub fn put_pair(s: &mut [u8], at: usize, x: u16, y: u16)
+    requires { ⌜ at + 4 ≤ length (now s) ⌝ }
+    ensures { λ r. ⌜ now (s .exit) ≡ put (now (s .entry)) at (bytes 2 x ++ bytes 2 y) ⌝ }
+{
+    put_u16(s, at, x);
+    put_u16(s, at + 2, y);
+}
+
+// Three bytes.
+fn put_three(s: &mut [u8], at: usize, x: u8, y: u8, z: u8)
+    requires { ⌜ at + 3 ≤ length (now s) ⌝ }
+    ensures { λ r. ⌜ now (s .exit) ≡ put (now (s .entry)) at (bytes 1 x ++ (bytes 1 y ++ bytes 1 z)) ⌝ }
+{
+    put_byte(s, at, x);
+    put_byte(s, at + 1, y);
+    put_byte(s, at + 2, z);
+}
+
+// Three numbers of four bytes.
+fn put_numbers(s: &mut [u8], at: usize, x: u32, y: u32, z: u32)
+    requires { ⌜ at + 12 ≤ length (now s) ⌝ }
+    ensures { λ r. ⌜ now (s .exit) ≡ put (now (s .entry)) at (bytes 4 x ++ (bytes 4 y ++ bytes 4 z)) ⌝ }
+{
+    put_u32(s, at, x);
+    put_u32(s, at + 4, y);
+    put_u32(s, at + 8, z);
+}
+
+// U, l, r and v, two bytes each, then the fill set.
+fn put_measures(s: &mut [u8], at: usize, x: Settings)
+    requires { ⌜ at + 16 ≤ length (now s) ⌝ }
+    ensures { λ r. ⌜ now (s .exit) ≡ put (now (s .entry)) at ((bytes 2 (x .width) ++ bytes 2 (x .length)) ++ ((bytes 2 (x .gap) ++ bytes 2 (x .travel)) ++ bytes 8 (x .sources))) ⌝ }
+{
+    put_pair(s, at, x.width, x.length);
+    put_pair(s, at + 4, x.gap, x.travel);
+    put_u64(s, at + 8, x.sources);
+}
+
+// Record 1.
+pub fn put_settings(s: &mut [u8], at: usize, x: Settings)
+    requires { ⌜ at + 24 ≤ length (now s) ⌝ }
+    ensures { λ r. ⌜ now (s .exit) ≡ put (now (s .entry)) at (recordOf 1 (settingsBody x)) ⌝ }
+{
+    put_pair(s, at, 20, 1);
+    put_three(s, at + 4, x.columns, x.rows, x.hopper);
+    put_byte(s, at + 7, 0);
+    put_measures(s, at + 8, x);
+}
+
+// Record 2.
+pub fn put_counters(s: &mut [u8], at: usize, x: Counters)
+    requires { ⌜ at + 16 ≤ length (now s) ⌝ }
+    ensures { λ r. ⌜ now (s .exit) ≡ put (now (s .entry)) at (recordOf 2 (countersBody x)) ⌝ }
+{
+    put_pair(s, at, 12, 2);
+    put_numbers(s, at + 4, x.last, x.booked, x.delivered);
+}
+
+// A canister.
+fn put_canister(s: &mut [u8], at: usize, c: Canister)
+    requires { ⌜ at + 8 ≤ length (now s) ⌝ }
+    ensures { λ r. ⌜ now (s .exit) ≡ put (now (s .entry)) at (canisterBytes c) ⌝ }
+{
+    put_u32(s, at, c.number);
+    put_u16(s, at + 4, c.a);
+    put_u16(s, at + 6, c.b);
+}
+
+// The record of tile t before its canisters.
+fn put_front(s: &mut [u8], at: usize, t: u8, h: Tile)
+    requires { ⌜ (at + 10 ≤ length (now s)) × (h .count ≤ 16) ⌝ }
+    ensures { λ r. ⌜ now (s .exit) ≡ put (now (s .entry)) at (frontBytes t h) ⌝ }
+{
+    put_pair(s, at, 6 + 8 * (h.count as u16), 3);
+    put_three(s, at + 4, t, h.running, h.distance);
+    put_three(s, at + 7, h.next.code, h.token.code, h.count);
+}
+
+// The record of tile t; its canisters stand in the first places of `items`.
+pub fn put_tile(s: &mut [u8], at: usize, t: u8, h: Tile, items: [Canister; 16])
+    requires { ⌜ (at + 10 + 8 * h .count ≤ length (now s)) × (h .count ≤ 16) ⌝ }
+    ensures { λ r. ⌜ now (s .exit) ≡ put (now (s .entry)) at (recordOf 3 (tileBody t (stateFrom h (take (h .count) items)))) ⌝ }
+{
+    put_front(s, at, t, h);
+    let n = h.count as usize;
+    let mut k = 0usize;
+    while k < n {
+        let c = items[k];
+        put_canister(s, at + 10 + 8 * k, c);
+        k = k + 1;
+    }
+}
