@@ -1,10 +1,10 @@
 use Rattle.floor.specs.Move.{wayOf}
 use borrow.Author.Needs.{needs}
-use Rattle.motion.proofs.way_of.Statement.{statement}
-use Rattle.motion.proofs.way_of.Tie as tie
-use Rattle.motion.proofs.way_of.Reads as reads
-use Rattle.motion.proofs.way_of.Lts as lts
-use Rattle.motion.proofs.known.Reads as known-reads
+use Rattle.ways.proofs.way_of.Statement.{statement}
+use Rattle.ways.proofs.way_of.Tie as tie
+use Rattle.ways.proofs.way_of.Reads as reads
+use Rattle.ways.proofs.way_of.Lts as lts
+use Rattle.ways.proofs.known.Reads as known-reads
 
 add-both : tie.Need-add-both
 add-both c = search needs
