@@ -1,3 +1,3 @@
-pub mod SignalLaws
+pub mod PassLaws
 pub mod SignalFloor
 pub mod AfterRoute

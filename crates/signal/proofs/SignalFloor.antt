@@ -22,7 +22,8 @@ use Rattle.floor.proofs.Rows.{view-at}
 use Rattle.floor.proofs.Pack.{few-on, head-state, pack-heads}
 use Rattle.route.specs.Routed.{Redone, within}
 use Rattle.route.proofs.Passes.{within-view, head-view, tile-off}
-use Rattle.signal.specs.Signalling.{Granted, shownIn, signalFrom, signalAt, tokened, tileAt, grantAt}
+use Rattle.grants.specs.TileSignal.{signalFrom}
+use Rattle.signal.specs.Signalling.{Granted, shownIn, signalAt, tokened, tileAt, grantAt}
 
 head-token : (x : TileState) (k : ℕ) → tokened (head x) k ≡ head (withToken x k)
 unfolding tokened head

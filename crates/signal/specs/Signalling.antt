@@ -1,8 +1,7 @@
--- Signal in memory: one tile from what its four neighbours show, and the tiles and grants of a floor.
+-- Signal in memory: what the tiles show, and the tiles and grants of a floor.
 use mathlib.Core.Path.{_≡_}
 use mathlib.Core.List.{List}
 use Prim.Native.Nat.{ℕ, _≤_, _<_}
-use lib.Dec.{eqb}
 use lib.ListN.{length, getD, take}
 use Rattle.laws.specs.Tables.{Upto, From}
 use Rattle.floor.specs.declared.Canister.{Canister}
@@ -12,8 +11,9 @@ use Rattle.floor.specs.declared.Signal.{Signal}
 use Rattle.floor.specs.Settings.{total}
 use Rattle.floor.specs.Grid.{around}
 use Rattle.floor.specs.Memory.{zeroTile, block}
-use Rattle.floor.specs.Signal.{shownNext, requests, signalBy}
+use Rattle.floor.specs.Signal.{shownNext}
 use Rattle.route.specs.Routed.{within}
+use Rattle.grants.specs.TileSignal.{signalFrom}
 
 -- every token is a side or none
 abbrev pub Ready : Settings → List Tile → Type 0
@@ -30,10 +30,6 @@ Granted n g gs = (length gs ≡ 64) × Upto n g 0 gs × From n (λ _. 0) 0 gs
 -- the side that a tile shows its neighbours
 abbrev pub shownIn : List Tile → ℕ → ℕ
 shownIn ts u = shownNext (getD ts u zeroTile .count) (getD ts u zeroTile .next .code)
-
--- one tile, l its canisters, from what its neighbours show
-abbrev pub signalFrom : Settings → ℕ → ℕ → List Canister → ℕ → ℕ → ℕ → ℕ → Signal
-signalFrom s running token l west south north east = signalBy s (eqb running 1) token l (requests west south north east)
 
 -- tile t of the floor
 unfoldable pub signalAt : Settings → List Tile → List Canister → ℕ → Signal

@@ -1,28 +1,25 @@
 // Signal, the second step of a round: which side each tile grants, and its new turn.
 
 ghost use mathlib.Core.Path.{_≡_};
-ghost use mathlib.Core.Bool.{true, cond};
-ghost use Prim.Native.Nat.{_≤_, _<_};
-ghost use lib.ListN.{take};
+ghost use mathlib.Core.Bool.{true};
+ghost use Prim.Native.Nat.{_≤_};
 ghost use Rattle.laws.specs.Define.{tab};
 ghost use Rattle.laws.specs.Tables.{Upto};
-ghost use Rattle.floor.specs.Sides as S;
-ghost use Rattle.floor.specs.Sides.{inSet};
 ghost use Rattle.floor.specs.Settings.{total};
 ghost use Rattle.floor.specs.Memory.{retiled, view, pack};
 ghost use Rattle.floor.specs.Well.{wellFormed};
 ghost use Rattle.floor.specs.Route as R;
 ghost use Rattle.floor.specs.Signal as G;
-ghost use Rattle.floor.specs.Signal.{requests, shownNext, hasGap};
+ghost use Rattle.floor.specs.Signal.{shownNext};
 ghost use Rattle.route.specs.Routed.{Ranged, Redone, within};
-ghost use Rattle.signal.specs.Signalling.{Ready, Roomy, Granted, shownIn, signalFrom, tokened, tileAt, grantAt};
+ghost use Rattle.signal.specs.Signalling.{Ready, Roomy, Granted, shownIn, tokened, tileAt, grantAt};
 use floor::Canister;
 use floor::Floor;
 use floor::Members;
 use floor::Settings;
 use floor::Side;
-use floor::Signal;
 use floor::Tile;
+use grants::signal_tile;
 use route::route_pass;
 
 // The tiles with their new tokens, and every tile's grant.
@@ -37,104 +34,6 @@ const UNUSED: Canister = Canister {
     a: 0,
     b: 0,
 };
-
-// x if b, else nothing.
-fn only_if(b: bool, x: u8) -> u8
-    ensures { λ r. ⌜ r ≡ cond b x 0 ⌝ }
-{
-    if b { x } else { 0 }
-}
-
-// The set of the sides that want, from what the neighbours show: side k is bit k - 1.
-pub fn requesting(west: u8, south: u8, north: u8, east: u8) -> u8
-    ensures { λ r. ⌜ (r < 16) × (inSet r ≡ requests west south north east) ⌝ }
-{
-    only_if(west == 4, 1) | only_if(south == 3, 2) | only_if(north == 2, 4) | only_if(east == 1, 8)
-}
-
-// The turn, if it wants; else the first side that wants, strictly after it.
-pub fn chosen(set: u8, token: Side) -> Side
-    requires { ⌜ (token .code ≤ 4) × (set < 16) ⌝ }
-    ensures { λ r. ⌜ r .code ≡ S.chosen (inSet set) (token .code) ⌝ }
-{
-    if token.among(set) {
-        return token;
-    }
-    token.following(set)
-}
-
-// Whether a canister leaves the gap at a side.
-pub fn clear(s: Settings, side: Side, c: Canister) -> bool
-    ensures { λ r. ⌜ r ≡ G.clear s (side .code) c ⌝ }
-{
-    let length = s.length as u32;
-    let spacing = length + s.gap as u32;
-    let width = s.width as u32;
-    let a = c.a as u32;
-    let b = c.b as u32;
-    let k = side.code;
-    match k {
-        1 => spacing <= a,
-        2 => spacing <= b,
-        3 => b + length + spacing <= width,
-        4 => a + length + spacing <= width,
-        _ => false,
-    }
-}
-
-// Whether every canister does.
-pub fn has_gap(s: Settings, side: Side, members: Members) -> bool
-    requires { ⌜ members .count ≤ 16 ⌝ }
-    ensures { λ r. ⌜ r ≡ hasGap s (side .code) (take (members .count) (members .items)) ⌝ }
-{
-    let n = members.count as usize;
-    let items = members.items;
-    let mut ok = true;
-    for k in 0usize..n {
-        let one = clear(s, side, items[k]);
-        ok = ok & one;
-    }
-    ok
-}
-
-// One tile, from what its four neighbours show. A stopped tile keeps its turn and grants nothing.
-pub fn signal_tile(
-    s: Settings,
-    running: u8,
-    token: Side,
-    members: Members,
-    west: u8,
-    south: u8,
-    north: u8,
-    east: u8,
-) -> Signal
-    requires { ⌜ (token .code ≤ 4) × (members .count ≤ 16) ⌝ }
-    ensures { λ r. ⌜ r ≡ signalFrom s running (token .code) (take (members .count) (members .items)) west south north east ⌝ }
-{
-    if running != 1 {
-        return Signal {
-            token: token.code,
-            grant: 0,
-        };
-    }
-    let set = requesting(west, south, north, east);
-    let side = chosen(set, token);
-    if side.code == 0 {
-        return Signal { token: 0, grant: 0 };
-    }
-    let free = has_gap(s, side, members);
-    if free {
-        let after = side.following(set);
-        return Signal {
-            token: after.code,
-            grant: side.code,
-        };
-    }
-    Signal {
-        token: side.code,
-        grant: 0,
-    }
-}
 
 // The side that a tile shows: its next if it has canisters, else none.
 fn shown_next(count: u8, next: u8) -> u8

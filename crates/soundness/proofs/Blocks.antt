@@ -23,7 +23,7 @@ use Rattle.floor.proofs.Rows.{view-at, rest-zero}
 use Rattle.unique.specs.Differ.{differ, differ-keep, Runs, runs-of}
 use Rattle.unique.specs.Order.{pairs-place}
 use Rattle.soundness.specs.Code.{counted}
-use Rattle.tiletest.proofs.Branches.{zero-off, count-fits}
+use Rattle.soundness.proofs.Branches.{zero-off, count-fits}
 use Rattle.soundness.proofs.Joins.{keep-all, keep-none, map-take, map-drop, cat-same, cat-rest, cat-length, blocks-perm}
 
 -- the places of tile t that are used

@@ -1,3 +1,4 @@
+pub mod Branches
 pub mod Counts
 pub mod Joins
 pub mod Blocks

@@ -24,7 +24,9 @@ use Rattle.floor.specs.Well.{headSound, inside, apart, inOrder, membersSound, t
 use Rattle.floor.proofs.Well.{settings-fact, pairs-imp}
 use Rattle.floor.proofs.Rows.{fits-of, tiles-fit-at, view-length}
 use Rattle.unique.specs.Differ.{differ, Runs}
-use Rattle.tiletest.specs.Tile.{Sized, memberSound, usedSound, tileTest}
+use Rattle.heads.specs.Head.{Sized}
+use Rattle.places.specs.Place.{memberSound}
+use Rattle.soundness.specs.Tile.{usedSound, tileTest}
 use Rattle.soundness.specs.Code.{tilesTest, counted}
 use Rattle.soundness.proofs.Joins.{all-cat}
 use Rattle.soundness.proofs.Blocks.{usedOf, Fit, used-off, tile-view, numbers-view, count-view, differ-view, runs-view}

@@ -7,7 +7,7 @@ use Rattle.floor.specs.declared.Canister.{Canister}
 use Rattle.floor.specs.declared.Settings.{Settings}
 use Rattle.floor.specs.declared.Tile.{Tile}
 use Rattle.floor.specs.Memory.{zeroTile, block}
-use Rattle.tiletest.specs.Tile.{tileTest}
+use Rattle.soundness.specs.Tile.{tileTest}
 
 -- tile t of the arrays
 unfoldable pub tilesTest : Settings → ℕ → List Tile → List Canister → ℕ → Bool

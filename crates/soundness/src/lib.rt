@@ -1,22 +1,52 @@
 // Whether a floor in memory is well formed, on any bytes.
 ghost use mathlib.Core.Path.{_≡_};
 ghost use mathlib.Core.Bool.{true};
+ghost use Prim.Native.Nat.{_≤_};
 ghost use Rattle.floor.specs.Settings.{settingsPass};
 ghost use Rattle.floor.specs.Well.{countersSound, wellFormed};
+ghost use Rattle.heads.specs.Head.{Sized};
+ghost use Rattle.soundness.specs.Tile.{tileTest};
 ghost use Rattle.soundness.specs.Code.{counted};
 use chains::numbers_differ;
 use floor::Canister;
 use floor::Counters;
 use floor::Floor;
+use floor::Settings;
 use floor::Tile;
+use heads::head_fits;
+use heads::head_ok;
+use places::members_ok;
+use places::pairs_ok;
+use places::rest_ok;
 use settings::settings_refusal;
-use tiletest::tile_ok;
+use settings::tiles_of;
 
 const NONE: Canister = Canister {
     number: 0,
     a: 0,
     b: 0,
 };
+
+// One tile, from its head and its sixteen places.
+pub fn tile_ok(s: Settings, last: u32, t: usize, h: Tile, items: [Canister; 16]) -> bool
+    requires { ⌜ Sized s × (s .length ≤ s .width) ⌝ }
+    ensures { λ r. ⌜ r ≡ tileTest s last t h items ⌝ }
+{
+    let fits = head_fits(s, t, h);
+    if !fits {
+        return false;
+    }
+    let n = h.count as usize;
+    let free = rest_ok(items, n);
+    let all = tiles_of(s);
+    if all <= t {
+        return free;
+    }
+    let head = head_ok(s, t, h);
+    let each = members_ok(s, last, items, n);
+    let pairs = pairs_ok(s, items, n);
+    free & (head & (each & pairs))
+}
 
 // How many canisters the tiles hold together.
 pub fn count_all(tiles: [Tile; 64]) -> u32

@@ -10,7 +10,7 @@ use Rattle.floor.specs.Memory.{zeroTile, zeroCanister, block}
 use Rattle.route.specs.Routed.{Redone}
 use Rattle.route.proofs.Passes.{shows-near, near-read, redone-none, redone-turn, redone-end}
 use Rattle.signal.specs.Signalling as M
-use Rattle.signal.proofs.SignalLaws.{signal-read, granted-none, granted-turn, granted-end}
+use Rattle.signal.proofs.PassLaws.{signal-read, granted-none, granted-turn, granted-end}
 use borrow.Author.Needs.{needs}
 use Rattle.signal.proofs.signal_pass.Statement.{statement}
 use Rattle.signal.proofs.signal_pass.Tie as tie
@@ -18,7 +18,7 @@ use Rattle.signal.proofs.signal_pass.Reads as reads
 use Rattle.signal.proofs.signal_pass.Lts as lts
 use Rattle.floor.proofs.Side.neighbour.Reads as neighbour-reads
 use Rattle.signal.proofs.shown.Reads as shown-reads
-use Rattle.signal.proofs.signal_tile.Reads as signal-tile-reads
+use Rattle.grants.proofs.signal_tile.Reads as signal-tile-reads
 use Rattle.signal.proofs.with_token.Reads as with-token-reads
 
 abbrev Inv-loop2 : tie.InvT-loop2

@@ -12,7 +12,7 @@ use Rattle.floor.specs.Model.{numbers}
 use Rattle.floor.specs.Memory.{zeroCanister, headOf, block}
 use Rattle.floor.proofs.Sized.{tiles-length, canisters-length}
 use Rattle.unique.specs.Differ.{Runs}
-use Rattle.tiletest.specs.Tile.{tileTest}
+use Rattle.soundness.specs.Tile.{tileTest}
 use Rattle.soundness.specs.Code.{tilesTest, counted}
 use Rattle.soundness.proofs.WellCode.{testOf, fit-each, keys-run, well-unlike, well-tiled, well-empty, pass-sized}
 use Rattle.soundness.proofs.Keys.{Keyed, block-copied, keyed-start, keyed-first, keyed-turn, keyed-last, keyed-empty, keyed-end}
@@ -24,7 +24,7 @@ use Rattle.soundness.proofs.scan.Lts as lts
 use Rattle.chains.proofs.numbers_differ.Reads as numbers-differ-reads
 use Rattle.soundness.proofs.count_all.Reads as count-all-reads
 use Rattle.soundness.proofs.counters_ok.Reads as counters-ok-reads
-use Rattle.tiletest.proofs.tile_ok.Reads as tile-ok-reads
+use Rattle.soundness.proofs.tile_ok.Reads as tile-ok-reads
 
 abbrev Inv-loop2 : tie.InvT-loop2
 Inv-loop2 f s counters t h items₀ k₀ items k = (k ≤ 16) × (length items ≡ 16) × Upto k (λ j. getD (f .canisters) (16 * t + j) zeroCanister) zeroCanister items

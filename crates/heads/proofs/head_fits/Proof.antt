@@ -1,0 +1,39 @@
+use mathlib.Core.Path.{_∙_}
+use lib.Dec.{leb}
+use Prim.Native.Nat.{_≤_, _<_}
+use borrow.Author.Tests.{lt-ltb, le-ltb}
+use Rattle.laws.specs.Tests.{pick-yes, pick-no}
+use Rattle.floor.specs.Settings.{total}
+use Rattle.floor.specs.Memory.{isZeroTile, headFits}
+use borrow.Author.Needs.{needs}
+use Rattle.heads.proofs.head_fits.Statement.{statement}
+use Rattle.heads.proofs.head_fits.Tie as tie
+use Rattle.heads.proofs.head_fits.Reads as reads
+use Rattle.heads.proofs.head_fits.Lts as lts
+use Rattle.settings.proofs.tiles_of.Reads as tiles-of-reads
+use Rattle.heads.proofs.zero_tile.Reads as zero-tile-reads
+
+tiles-of-requires : tie.Need-tiles-of-requires
+tiles-of-requires c κs = search needs
+
+returns : tie.Need-returns
+unfolding headFits
+returns c =
+    let g = c .before .before .before .args in
+    let on0 : g.t < _ = c .before .if1 .taken in
+    let on : g.t < total g.s = rw (c .before .before .tiles-of .ensures) at on0 in
+    pick-yes (leb (g.h .count) 16) (isZeroTile g.h) (lt-ltb g.t (total g.s) on)
+
+zero-tile-requires : tie.Need-zero-tile-requires
+zero-tile-requires c κs = search needs
+
+returns-2 : tie.Need-returns-2
+unfolding headFits
+returns-2 c =
+    let g = c .before .before .before .args in
+    let off0 : _ ≤ g.t = c .before .if1 .left in
+    let off : total g.s ≤ g.t = rw (c .before .before .tiles-of .ensures) at off0 in
+    c .zero-tile .ensures ∙ pick-no (leb (g.h .count) 16) (isZeroTile g.h) (le-ltb g.t (total g.s) off)
+
+pub head-fits-spec : {M : Type 1} → statement M
+head-fits-spec = tie.close (tie.spec tiles-of-requires returns zero-tile-requires returns-2)

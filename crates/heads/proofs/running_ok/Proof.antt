@@ -1,0 +1,20 @@
+use Rattle.floor.specs.Well.{runningSound}
+use borrow.Author.Needs.{needs}
+use Rattle.heads.proofs.running_ok.Statement.{statement}
+use Rattle.heads.proofs.running_ok.Tie as tie
+use Rattle.heads.proofs.running_ok.Reads as reads
+use Rattle.heads.proofs.running_ok.Lts as lts
+use Rattle.settings.proofs.tiles_of.Reads as tiles-of-reads
+
+tiles-of-requires : tie.Need-tiles-of-requires
+tiles-of-requires c κs = search needs
+
+cast-distance : tie.Need-cast-distance
+cast-distance c = search needs
+
+returns : tie.Need-returns
+unfolding runningSound
+returns c = cc
+
+pub running-ok-spec : {M : Type 1} → statement M
+running-ok-spec = tie.close (tie.spec tiles-of-requires cast-distance returns)

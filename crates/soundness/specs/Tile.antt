@@ -1,0 +1,22 @@
+-- The test of one tile in the words of the code: from a head and sixteen places.
+use mathlib.Core.Bool.{Bool, not, _&&_, _||_}
+use mathlib.Core.List.{List}
+use Prim.Native.Nat.{ℕ}
+use lib.Dec.{ltb}
+use lib.ListN.{take}
+use Rattle.laws.specs.Define.{allOf, pairsOf}
+use Rattle.floor.specs.declared.Canister.{Canister}
+use Rattle.floor.specs.declared.Settings.{Settings}
+use Rattle.floor.specs.declared.Tile.{Tile}
+use Rattle.floor.specs.Settings.{total}
+use Rattle.floor.specs.Memory.{tileFits}
+use Rattle.floor.specs.Well.{headSound, inOrder}
+use Rattle.places.specs.Place.{memberSound}
+
+-- the first n of the places l
+unfoldable pub usedSound : Settings → ℕ → ℕ → List Canister → Bool
+usedSound s last n l = allOf (memberSound s last) (take n l) && pairsOf (inOrder s) (take n l)
+
+-- one tile, from its head and its sixteen places
+unfoldable pub tileTest : Settings → ℕ → ℕ → Tile → List Canister → Bool
+tileTest s last t h l = tileFits s t h l && (not (ltb t (total s)) || (headSound s t h && usedSound s last (h .count) l))
