@@ -94,7 +94,7 @@ fn end_fault(n: u16) -> u8
     0
 }
 
-// The refusal of the record at `at` where kind `due` is due: the kind found decides which record's reader runs, and 10.
+// The refusal of the record at `at` where kind `due` is due: the kind found decides which record's test runs, and 10.
 pub fn record_fault(s: &[u8], at: usize, due: u16, tile: u8) -> u8
     requires { ⌜ (at ≤ length (now s)) × (1 ≤ due) × (due ≤ 4) ⌝ }
     ensures { λ r. ⌜ r ≡ recordFault due tile (drop at (now (s .entry))) ⌝ }

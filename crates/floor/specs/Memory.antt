@@ -29,10 +29,6 @@ zeroFloor =
 abbrev pub headOf : Floor → ℕ → Tile
 headOf f t = getD (f .tiles) t zeroTile
 
--- the floor in memory with other tiles
-abbrev pub retiled : Floor → List Tile → Floor
-retiled f ts = record { settings = f .settings; counters = f .counters; tiles = ts; canisters = f .canisters }
-
 abbrev pub stateFrom : Tile → List Canister → TileState
 stateFrom h l = record { running = h .running; distance = h .distance; next = h .next .code; token = h .token .code; members = l }
 
@@ -97,3 +93,7 @@ tilesFit s t (h ∷ hs) cs = tileFits s t h (take 16 cs) && tilesFit s (suc t) h
 
 unfoldable pub fits : Floor → Bool
 fits f = eqb (length (f .tiles)) 64 && (eqb (length (f .canisters)) 1024 && tilesFit (f .settings) 0 (f .tiles) (f .canisters))
+
+-- ---- for the passes over a floor: its memory with other tiles
+abbrev pub retiled : Floor → List Tile → Floor
+retiled f ts = record { settings = f .settings; counters = f .counters; tiles = ts; canisters = f .canisters }

@@ -206,7 +206,7 @@ pub fn repaired(at: u32) {
     text(b" running\n");
 }
 
-// n rounds at once; the last has the number `at`.
+// n rounds gone; `at` counts all since the floor was fresh.
 pub fn rounds(n: u32, at: u64) {
     text(b"rounds: ");
     small(n);
