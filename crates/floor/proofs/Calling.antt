@@ -12,10 +12,10 @@ use Rattle.floor.specs.declared.Tile.{Tile}
 use Rattle.floor.specs.declared.Floor.{Floor}
 use Rattle.floor.specs.declared.Answer.{Answer}
 use Rattle.floor.specs.declared.Reading.{Reading}
-use Rattle.floor.specs.Sides.{opposite, after, following, chosen}
+use Rattle.floor.specs.Sides.{sides, opposite, after, following, chosen}
 use Rattle.floor.specs.Settings.{isHopper, settingsTests, settingsRefusal, settingsPass}
 use Rattle.floor.specs.Grid.{neighbour}
-use Rattle.floor.specs.Model.{numbersOn}
+use Rattle.floor.specs.Model.{runsOf, numbersOn}
 use Rattle.floor.specs.Memory.{zeroFloor, stateOf, view, head, places, rows, build, pack, isZeroCanister, isZeroTile, headFits, tileFits, tilesFit, fits}
 use Rattle.floor.specs.Well.{hopperSound, runningSound, stoppedSound, faces, headSound, inside, apart, inOrder, membersSound, tileSound, numbersSound, countersSound, sound, wellFormed}
 use Rattle.floor.specs.Route.{nearer, nearest, onward, headingOf, routeTile, route}
@@ -23,6 +23,7 @@ use Rattle.floor.specs.Signal.{requests, clear, hasGap, signalWith, sign
 use Rattle.floor.specs.Move.{wayOf, crosses, shift, land, staying, leaving, insert, insertEach, membersNext, arrivals, moveTile, deliveredBy, move}
 use Rattle.floor.specs.Calls.{refusalOf, answer, freshTile, freshFloor, freshAnswer, bookTests, booked, bookAnswer, stopTests, stopped, stopAnswer, repairTests, repaired, repairAnswer, afterRound, delivered, reportOf, zeroReport, roundAnswer, readTests, readAnswer}
 use Rattle.floor.specs.Bound.{crossing, bound}
+use Rattle.floor.specs.Live.{reached, connected, connectedCount}
 
 -- ---- the calls: the floor of an accepted answer; a refused one counts as the all-zero floor, on which every reading is 30
 unfoldable pub got : Answer → Floor
@@ -83,6 +84,13 @@ reported f = let r = roundAnswer f in r .refusal ∷ take (r .report .count) (r 
 unfoldable pub grant : ℕ → Floor → List ℕ
 grant t f = let r = roundAnswer f in r .refusal ∷ getD (r .report .grants) t 0 ∷ []
 
+-- K, the canisters on tiles with a live path; the bound (C - 1) × (1 + K × M)
+unfoldable pub liveCount : Floor → ℕ
+liveCount f = let m = view f in connectedCount m (runsOf m)
+
+unfoldable pub boundOf : Floor → ℕ
+boundOf f = bound (f .settings) (liveCount f)
+
 -- last, booked and delivered
 unfoldable pub counts : Counters → List ℕ
 counts c = c .last ∷ c .booked ∷ c .delivered ∷ []
@@ -132,11 +140,11 @@ Table = List (List ℕ × List ℕ)
 unfoldable pub holds : Table → Bool
 unfolding got settings fresh can book stop repair rounds flat on tile distances next turn reported grant counts counted same setUp heads sameFloor refused refusedRound refusedReading
     tab cat allOf anyOf pairsOf allBelow keep firstOf sum bit refusal
-    opposite after following chosen isHopper settingsTests settingsRefusal settingsPass neighbour numbersOn
+    sides opposite after following chosen isHopper settingsTests settingsRefusal settingsPass neighbour numbersOn
     zeroFloor stateOf view head places rows build pack isZeroCanister isZeroTile headFits tileFits tilesFit fits
     hopperSound runningSound stoppedSound faces headSound inside apart inOrder membersSound tileSound numbersSound countersSound sound wellFormed
     nearer nearest onward headingOf routeTile route requests clear hasGap signalWith signalBy signalTile shownOf signalOf signal
     wayOf crosses shift land staying leaving insert insertEach membersNext arrivals moveTile deliveredBy move
     refusalOf answer freshTile freshFloor freshAnswer bookTests booked bookAnswer stopTests stopped stopAnswer repairTests repaired repairAnswer
-    afterRound delivered reportOf zeroReport roundAnswer readTests readAnswer crossing bound
+    afterRound delivered reportOf zeroReport roundAnswer readTests readAnswer crossing bound reached connected connectedCount liveCount boundOf
 holds table = allOf (λ r. same (r .0) (r .1)) table

@@ -27,8 +27,11 @@ pub mod Progress
 pub mod Clearing
 pub mod Calls
 pub mod Lists
+pub mod Reports
 pub mod Theorem
 pub mod Chain
 pub mod Numbering
 pub mod Calling
 pub mod Trials
+pub mod Samples
+pub mod Instances

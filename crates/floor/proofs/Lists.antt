@@ -29,6 +29,16 @@ use Rattle.floor.proofs.Calls.{Keeps, Accepted, book-keeps, stop-keeps,
 abbrev pub KeepsWell : Floor → Floor → List ℕ → List ℕ → Type 0
 KeepsWell f g came went = (wellFormed g ≡ true) × Keeps (view f) (view g) came went
 
+-- the first `count` of the report's four numbers are all that were delivered
+pub listed-all : (l : List ℕ) → length l ≤ 4 → take (length l) (tab 4 (λ k. getD l k 0)) ≡ l
+unfolding tab
+listed-all [] h = refl
+listed-all (a ∷ []) h = refl
+listed-all (a ∷ b ∷ []) h = refl
+listed-all (a ∷ b ∷ c ∷ []) h = refl
+listed-all (a ∷ b ∷ c ∷ d ∷ []) h = refl
+listed-all (a ∷ b ∷ c ∷ d ∷ e ∷ l) h = absurd (omega arith)
+
 module _ (f : Floor) (w : wellFormed f ≡ true) where
   S : Sound (view f)
   S = well-sound f w
@@ -73,19 +83,13 @@ module _ (f : Floor) (w : wellFormed f ≡ true) where
   unfolding outcome roundAnswer
   round-floor = rw round-accepted
 
-  -- the first `count` of the report's four numbers are all that were delivered
-  listed : (l : List ℕ) → length l ≤ 4 → take (length l) (tab 4 (λ k. getD l k 0)) ≡ l
-  unfolding tab
-  listed [] h = refl
-  listed (a ∷ []) h = refl
-  listed (a ∷ b ∷ []) h = refl
-  listed (a ∷ b ∷ c ∷ []) h = refl
-  listed (a ∷ b ∷ c ∷ d ∷ []) h = refl
-  listed (a ∷ b ∷ c ∷ d ∷ e ∷ l) h = absurd (omega arith)
+  pub round-report : roundAnswer f .report ≡ reportOf (view f)
+  unfolding roundAnswer
+  round-report = rw round-accepted
 
   pub round-reported : outcome f round .reported ≡ delivered (view f)
   unfolding outcome roundAnswer reportOf
-  round-reported = rw round-accepted (listed (delivered (view f)) (delivered-few (view f) S))
+  round-reported = rw round-accepted (listed-all (delivered (view f)) (delivered-few (view f) S))
 
   pub view-round : (c : Call) → isRound c ≡ true → view (outcome f c .floor) ≡ afterRound (view f)
   view-round (book t c) e = absurd (false≢true e)
@@ -97,7 +101,7 @@ module _ (f : Floor) (w : wellFormed f ≡ true) where
   pub call-keeps : (c : Call) → Typed c → KeepsWell f (outcome f c .floor) (outcome f c .booked) (outcome f c .reported)
   unfolding outcome bookAnswer stopAnswer repairAnswer answer bookTests stopTests repairTests
   call-keeps (book t c) h =
-      answer-keeps (bookTests (view f) t c) (omega arith) (booked (view f) t c) (λ b. cond b (c .number ∷ []) []) refl (λ T. book-keeps (view f) S t c T (h .1))
+      answer-keeps (bookTests (view f) t c) (omega arith) (booked (view f) t c) (λ b. cond b (c .number ∷ []) []) refl (λ T. book-keeps (view f) S t c T h)
   call-keeps (stop t) h = answer-keeps (stopTests (view f) t) (omega arith) (withTile (view f) t (stopped (tileOf (view f) t))) (λ _. []) refl (stop-keeps (view f) S t)
   call-keeps (repair t) h = answer-keeps (repairTests (view f) t) (omega arith) (withTile (view f) t (repaired (tileOf (view f) t))) (λ _. []) refl (repair-keeps (view f) S t)
   call-keeps round h =
@@ -108,7 +112,7 @@ module _ (f : Floor) (w : wellFormed f ≡ true) where
   pub call-runs : (c : Call) → Typed c → (t : ℕ) → runsOf (view (outcome f c .floor)) t ≡ runsBy f c t (runsOf (view f) t)
   unfolding outcome bookAnswer stopAnswer repairAnswer answer bookTests stopTests repairTests runsBy
   call-runs (book u c) h t =
-      answer-runs (bookTests (view f) u c) (omega arith) (booked (view f) u c) t false true S (λ T. book-keeps (view f) S u c T (h .1) .well) (λ T. book-runs (view f) S u c T t) ∙ never (eqb (refusalOf f (bookTests (view f) u c)) 0)
+      answer-runs (bookTests (view f) u c) (omega arith) (booked (view f) u c) t false true S (λ T. book-keeps (view f) S u c T h .well) (λ T. book-runs (view f) S u c T t) ∙ never (eqb (refusalOf f (bookTests (view f) u c)) 0)
     where
       never : (b : Bool) → cond (b && false) true (runsOf (view f) t) ≡ runsOf (view f) t
       never true = refl

@@ -18,7 +18,7 @@ use Rattle.floor.specs.Memory.{view}
 use Rattle.floor.specs.Well.{inside, apart, wellFormed}
 use Rattle.floor.specs.Bound.{bound}
 use Rattle.floor.specs.Live.{LivePath, connected, connectedCount}
-use Rattle.floor.specs.Demand3.{Call, Typed, floorAfter, bookedIn, reportedIn, runsAfter, roundsIn, Promises}
+use Rattle.floor.specs.Demand3.{Call, Typed, floorAfter, bookedIn, reportedIn, runsAfter, roundsIn, Promises, Demand3}
 use Rattle.floor.proofs.Sound.{Sound, Inside, Apart}
 use Rattle.floor.proofs.Well.{inside-fact, apart-fact}
 use Rattle.floor.proofs.Pack.{well-sound}
@@ -87,6 +87,5 @@ module _ (f : Floor) (w : wellFormed f ≡ true) (cs : List Call) (typed : All T
         (λ b t p. ap (λ (x : Model). membersOf x t) (quiet-rounds now well ds h q) ∙ cleared (view now) S (roundsIn ds) b t p);
   }
 
--- for every well-formed floor in memory and every list of calls
-pub demand3 : (f : Floor) → wellFormed f ≡ true → (cs : List Call) → All Typed cs → Promises f cs
+pub demand3 : Demand3
 demand3 = promises

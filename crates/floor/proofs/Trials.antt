@@ -4,8 +4,7 @@ use mathlib.Core.Bool.{true}
 use mathlib.Core.List.{[], _∷_}
 use Rattle.floor.specs.declared.Floor.{Floor}
 use Rattle.floor.specs.Calls.{freshAnswer, bookAnswer}
-use Rattle.floor.specs.Bound.{bound}
-use Rattle.floor.proofs.Calling.{got, settings, fresh, can, book, stop, rounds, on, distances, next, reported, grant, counted, Table, holds}
+use Rattle.floor.proofs.Calling.{got, settings, fresh, can, book, stop, rounds, on, distances, next, reported, grant, boundOf, counted, Table, holds}
 
 unfoldable one : Floor
 one = book 5 0 0 0 (fresh 2 1 1)
@@ -35,7 +34,7 @@ table =
     ∷ (on 1 (rounds 4 one), 0 ∷ [])
     ∷ (counted (rounds 3 one), 0 ∷ 5 ∷ 1 ∷ 0 ∷ [])
     ∷ (counted (rounds 4 one), 0 ∷ 5 ∷ 1 ∷ 1 ∷ [])
-    ∷ (bound (settings 2 1 1 20) 1 ∷ [], 5 ∷ [])
+    ∷ (boundOf one ∷ [], 5 ∷ [])
     -- From a = 10: 30, 50, 70 (70 + 30 = 100 doesn't cross), delivered in round 4.
     ∷ (on 0 (rounds 1 ten), 0 ∷ 5 ∷ 30 ∷ 0 ∷ [])
     ∷ (on 0 (rounds 2 ten), 0 ∷ 5 ∷ 50 ∷ 0 ∷ [])

@@ -25,11 +25,11 @@ pub data Call : Type 0 where
   repair : ℕ → Call
   round : Call
 
--- arguments have their parameters' widths: a tile and a number 32 bits, a and b 16
+-- a booking's number has its parameter's 32 bits; no other width is needed
 abbrev pub Typed : Call → Type 0
-Typed (book t c) = (t < 2 ^ 32) × (c .number < 2 ^ 32) × (c .a < 2 ^ 16) × (c .b < 2 ^ 16)
-Typed (stop t) = t < 2 ^ 32
-Typed (repair t) = t < 2 ^ 32
+Typed (book t c) = c .number < 2 ^ 32
+Typed (stop t) = Unit {0}
+Typed (repair t) = Unit {0}
 Typed round = Unit {0}
 
 -- a call's answer: its refusal number, 0 if accepted; its floor; the numbers that it booked; the numbers that it reported delivered
@@ -111,3 +111,7 @@ pub record Promises (f : Floor) (cs : List Call) : Type 0 where
   -- "after any further list with at least (C - 1) × (1 + K × M) rounds and no accepted booking, stop or repair, no canister is on a tile with a live path to the hopper"
   pub emptied : (ds : List Call) → All Typed ds → Quiet now ds → bound (f .settings) (connectedCount (view now) (runsAfter f cs)) ≤ roundsIn ds
       → (t : ℕ) → LivePath (f .settings) (runsAfter f cs) t → membersOf (view (floorAfter now ds)) t ≡ []
+
+-- the theorem: for every well-formed floor in memory and every list of calls
+abbrev pub Demand3 : Type 0
+Demand3 = (f : Floor) → wellFormed f ≡ true → (cs : List Call) → All Typed cs → Promises f cs

@@ -8,6 +8,7 @@ pub mod Route
 pub mod Signal
 pub mod Move
 pub mod Calls
+pub mod Reports
 pub mod Bound
 pub mod Live
 pub mod Demand3

@@ -1,36 +1,29 @@
 -- Trials of the image: one table, one proof. Each row is a test that must pass.
 use mathlib.Core.Path.{_≡_, refl}
-use mathlib.Core.Bool.{Bool, true, false, _&&_}
+use mathlib.Core.Bool.{Bool, true}
 use mathlib.Core.List.{List, [], _∷_, _++_}
 use Prim.Native.Nat.{ℕ}
 use lib.Dec.{eqb}
-use lib.ListN.{length, set, take, replicate}
-use Rattle.laws.specs.Define.{tab, cat, allOf, anyOf, pairsOf, allBelow, keep, firstOf, bit, refusal}
+use lib.ListN.{length, set, take, drop, replicate}
+use Rattle.laws.specs.Define.{allOf}
 use Rattle.wire.specs.Bytes.{le, bytes, fieldsOf, bytesOf}
 use Rattle.floor.specs.declared.Floor.{Floor}
-use Rattle.floor.specs.Settings.{isHopper, settingsTests, settingsRefusal, settingsPass}
-use Rattle.floor.specs.Grid.{neighbour}
-use Rattle.floor.specs.Model.{numbersOn}
-use Rattle.floor.specs.Memory.{zeroFloor, stateOf, view, head, places, rows, build, pack, isZeroCanister, isZeroTile, headFits, tileFits, tilesFit, fits}
-use Rattle.floor.specs.Well.{hopperSound, runningSound, stoppedSound, faces, headSound, inside, apart, inOrder, membersSound, tileSound, numbersSound, countersSound, sound, wellFormed}
-use Rattle.floor.specs.Move.{insert}
-use Rattle.floor.specs.Calls.{refusalOf, answer, freshTile, freshFloor, freshAnswer, bookTests, booked, bookAnswer}
+use Rattle.floor.specs.Memory.{zeroFloor, view}
+use Rattle.floor.proofs.Calling.{fresh, book, rounds, same, sameFloor, holds}
 use Rattle.image.specs.Image.{recordOf, settingsBody, countersBody, canistersBody, tileBody, tilesBytes, encode, settingsIn, countersIn, canisterIn, canistersIn, tileIn, tilesIn, modelIn, settingsFaults, countersFaults, tileFaults, endFaults, ownFaults, recordFault, endFault, tilesFault, fault, answerBy, recordsAnswer, loadRefusal, loadAnswer, writeRefusal, writeAnswer, written}
-
-unfoldable same : List ℕ → List ℕ → Bool
-same [] [] = true
-same [] (y ∷ ys) = false
-same (x ∷ xs) [] = false
-same (x ∷ xs) (y ∷ ys) = eqb x y && same xs ys
 
 -- ---- the floors
 -- "a fresh floor, H 1, U 100, l 30, r 10, v 20, every tile but the hopper a fill tile"; W 2, hopper 1
-unfoldable fresh : Floor
-fresh = freshAnswer (record { columns = 2; rows = 1; hopper = 1; sources = 1; width = 100; length = 30; gap = 10; travel = 20 }) .floor
+unfoldable blank : Floor
+blank = fresh 2 1 1
 
 -- with canister 5 at (70, 7) on tile 0
 unfoldable one : Floor
-one = bookAnswer fresh 0 (record { number = 5; a = 70; b = 7 }) .floor
+one = book 5 70 7 0 blank
+
+-- W 3, hopper 0, after a round in which tile 1 delivered 4 and took in 9: last 9, booked 2, delivered 1; tile 1 has arrow west, turn east, canister 9 at (70, 5)
+unfoldable moved : Floor
+moved = rounds 1 (book 9 13 5 2 (book 4 0 7 1 (rounds 2 (fresh 3 1 0))))
 
 -- ---- the bytes
 unfoldable good : List ℕ
@@ -41,6 +34,17 @@ good =
     ∷ 0 ∷ 0 ∷ 0 ∷ 0 ∷ 0 ∷ 0 ∷ 0 ∷ 0 ∷ 0 ∷ 0 ∷ 0 ∷ 0
     ∷ 6 ∷ 0 ∷ 3 ∷ 0 ∷ 0 ∷ 1 ∷ 255 ∷ 0 ∷ 0 ∷ 0
     ∷ 6 ∷ 0 ∷ 3 ∷ 0 ∷ 1 ∷ 1 ∷ 0 ∷ 0 ∷ 0 ∷ 0
+    ∷ 0 ∷ 0 ∷ 4 ∷ 0 ∷ []
+
+unfoldable movedBytes : List ℕ
+movedBytes =
+    20 ∷ 0 ∷ 1 ∷ 0
+    ∷ 3 ∷ 1 ∷ 0 ∷ 0 ∷ 100 ∷ 0 ∷ 30 ∷ 0 ∷ 10 ∷ 0 ∷ 20 ∷ 0 ∷ 6 ∷ 0 ∷ 0 ∷ 0 ∷ 0 ∷ 0 ∷ 0 ∷ 0
+    ∷ 12 ∷ 0 ∷ 2 ∷ 0
+    ∷ 9 ∷ 0 ∷ 0 ∷ 0 ∷ 2 ∷ 0 ∷ 0 ∷ 0 ∷ 1 ∷ 0 ∷ 0 ∷ 0
+    ∷ 6 ∷ 0 ∷ 3 ∷ 0 ∷ 0 ∷ 1 ∷ 0 ∷ 0 ∷ 4 ∷ 0
+    ∷ 14 ∷ 0 ∷ 3 ∷ 0 ∷ 1 ∷ 1 ∷ 1 ∷ 1 ∷ 4 ∷ 1 ∷ 9 ∷ 0 ∷ 0 ∷ 0 ∷ 70 ∷ 0 ∷ 5 ∷ 0
+    ∷ 6 ∷ 0 ∷ 3 ∷ 0 ∷ 2 ∷ 1 ∷ 2 ∷ 1 ∷ 0 ∷ 0
     ∷ 0 ∷ 0 ∷ 4 ∷ 0 ∷ []
 
 -- byte k made x
@@ -54,7 +58,7 @@ shows xs k = eqb (loadAnswer xs .refusal) k
 unfoldable table : List Bool
 table =
     -- "The fresh W 2 floor has an image of 64 bytes; an empty image is 9."
-    same (encode (view fresh)) good
+    same (encode (view blank)) good
     ∷ eqb (length good) 64
     ∷ shows good 0
     ∷ shows [] 9
@@ -62,6 +66,10 @@ table =
     ∷ eqb (length (encode (view one))) 72
     ∷ shows (encode (view one)) 0
     ∷ same (encode (view (loadAnswer (encode (view one)) .floor))) (encode (view one))
+    -- every field of every record in its place, written and read
+    ∷ same (encode (view moved)) movedBytes
+    ∷ shows movedBytes 0
+    ∷ sameFloor (loadAnswer movedBytes .floor) moved
     -- 9: the end within a record, the end record missing, a byte left over, a length beyond the end
     ∷ shows (take 3 good) 9
     ∷ shows (take 63 good) 9
@@ -80,6 +88,9 @@ table =
     ∷ shows (with 44 1) 11
     ∷ shows (with 49 17) 11
     ∷ shows (with 49 1) 11
+    -- 11: an end record with a body, a tile record of five bytes
+    ∷ shows (with 60 1 ++ (0 ∷ [])) 11
+    ∷ shows (take 40 good ++ (5 ∷ 0 ∷ 3 ∷ 0 ∷ 0 ∷ 1 ∷ 255 ∷ 0 ∷ 0 ∷ drop 50 good)) 11
     -- 1, 2, 3 of record 1, before any fault of a later record
     ∷ shows (with 4 0) 1
     ∷ shows (with 4 9) 1
@@ -101,20 +112,15 @@ table =
     -- writing: 30, also where 13 would hold; 13; the length; the bytes after it
     ∷ eqb (writeAnswer zeroFloor 100 .refusal) 30
     ∷ eqb (writeAnswer zeroFloor 0 .refusal) 30
-    ∷ eqb (writeAnswer fresh 63 .refusal) 13
-    ∷ eqb (writeAnswer fresh 63 .length) 0
-    ∷ eqb (writeAnswer fresh 66 .length) 64
-    ∷ same (written fresh (replicate 66 9)) (good ++ (9 ∷ 9 ∷ []))
-    ∷ same (written fresh (replicate 63 9)) (replicate 63 9)
+    ∷ eqb (writeAnswer blank 63 .refusal) 13
+    ∷ eqb (writeAnswer blank 63 .length) 0
+    ∷ eqb (writeAnswer blank 66 .length) 64
+    ∷ same (written blank (replicate 66 9)) (good ++ (9 ∷ 9 ∷ []))
+    ∷ same (written blank (replicate 63 9)) (replicate 63 9)
     ∷ []
 
 trials : allOf (λ b. b) table ≡ true
-unfolding same fresh one good with shows table
-    tab cat allOf anyOf pairsOf allBelow keep firstOf bit refusal le bytes fieldsOf bytesOf
-    isHopper settingsTests settingsRefusal settingsPass neighbour numbersOn
-    zeroFloor stateOf view head places rows build pack isZeroCanister isZeroTile headFits tileFits tilesFit fits
-    hopperSound runningSound stoppedSound faces headSound inside apart inOrder membersSound tileSound numbersSound countersSound sound wellFormed
-    insert refusalOf answer freshTile freshFloor freshAnswer bookTests booked bookAnswer
+unfolding holds blank one moved good movedBytes with shows table le bytes fieldsOf bytesOf
     recordOf settingsBody countersBody canistersBody tileBody tilesBytes encode settingsIn countersIn canisterIn canistersIn tileIn tilesIn modelIn
     settingsFaults countersFaults tileFaults endFaults ownFaults recordFault endFault tilesFault fault answerBy recordsAnswer loadRefusal loadAnswer writeRefusal writeAnswer written
 trials = refl

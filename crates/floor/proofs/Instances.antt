@@ -1,0 +1,115 @@
+-- Demand 3 on concrete lists: its premises are met there, and what it promises of them is read off.
+use mathlib.Core.Path.{_≡_, refl, sym, ap, _∙_, subst}
+use mathlib.Core.Logic.{_≢_}
+use mathlib.Core.Bool.{Bool, true, false, cond, not, _&&_, _||_}
+use mathlib.Core.List.{List, [], _∷_, _++_, map}
+use Prim.Native.Nat.{ℕ, zero, suc, _-_, _^_, _≤_, _<_}
+use native.Mathlib.Omega.{arith}
+use lib.Dec.{leb, eqb}
+use lib.ListN.{take, replicate}
+use borrow.Author.Tests.{leb-true}
+use Rattle.laws.specs.Define.{allOf}
+use Rattle.laws.specs.Every.{All}
+use Rattle.laws.specs.Tests.{r-ne, and-left, and-right}
+use Rattle.floor.specs.declared.Floor.{Floor}
+use Rattle.floor.specs.Model.{membersOf}
+use Rattle.floor.specs.Memory.{view}
+use Rattle.floor.specs.Well.{wellFormed}
+use Rattle.floor.specs.Calls.{freshAnswer}
+use Rattle.floor.specs.Bound.{bound}
+use Rattle.floor.specs.Live.{connected, connectedCount}
+use Rattle.floor.specs.Demand3.{Call, book, stop, repair, round, Typed, outcome, floorAfter, bookedIn, reportedIn, runsBy, latest, runsAfter, isRound, Quiet, roundsIn, Promises, Demand3}
+use Rattle.floor.proofs.Calling.{got, settings, fresh, can, Table, holds}
+use Rattle.floor.proofs.Theorem.{demand3}
+
+-- ---- the premises as tests, and what follows from them by the theorem alone
+unfoldable isQuiet : Floor → List Call → Bool
+isQuiet f [] = true
+isQuiet f (c ∷ cs) = (isRound c || not (eqb (outcome f c .refusal) 0)) && isQuiet (outcome f c .floor) cs
+
+quiet : (f : Floor) (cs : List Call) → isQuiet f cs ≡ true → Quiet f cs
+unfolding isQuiet
+quiet f [] h = tt
+quiet f (c ∷ cs) h =
+    let g = outcome f c .floor in
+    let p = isRound c || not (eqb (outcome f c .refusal) 0) in
+    (λ e. here e (and-left p (isQuiet g cs) h), quiet g cs (and-right p (isQuiet g cs) h))
+  where
+    here : isRound c ≡ false → (isRound c || not (eqb (outcome f c .refusal) 0)) ≡ true → outcome f c .refusal ≢ 0
+    here e k = r-ne (outcome f c .refusal) 0 .0 (rw e at k)
+
+-- the list cs on f, then the quiet list ds with rounds enough: tile t, which has a live path, is empty
+emptied : (f : Floor) → wellFormed f ≡ true → (cs ds : List Call) → All Typed cs → All Typed ds → isQuiet (floorAfter f cs) ds ≡ true
+    → leb (bound (f .settings) (connectedCount (view (floorAfter f cs)) (runsAfter f cs))) (roundsIn ds) ≡ true
+    → (t : ℕ) → connected (f .settings) (runsAfter f cs) t ≡ true → membersOf (view (floorAfter (floorAfter f cs) ds)) t ≡ []
+emptied f w cs ds typed later q enough t live =
+    let P = demand3 f w cs typed in
+    let K : Floor → ℕ = λ g. bound (f .settings) (connectedCount (view g) (runsAfter f cs)) in
+    let done : (g : Floor) → g ≡ P .now → Quiet g ds → K g ≤ roundsIn ds → membersOf (view (floorAfter g ds)) t ≡ [] =
+    λ g e. subst (λ (x : Floor). Quiet x ds → K x ≤ roundsIn ds → membersOf (view (floorAfter x ds)) t ≡ []) (sym e) (λ q′ b. P .emptied ds later q′ b t (P .counts-live t .1 live)) in
+    done (floorAfter f cs) (sym (P .is-now)) (quiet (floorAfter f cs) ds q) (leb-true (K (floorAfter f cs)) (roundsIn ds) enough)
+
+-- the answers' refusal numbers
+unfoldable answers : Floor → List Call → List ℕ
+answers f [] = []
+answers f (c ∷ cs) = outcome f c .refusal ∷ answers (outcome f c .floor) cs
+
+unfoldable bitOf : Bool → ℕ
+bitOf b = cond b 1 0
+
+-- n rounds
+abbrev rounds : ℕ → List Call
+rounds zero = []
+rounds (suc n) = round ∷ rounds n
+
+rounds-typed : (n : ℕ) → All Typed (rounds n)
+rounds-typed zero = tt
+rounds-typed (suc n) = (tt, rounds-typed n)
+
+-- ---- the first trial: W 2, hopper 1, canister 5 at (0, 0) on tile 0; after five rounds tile 0 is empty
+unfoldable pair : Floor
+pair = fresh 2 1 1
+
+first-trial : membersOf (view (floorAfter (floorAfter pair (book 0 (can 5 0 0) ∷ [])) (rounds 5))) 0 ≡ []
+unfolding holds pair can isQuiet floorAfter outcome runsAfter latest runsBy
+first-trial = emptied pair refl (book 0 (can 5 0 0) ∷ []) (rounds 5) (omega arith, tt) (rounds-typed 5) refl refl 0 refl
+
+-- ---- v 29: bookings (the second of the greatest number), a stop, a repair, rounds, and refused calls (31, 8, 33) among them
+unfoldable swift : Floor
+swift = got (freshAnswer (settings 2 1 1 29))
+
+unfoldable mixed : List Call
+mixed =
+    book 0 (can 5 0 0) ∷ round ∷ stop 0 ∷ book 0 (can 6 0 70) ∷ round ∷ repair 0 ∷ book 0 (can (2 ^ 32 - 1) 0 70) ∷ stop 1 ∷ book 0 (can 7 70 0) ∷ []
+
+-- seven rounds, with a refused booking (33), stop (8) and repair (32) between them
+unfoldable further : List Call
+further = book 0 (can 7 70 0) ∷ round ∷ stop 1 ∷ round ∷ repair 0 ∷ rounds 5
+
+unfoldable history : Table
+history =
+    let cut = runsAfter swift (take 5 mixed) in
+    (bookedIn swift mixed, 5 ∷ (2 ^ 32 - 1) ∷ [])
+    ∷ (reportedIn swift (mixed ++ further), 5 ∷ (2 ^ 32 - 1) ∷ [])
+    ∷ (answers swift (mixed ++ further), 0 ∷ 0 ∷ 0 ∷ 31 ∷ 0 ∷ 0 ∷ 0 ∷ 8 ∷ 33 ∷ 33 ∷ 0 ∷ 8 ∷ 0 ∷ 32 ∷ replicate 5 0)
+    -- tile 0 is stopped by the third call and runs again by the sixth; the hopper runs; tile 2 isn't there
+    ∷ (map bitOf (cut 0 ∷ cut 1 ∷ cut 2 ∷ runsAfter swift mixed 0 ∷ []), 0 ∷ 1 ∷ 0 ∷ 1 ∷ [])
+    ∷ (roundsIn mixed ∷ roundsIn further ∷ [], 2 ∷ 7 ∷ [])
+    ∷ []
+
+histories : holds history ≡ true
+unfolding holds swift can mixed further bitOf answers history isQuiet floorAfter outcome bookedIn reportedIn runsAfter latest runsBy
+histories = refl
+
+-- a booking's number has its width, and nothing is asked of the other calls
+typed : All Typed mixed
+unfolding mixed can
+typed = (omega arith, (tt, (tt, (omega arith, (tt, (tt, (omega arith, (tt, (omega arith, tt)))))))))
+
+later : All Typed further
+unfolding further can
+later = (omega arith, (tt, (tt, (tt, (tt, rounds-typed 5)))))
+
+mixed-empty : membersOf (view (floorAfter (floorAfter swift mixed) further)) 0 ≡ []
+unfolding holds swift can mixed further isQuiet floorAfter outcome runsAfter latest runsBy
+mixed-empty = emptied swift refl mixed further typed later refl refl 0 refl

@@ -1,0 +1,60 @@
+-- Rows beyond the paper's trials that hold a definition of this crate to its sentence: one table, one proof. A row is what the answers give, then what is due.
+use mathlib.Core.Path.{_≡_, refl}
+use mathlib.Core.Bool.{true}
+use mathlib.Core.List.{List, [], _∷_, _++_}
+use Prim.Native.Nat.{ℕ, suc, _*_, _/_, _%_, _^_}
+use lib.ListN.{set, take}
+use Rattle.laws.specs.Define.{tab}
+use Rattle.floor.specs.declared.Canister.{Canister}
+use Rattle.floor.specs.declared.Settings.{Settings}
+use Rattle.floor.specs.declared.Tile.{Tile}
+use Rattle.floor.specs.declared.Floor.{Floor}
+use Rattle.floor.specs.Calls.{freshAnswer, readAnswer}
+use Rattle.floor.proofs.Calling.{got, settings, fresh, can, book, stop, rounds, next, grant, liveCount, boundOf, Table, holds}
+
+-- W, H, hopper, fill set; l 21, r 0, v 10: four along each axis
+unfoldable dense : ℕ → ℕ → ℕ → ℕ → Settings
+dense W H hopper fill = record { columns = W; rows = H; hopper = hopper; sources = fill; width = 100; length = 21; gap = 0; travel = 10 }
+
+-- sixteen canisters from number 1 on, four along each axis
+unfoldable sixteen : List Canister
+sixteen = tab 16 (λ n. can (suc n) (26 * (n % 4)) (26 * (n / 4)))
+
+-- the 8 × 8 floor f with these on tile 63, and that tile's count n
+unfoldable counting : ℕ → Floor → Floor
+counting n f =
+    let h : Tile = record { running = 1; distance = 255; next = record { code = 0 }; token = record { code = 0 }; count = n } in
+    record { settings = f .settings; counters = record { last = 16; booked = 16; delivered = 0 }; tiles = set (f .tiles) 63 h; canisters = take 1008 (f .canisters) ++ sixteen }
+
+unfoldable table : Table
+table =
+    let ring = rounds 5 (stop 4 (fresh 3 3 7)) in
+    let plus = rounds 1 (book 8 0 0 7 (book 7 0 0 5 (book 6 0 0 3 (book 5 0 0 1 (fresh 3 3 4))))) in
+    let after = rounds 1 plus in
+    let corner = rounds 1 (book 7 0 0 7 (book 6 0 0 5 (book 5 0 0 1 (fresh 3 3 4)))) in
+    let slow = got (freshAnswer (settings 3 1 0 10)) in
+    let cut = stop 2 (book 7 0 0 3 (book 6 40 0 1 (book 5 0 0 1 (fresh 4 1 0)))) in
+    let east = book 5 50 50 2 (rounds 2 (fresh 3 1 0)) in
+    let full = got (freshAnswer (dense 8 8 0 (2 ^ 63))) in
+    -- ties, south before north: tile 1 has both at distance 3, tile 4 to its east is stopped
+    (next 1 ring, 0 ∷ 2 ∷ [])
+    -- the sides after west: south, then north; north where south doesn't want
+    ∷ (grant 4 plus, 0 ∷ 2 ∷ [])
+    ∷ (grant 4 after, 0 ∷ 3 ∷ [])
+    ∷ (grant 4 corner, 0 ∷ 3 ∷ [])
+    -- the gap for an east turn: a + l + d = U is granted
+    ∷ (grant 1 (book 6 30 70 1 east), 0 ∷ 4 ∷ [])
+    ∷ (grant 1 (book 6 31 0 1 east), 0 ∷ 0 ∷ [])
+    -- the bound with C 3, K 2, M 8; K leaves out a canister that is cut off: two on tile 1, tile 2 stopped, one on tile 3
+    ∷ (boundOf (book 6 40 0 1 (book 5 0 0 1 slow)) ∷ [], 34 ∷ [])
+    ∷ (liveCount cut ∷ boundOf cut ∷ [], 2 ∷ 27 ∷ [])
+    -- 2 for a fill set of bit C alone; 4 at tile C
+    ∷ (freshAnswer (dense 2 1 1 4) .refusal ∷ freshAnswer (dense 2 1 1 1) .refusal ∷ [], 2 ∷ 0 ∷ [])
+    ∷ (readAnswer (fresh 2 1 1) 1 .refusal ∷ readAnswer (fresh 2 1 1) 2 .refusal ∷ [], 0 ∷ 4 ∷ [])
+    -- a count above sixteen is malformed, also where the places that it would reach don't exist
+    ∷ (readAnswer (counting 16 full) 63 .refusal ∷ readAnswer (counting 200 full) 63 .refusal ∷ [], 0 ∷ 30 ∷ [])
+    ∷ []
+
+samples : holds table ≡ true
+unfolding holds dense sixteen counting table
+samples = refl
