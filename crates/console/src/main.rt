@@ -1,7 +1,5 @@
 // The console: reads calls line by line from standard input and answers each on standard output.
-mod typed;
-
-ghost use Prim.Native.Nat.{_≤_};
+ghost use Prim.Native.Nat.{_≤_, _<_};
 ghost use lib.ListN.{length};
 use libc::STDIN_FILENO;
 use typed::Session;
@@ -26,13 +24,12 @@ fn line_done(before: Session, line: &[u8]) -> Session {
     typed::obey(s, line)
 }
 
-// Obeys the whole lines of the text from `from` on.
-fn obey_lines(before: Session, text: &[u8], from: usize) -> Place
-    requires { ⌜ from ≤ length (now text) ⌝ }
+// Obeys the whole lines of the text.
+fn obey_lines(before: Session, text: &[u8]) -> Place
     ensures { λ r. ⌜ r .at ≤ length (now (text .entry)) ⌝ }
 {
     let mut s = before;
-    let mut at = from;
+    let mut at = 0;
     while s.going && at < text.len() {
         let to = words::find(text, at, b'\n');
         if to == text.len() {
@@ -46,55 +43,80 @@ fn obey_lines(before: Session, text: &[u8], from: usize) -> Place
 
 // Reads once into the buffer from `end` on. Gives the new end, the same one where the input has ended.
 fn read_more(buf: &mut [u8], end: usize) -> usize
-    requires { ⌜ end ≤ length (now buf) ⌝ }
+    requires { ⌜ end < length (now buf) ⌝ }
     ensures { λ r. ⌜ (end ≤ r) × (r ≤ length (now (buf .exit))) ⌝ }
 {
     let got = libc::read(STDIN_FILENO, &mut buf[end..]);
+    if got < 0 {
+        say::text(b"console: standard input can't be read any further\n");
+    }
     end + io::count(got, &buf[end..])
 }
 
-// Whether standard input has another byte.
-fn has_more() -> bool {
-    let mut one = [0u8; 1];
-    0 < read_more(&mut one, 0)
+// After a read: the session, how many bytes of an unfinished line stand at the front of the buffer, whether to read again.
+struct After {
+    session: Session,
+    kept: usize,
+    more: bool,
 }
 
-// What is left when reading ends: a last line without its end, or input that the buffer can't hold.
-fn finish(s: Session, rest: &[u8], full: bool) {
-    if !s.going {
-        return;
+// Reads once, obeys the lines that are whole now, and keeps what is left at the front.
+fn turn(before: Session, buf: &mut [u8], kept: usize) -> After
+    requires { ⌜ (kept ≤ 401) × (401 < length (now buf)) ⌝ }
+    ensures { λ r. ⌜ r .kept ≤ 401 ⌝ }
+{
+    let end = read_more(buf, kept);
+    if end == kept {
+        return After {
+            session: before,
+            kept: kept,
+            more: false,
+        };
     }
-    if full && has_more() {
-        say::text(b"console: over 65536 bytes of input; the lines after line ");
+    let place = obey_lines(before, &buf[..end]);
+    let s = place.session;
+    let left = lines::keep(buf, place.at, end);
+    After {
+        session: s,
+        kept: left,
+        more: s.going,
+    }
+}
+
+// The end of the input: a last line without its end is obeyed. `more`: there may be input, and no reads are left.
+fn finish(s: Session, rest: &[u8], more: bool) {
+    if more {
+        say::text(b"console: no reads are left; the lines after line ");
         say::number(s.lines);
         say::text(b" are not read\n");
         return;
     }
-    if 0 < rest.len() {
+    if s.going && 0 < rest.len() {
         line_done(s, rest);
     }
 }
 
-// Obeys lines as they come, until `quit`, the end of the input or a full buffer.
-fn converse(buf: &mut [u8]) {
+// Obeys lines as they come, until `quit` or the end of the input. A proved loop has to end, and nothing says that the input does: so the reads are counted down, from a number that no run uses up.
+fn converse(buf: &mut [u8])
+    requires { ⌜ 401 < length (now buf) ⌝ }
+{
     let mut s = typed::begin();
-    let mut at = 0;
-    let mut end = 0;
-    while s.going && end < buf.len() {
-        let next = read_more(buf, end);
-        if next == end {
-            break;
-        }
-        end = next;
-        let place = obey_lines(s, &buf[..end], at);
-        s = place.session;
-        at = place.at;
+    let mut kept: usize = 0;
+    let mut more = true;
+    let mut reads = u64::MAX;
+    while 0 < reads && more {
+        let done = turn(s, buf, kept);
+        let after = done.session;
+        s = after;
+        kept = done.kept;
+        more = done.more;
+        reads -= 1;
     }
-    finish(s, &buf[at..end], end == buf.len());
+    finish(s, &buf[..kept], more);
 }
 
 fn main() {
     say::text(b"console: begin with fresh; help lists the calls, quit ends\n");
-    let mut buf = io::large_buffer();
+    let mut buf = io::buffer();
     converse(&mut buf);
 }

@@ -70,6 +70,29 @@ pub fn refused(name: &[u8], n: u8) {
     text(b"\n");
 }
 
+// A call before there is a floor.
+pub fn no_floor(name: &[u8]) {
+    text(name);
+    text(b": there is no floor yet; begin with fresh\n");
+}
+
+// How many canisters.
+fn amount(n: u32) {
+    small(n);
+    if n == 1 {
+        text(b" canister");
+    } else {
+        text(b" canisters");
+    }
+}
+
+// A fresh on a floor with n canisters.
+pub fn holds(n: u32) {
+    text(b"fresh: the floor holds ");
+    amount(n);
+    text(b"; fresh! gives it up\n");
+}
+
 // A byte as it can be shown on a terminal.
 fn shown(b: u8) -> u8 {
     if b < 32 || 126 < b { b'?' } else { b }
@@ -157,12 +180,7 @@ pub fn tile(t: Tile) {
         side(t.token.code);
         text(b", ");
     }
-    number(t.count as u64);
-    if t.count == 1 {
-        text(b" canister");
-    } else {
-        text(b" canisters");
-    }
+    amount(t.count as u32);
 }
 
 // A tile with its canisters.
@@ -247,10 +265,11 @@ pub fn cell(at: u8, t: Tile) {
 
 pub fn help() {
     text(b"help: fresh W H HOPPER FILL U l r v   (FILL: all, none, or tiles as 0,2,3)\n");
+    text(b"      fresh! with the same words: also where the floor holds canisters\n");
     text(b"      book TILE NUMBER A B | stop TILE | repair TILE | round | rounds N | read TILE\n");
     text(b"      show | help | quit | # a remark\n");
     text(b"      tile = column x H + row, from the south-west; rounds takes at most 100000\n");
     text(b"      show: north row first; each tile as number:canisters arrow distance\n");
     text(b"      XX stopped, - no arrow, -- no distance\n");
-    text(b"      a line has at most 400 bytes, all input at most 65536\n");
+    text(b"      a line has at most 400 bytes; a remark may have more\n");
 }

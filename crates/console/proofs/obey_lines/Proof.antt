@@ -10,10 +10,10 @@ use Rattle.console.proofs.line_done.Reads as line-done-reads
 use Rattle.words.proofs.find.Reads as find-reads
 
 abbrev Inv-loop : tie.InvT-loop
-Inv-loop text from s₀ at₀ s at = at ≤ length text
+Inv-loop text s₀ at₀ s at = at ≤ length text
 
 abbrev μ-loop : tie.MeasureT-loop
-μ-loop text from s₀ at₀ s at = length text - at
+μ-loop text s₀ at₀ s at = length text - at
 
 loop-holds : tie.Need-loop-holds Inv-loop μ-loop
 loop-holds c = search needs

@@ -2,10 +2,10 @@ use Prim.Native.Nat.{ℕ, _+_, _*_, _-_, _≤_, _<_}
 use lib.ListN.{length}
 use native.Mathlib.Omega.{arith}
 use borrow.Author.Needs.{needs}
-use Rattle.console.proofs.typed.show_row.Statement.{statement}
-use Rattle.console.proofs.typed.show_row.Tie as tie
-use Rattle.console.proofs.typed.show_row.Reads as reads
-use Rattle.console.proofs.typed.show_row.Lts as lts
+use Rattle.typed.proofs.show_row.Statement.{statement}
+use Rattle.typed.proofs.show_row.Tie as tie
+use Rattle.typed.proofs.show_row.Reads as reads
+use Rattle.typed.proofs.show_row.Lts as lts
 use Rattle.calls.proofs.read.Reads as read-reads
 use Rattle.parse.proofs.byte.Reads as byte-reads
 use Rattle.say.proofs.cell.Reads as cell-reads

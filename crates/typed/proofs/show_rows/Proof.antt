@@ -2,11 +2,11 @@ use Prim.Native.Nat.{ℕ, _+_, _*_, _-_, _≤_, _<_}
 use lib.ListN.{length}
 use native.Mathlib.Omega.{arith}
 use borrow.Author.Needs.{needs}
-use Rattle.console.proofs.typed.show_rows.Statement.{statement}
-use Rattle.console.proofs.typed.show_rows.Tie as tie
-use Rattle.console.proofs.typed.show_rows.Reads as reads
-use Rattle.console.proofs.typed.show_rows.Lts as lts
-use Rattle.console.proofs.typed.show_row.Reads as show-row-reads
+use Rattle.typed.proofs.show_rows.Statement.{statement}
+use Rattle.typed.proofs.show_rows.Tie as tie
+use Rattle.typed.proofs.show_rows.Reads as reads
+use Rattle.typed.proofs.show_rows.Lts as lts
+use Rattle.typed.proofs.show_row.Reads as show-row-reads
 
 abbrev Inv-loop : tie.InvT-loop
 Inv-loop floor columns rows row₀ row = Unit {0}

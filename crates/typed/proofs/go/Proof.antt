@@ -2,14 +2,14 @@ use Prim.Native.Nat.{ℕ, _+_, _*_, _-_, _≤_, _<_}
 use lib.ListN.{length}
 use native.Mathlib.Omega.{arith}
 use borrow.Author.Needs.{needs}
-use Rattle.console.proofs.typed.go.Statement.{statement}
-use Rattle.console.proofs.typed.go.Tie as tie
-use Rattle.console.proofs.typed.go.Reads as reads
-use Rattle.console.proofs.typed.go.Lts as lts
+use Rattle.typed.proofs.go.Statement.{statement}
+use Rattle.typed.proofs.go.Tie as tie
+use Rattle.typed.proofs.go.Reads as reads
+use Rattle.typed.proofs.go.Lts as lts
 use Rattle.say.proofs.delivered.Reads as delivered-reads
 use Rattle.say.proofs.refused.Reads as refused-reads
 use Rattle.say.proofs.rounds.Reads as rounds-reads
-use Rattle.console.proofs.typed.step.Reads as step-reads
+use Rattle.typed.proofs.step.Reads as step-reads
 
 abbrev Inv-loop : tie.InvT-loop
 Inv-loop n next₀ k₀ t8 next k = k ≤ n

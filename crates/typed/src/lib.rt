@@ -1,14 +1,19 @@
 // The calls as they are typed: each takes the session and the line, writes its answer and gives the session on.
+ghost use Prim.Native.Nat.{_-_};
+ghost use mathlib.Core.Path.{_≡_};
 use floor::Canister;
+use floor::Counters;
 use floor::Floor;
 use floor::Settings;
+use parse::Numbers;
 use parse::Sources;
 
-// The floor, how many lines were read, how many rounds it went, whether to go on.
+// The floor, how many lines were read, how many rounds it went, whether a fresh has made it, whether to go on.
 pub struct Session {
     pub floor: Floor,
     pub lines: u64,
     pub rounds: u64,
+    pub made: bool,
     pub going: bool,
 }
 
@@ -32,6 +37,7 @@ pub fn begin() -> Session {
         floor: floor,
         lines: 0,
         rounds: 0,
+        made: false,
         going: true,
     }
 }
@@ -39,6 +45,27 @@ pub fn begin() -> Session {
 fn cannot(s: Session, line: &[u8]) -> Session {
     say::unreadable(s.lines, line);
     s
+}
+
+// A refused call changes nothing. Where no floor was made yet, the library refuses every call, because a floor of zeros isn't well formed.
+fn refused(s: Session, name: &[u8], n: u8) -> Session {
+    if s.made {
+        say::refused(name, n);
+    } else {
+        say::no_floor(name);
+    }
+    s
+}
+
+// The canisters on a floor.
+fn held(c: Counters) -> u32
+    ensures { λ r. ⌜ r ≡ c .booked - c .delivered ⌝ }
+{
+    if c.delivered < c.booked {
+        c.booked - c.delivered
+    } else {
+        0
+    }
 }
 
 // Every tile but the hopper.
@@ -51,10 +78,8 @@ fn all_sources(s: Settings) -> u64 {
     sets::without(sets::full(all as u8), hopper)
 }
 
-// The settings that a `fresh` names, without its sources.
-fn chosen_settings(line: &[u8]) -> Settings {
-    let a = parse::numbers_at(line, 1, 3);
-    let b = parse::numbers_at(line, 5, 4);
+// The settings that a `fresh` names by the numbers before and after its fill tiles, without these.
+fn chosen_settings(a: Numbers, b: Numbers) -> Settings {
     Settings {
         columns: parse::byte(a.at[0]),
         rows: parse::byte(a.at[1]),
@@ -67,14 +92,14 @@ fn chosen_settings(line: &[u8]) -> Settings {
     }
 }
 
-// A refused fresh leaves the floor as it was.
-fn fresh(s: Session, line: &[u8]) -> Session {
+// A refused fresh leaves the floor as it was. One that holds canisters is given up by `fresh!` alone.
+fn fresh(s: Session, line: &[u8], give_up: bool) -> Session {
     let a = parse::numbers_at(line, 1, 3);
     let b = parse::numbers_at(line, 5, 4);
     if !(a.good & b.good & parse::ended(line, 9)) {
         return cannot(s, line);
     }
-    let mut chosen = chosen_settings(line);
+    let mut chosen = chosen_settings(a, b);
     let everywhere = all_sources(chosen);
     let sources = parse::sources_at(line, 4);
     match sources {
@@ -87,11 +112,17 @@ fn fresh(s: Session, line: &[u8]) -> Session {
         say::refused(b"fresh", answer.refusal);
         return s;
     }
+    let canisters = held(s.floor.counters);
+    if 0 < canisters && !give_up {
+        say::holds(canisters);
+        return s;
+    }
     say::made(a.at[0], a.at[1], a.at[2]);
     let mut next = s;
     let made = answer.floor;
     next.floor = made;
     next.rounds = 0;
+    next.made = true;
     next
 }
 
@@ -108,8 +139,7 @@ fn book(s: Session, line: &[u8]) -> Session {
     let floor = s.floor;
     let answer = calls::book(floor, n.at[0], c);
     if answer.refusal != 0 {
-        say::refused(b"book", answer.refusal);
-        return s;
+        return refused(s, b"book", answer.refusal);
     }
     say::booked(c, n.at[0]);
     let mut next = s;
@@ -126,8 +156,7 @@ fn stop(s: Session, line: &[u8]) -> Session {
     let floor = s.floor;
     let answer = calls::stop(floor, n.at[0]);
     if answer.refusal != 0 {
-        say::refused(b"stop", answer.refusal);
-        return s;
+        return refused(s, b"stop", answer.refusal);
     }
     say::stopped(n.at[0]);
     let mut next = s;
@@ -144,8 +173,7 @@ fn repair(s: Session, line: &[u8]) -> Session {
     let floor = s.floor;
     let answer = calls::repair(floor, n.at[0]);
     if answer.refusal != 0 {
-        say::refused(b"repair", answer.refusal);
-        return s;
+        return refused(s, b"repair", answer.refusal);
     }
     say::repaired(n.at[0]);
     let mut next = s;
@@ -188,8 +216,7 @@ fn round(s: Session, line: &[u8]) -> Session {
     let done = step(s);
     let next = done.session;
     if done.refusal != 0 {
-        say::refused(b"round", done.refusal);
-        return next;
+        return refused(next, b"round", done.refusal);
     }
     let delivered = done.delivered;
     say::delivered(next.rounds, done.count, delivered);
@@ -203,8 +230,7 @@ fn go(s: Session, n: u32) -> Session {
     while k < n {
         let done = step(next);
         if done.refusal != 0 {
-            say::refused(b"rounds", done.refusal);
-            return next;
+            return refused(next, b"rounds", done.refusal);
         }
         let after = done.session;
         next = after;
@@ -223,6 +249,9 @@ fn rounds(s: Session, line: &[u8]) -> Session {
     if !n.good {
         return cannot(s, line);
     }
+    if !s.made {
+        return refused(s, b"rounds", 0);
+    }
     let many = n.at[0];
     if MOST < many {
         say::text(b"rounds: at most 100000\n");
@@ -239,8 +268,7 @@ fn read(s: Session, line: &[u8]) -> Session {
     let floor = s.floor;
     let answer = calls::read(floor, n.at[0]);
     if answer.refusal != 0 {
-        say::refused(b"read", answer.refusal);
-        return s;
+        return refused(s, b"read", answer.refusal);
     }
     let t = answer.tile;
     let members = answer.members;
@@ -281,8 +309,7 @@ fn show(s: Session, line: &[u8]) -> Session {
     let floor = s.floor;
     let answer = calls::read(floor, 0);
     if answer.refusal != 0 {
-        say::refused(b"show", answer.refusal);
-        return s;
+        return refused(s, b"show", answer.refusal);
     }
     let counters = floor.counters;
     say::counters(counters, s.rounds);
@@ -294,7 +321,10 @@ fn show(s: Session, line: &[u8]) -> Session {
 // Obeys one line.
 pub fn obey(s: Session, line: &[u8]) -> Session {
     if parse::is(line, 0, b"fresh") {
-        return fresh(s, line);
+        return fresh(s, line, false);
+    }
+    if parse::is(line, 0, b"fresh!") {
+        return fresh(s, line, true);
     }
     if parse::is(line, 0, b"book") {
         return book(s, line);
