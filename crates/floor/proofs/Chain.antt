@@ -4,12 +4,12 @@ use mathlib.Core.Bool.{Bool, true, false, cond, _&&_}
 use mathlib.Core.List.{List, [], _∷_, _++_}
 use Prim.Native.Nat.{ℕ}
 use lib.Dec.{eqb}
-use lib.ListN.{take}
 use Rattle.floor.specs.declared.Canister.{Canister}
 use Rattle.floor.specs.declared.Floor.{Floor}
 use Rattle.floor.specs.declared.Answer.{Answer}
 use Rattle.floor.specs.declared.Rounded.{Rounded}
 use Rattle.floor.specs.Calls.{bookAnswer, stopAnswer, repairAnswer, roundAnswer}
+use Rattle.floor.specs.Reports.{listed}
 use Rattle.floor.specs.Demand3.{Call, book, stop, repair, round, outcome, floorAfter, bookedIn, reportedIn, runsBy, latest}
 
 -- the number that a booking's answer accepted
@@ -18,7 +18,7 @@ bookedBy c r = cond (eqb (r .refusal) 0) (c .number ∷ []) []
 
 -- the numbers that a round's answer reported delivered
 abbrev pub reportedBy : Rounded → List ℕ
-reportedBy r = take (r .report .count) (r .report .delivered)
+reportedBy r = listed (r .report)
 
 -- calls made one after another from f, each answer r by its contract; g is the last floor, bs what was booked and ns what was reported delivered
 pub data Made : Floor → List Call → Floor → List ℕ → List ℕ → Type 0 where

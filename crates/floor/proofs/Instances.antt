@@ -11,6 +11,7 @@ use borrow.Author.Tests.{leb-true}
 use Rattle.laws.specs.Define.{allOf}
 use Rattle.laws.specs.Every.{All}
 use Rattle.laws.specs.Tests.{r-ne, and-left, and-right}
+use Rattle.floor.specs.declared.Canister.{Canister}
 use Rattle.floor.specs.declared.Floor.{Floor}
 use Rattle.floor.specs.Model.{membersOf}
 use Rattle.floor.specs.Memory.{view}
@@ -19,7 +20,7 @@ use Rattle.floor.specs.Calls.{freshAnswer}
 use Rattle.floor.specs.Bound.{bound}
 use Rattle.floor.specs.Live.{connected, connectedCount}
 use Rattle.floor.specs.Demand3.{Call, book, stop, repair, round, Typed, outcome, floorAfter, bookedIn, reportedIn, runsBy, latest, runsAfter, isRound, Quiet, roundsIn, Promises, Demand3}
-use Rattle.floor.proofs.Calling.{got, settings, fresh, can, Table, holds}
+use Rattle.floor.proofs.Calling.{got, settings, fresh, can, book as put, rounds as run, counted, Table, holds}
 use Rattle.floor.proofs.Theorem.{demand3}
 
 -- ---- the premises as tests, and what follows from them by the theorem alone
@@ -62,25 +63,34 @@ abbrev rounds : ℕ → List Call
 rounds zero = []
 rounds (suc n) = round ∷ rounds n
 
-rounds-typed : (n : ℕ) → All Typed (rounds n)
-rounds-typed zero = tt
-rounds-typed (suc n) = (tt, rounds-typed n)
+-- all that is asked of a call: a booking's number has 32 bits
+typed-book : (t : ℕ) (c : Canister) → c .number < 2 ^ 32 → Typed (book t c)
+typed-book t c h = h
+
+typed-stop : (t : ℕ) → Typed (stop t)
+typed-stop t = tt
+
+typed-repair : (t : ℕ) → Typed (repair t)
+typed-repair t = tt
+
+typed-rounds : (n : ℕ) → All Typed (rounds n)
+typed-rounds zero = tt
+typed-rounds (suc n) = (tt, typed-rounds n)
 
 -- ---- the first trial: W 2, hopper 1, canister 5 at (0, 0) on tile 0; after five rounds tile 0 is empty
-unfoldable pair : Floor
-pair = fresh 2 1 1
+unfoldable one : Floor
+one = put 5 0 0 0 (fresh 2 1 1)
 
-first-trial : membersOf (view (floorAfter (floorAfter pair (book 0 (can 5 0 0) ∷ [])) (rounds 5))) 0 ≡ []
-unfolding holds pair can isQuiet floorAfter outcome runsAfter latest runsBy
-first-trial = emptied pair refl (book 0 (can 5 0 0) ∷ []) (rounds 5) (omega arith, tt) (rounds-typed 5) refl refl 0 refl
+first-trial : membersOf (view (floorAfter (floorAfter one []) (rounds 5))) 0 ≡ []
+unfolding holds one isQuiet floorAfter outcome runsAfter latest runsBy
+first-trial = emptied one refl [] (rounds 5) tt (typed-rounds 5) refl refl 0 refl
 
--- ---- v 29: bookings (the second of the greatest number), a stop, a repair, rounds, and refused calls (31, 8, 33) among them
+-- ---- v 29, begun after 4 was delivered and with 5 on tile 0: a booking of the greatest number, a stop, a repair, rounds, and refused calls (31, 8, 33) among them
 unfoldable swift : Floor
-swift = got (freshAnswer (settings 2 1 1 29))
+swift = put 5 0 0 0 (run 3 (put 4 0 0 0 (got (freshAnswer (settings 2 1 1 29)))))
 
 unfoldable mixed : List Call
-mixed =
-    book 0 (can 5 0 0) ∷ round ∷ stop 0 ∷ book 0 (can 6 0 70) ∷ round ∷ repair 0 ∷ book 0 (can (2 ^ 32 - 1) 0 70) ∷ stop 1 ∷ book 0 (can 7 70 0) ∷ []
+mixed = round ∷ stop 0 ∷ book 0 (can 6 0 70) ∷ round ∷ repair 0 ∷ book 0 (can (2 ^ 32 - 1) 0 70) ∷ stop 1 ∷ book 0 (can 7 70 0) ∷ []
 
 -- seven rounds, with a refused booking (33), stop (8) and repair (32) between them
 unfoldable further : List Call
@@ -88,11 +98,12 @@ further = book 0 (can 7 70 0) ∷ round ∷ stop 1 ∷ round ∷ repair 0 ∷ ro
 
 unfoldable history : Table
 history =
-    let cut = runsAfter swift (take 5 mixed) in
-    (bookedIn swift mixed, 5 ∷ (2 ^ 32 - 1) ∷ [])
+    let cut = runsAfter swift (take 4 mixed) in
+    (counted swift, 0 ∷ 5 ∷ 2 ∷ 1 ∷ [])
+    ∷ (bookedIn swift mixed, (2 ^ 32 - 1) ∷ [])
     ∷ (reportedIn swift (mixed ++ further), 5 ∷ (2 ^ 32 - 1) ∷ [])
-    ∷ (answers swift (mixed ++ further), 0 ∷ 0 ∷ 0 ∷ 31 ∷ 0 ∷ 0 ∷ 0 ∷ 8 ∷ 33 ∷ 33 ∷ 0 ∷ 8 ∷ 0 ∷ 32 ∷ replicate 5 0)
-    -- tile 0 is stopped by the third call and runs again by the sixth; the hopper runs; tile 2 isn't there
+    ∷ (answers swift (mixed ++ further), 0 ∷ 0 ∷ 31 ∷ 0 ∷ 0 ∷ 0 ∷ 8 ∷ 33 ∷ 33 ∷ 0 ∷ 8 ∷ 0 ∷ 32 ∷ replicate 5 0)
+    -- tile 0 is stopped by the second call and runs again by the fifth; the hopper runs; tile 2 isn't there
     ∷ (map bitOf (cut 0 ∷ cut 1 ∷ cut 2 ∷ runsAfter swift mixed 0 ∷ []), 0 ∷ 1 ∷ 0 ∷ 1 ∷ [])
     ∷ (roundsIn mixed ∷ roundsIn further ∷ [], 2 ∷ 7 ∷ [])
     ∷ []
@@ -101,14 +112,17 @@ histories : holds history ≡ true
 unfolding holds swift can mixed further bitOf answers history isQuiet floorAfter outcome bookedIn reportedIn runsAfter latest runsBy
 histories = refl
 
--- a booking's number has its width, and nothing is asked of the other calls
 typed : All Typed mixed
 unfolding mixed can
-typed = (omega arith, (tt, (tt, (omega arith, (tt, (tt, (omega arith, (tt, (omega arith, tt)))))))))
+typed =
+    let six = can 6 0 70 in
+    let most = can (2 ^ 32 - 1) 0 70 in
+    let seven = can 7 70 0 in
+    (tt, (typed-stop 0, (typed-book 0 six (omega arith), (tt, (typed-repair 0, (typed-book 0 most (omega arith), (typed-stop 1, (typed-book 0 seven (omega arith), tt))))))))
 
 later : All Typed further
 unfolding further can
-later = (omega arith, (tt, (tt, (tt, (tt, rounds-typed 5)))))
+later = let seven = can 7 70 0 in (typed-book 0 seven (omega arith), (tt, (typed-stop 1, (tt, (typed-repair 0, typed-rounds 5)))))
 
 mixed-empty : membersOf (view (floorAfter (floorAfter swift mixed) further)) 0 ≡ []
 unfolding holds swift can mixed further isQuiet floorAfter outcome runsAfter latest runsBy

@@ -3,14 +3,15 @@ use mathlib.Core.Path.{_≡_, refl}
 use mathlib.Core.Bool.{true}
 use mathlib.Core.List.{List, [], _∷_, _++_}
 use Prim.Native.Nat.{ℕ, suc, _*_, _/_, _%_, _^_}
-use lib.ListN.{set, take}
+use lib.ListN.{length, set, take}
 use Rattle.laws.specs.Define.{tab}
 use Rattle.floor.specs.declared.Canister.{Canister}
 use Rattle.floor.specs.declared.Settings.{Settings}
 use Rattle.floor.specs.declared.Tile.{Tile}
 use Rattle.floor.specs.declared.Floor.{Floor}
-use Rattle.floor.specs.Calls.{freshAnswer, readAnswer}
-use Rattle.floor.proofs.Calling.{got, settings, fresh, can, book, stop, rounds, next, grant, liveCount, boundOf, Table, holds}
+use Rattle.floor.specs.Memory.{zeroFloor}
+use Rattle.floor.specs.Calls.{freshAnswer, roundAnswer, readAnswer}
+use Rattle.floor.proofs.Calling.{got, settings, fresh, can, book, stop, rounds, next, grant, liveCount, boundOf, refusedRound, Table, holds}
 
 -- W, H, hopper, fill set; l 21, r 0, v 10: four along each axis
 unfoldable dense : ℕ → ℕ → ℕ → ℕ → Settings
@@ -34,6 +35,9 @@ table =
     let corner = rounds 1 (book 7 0 0 7 (book 6 0 0 5 (book 5 0 0 1 (fresh 3 3 4)))) in
     let slow = got (freshAnswer (settings 3 1 0 10)) in
     let cut = stop 2 (book 7 0 0 3 (book 6 40 0 1 (book 5 0 0 1 (fresh 4 1 0)))) in
+    let west = book 5 0 0 0 (rounds 2 (fresh 3 1 2)) in
+    let south = book 5 0 0 0 (rounds 2 (fresh 1 3 2)) in
+    let north = book 5 50 50 2 (rounds 2 (fresh 1 3 0)) in
     let east = book 5 50 50 2 (rounds 2 (fresh 3 1 0)) in
     let full = got (freshAnswer (dense 8 8 0 (2 ^ 63))) in
     -- ties, south before north: tile 1 has both at distance 3, tile 4 to its east is stopped
@@ -42,7 +46,10 @@ table =
     ∷ (grant 4 plus, 0 ∷ 2 ∷ [])
     ∷ (grant 4 after, 0 ∷ 3 ∷ [])
     ∷ (grant 4 corner, 0 ∷ 3 ∷ [])
-    -- the gap for an east turn: a + l + d = U is granted
+    -- the gap: a = d for a west turn, b = d for south, b + l + d = U for north, a + l + d = U for east, and no more
+    ∷ (grant 1 (book 6 40 0 1 west), 0 ∷ 1 ∷ [])
+    ∷ (grant 1 (book 6 0 40 1 south), 0 ∷ 2 ∷ [])
+    ∷ (grant 1 (book 6 70 30 1 north), 0 ∷ 3 ∷ [])
     ∷ (grant 1 (book 6 30 70 1 east), 0 ∷ 4 ∷ [])
     ∷ (grant 1 (book 6 31 0 1 east), 0 ∷ 0 ∷ [])
     -- the bound with C 3, K 2, M 8; K leaves out a canister that is cut off: two on tile 1, tile 2 stopped, one on tile 3
@@ -51,6 +58,9 @@ table =
     -- 2 for a fill set of bit C alone; 4 at tile C
     ∷ (freshAnswer (dense 2 1 1 4) .refusal ∷ freshAnswer (dense 2 1 1 1) .refusal ∷ [], 2 ∷ 0 ∷ [])
     ∷ (readAnswer (fresh 2 1 1) 1 .refusal ∷ readAnswer (fresh 2 1 1) 2 .refusal ∷ [], 0 ∷ 4 ∷ [])
+    -- a refused round: its floor, and zeros; a report has 64 grants
+    ∷ (refusedRound zeroFloor, 30 ∷ 1 ∷ 1 ∷ [])
+    ∷ (length (roundAnswer west .report .grants) ∷ [], 64 ∷ [])
     -- a count above sixteen is malformed, also where the places that it would reach don't exist
     ∷ (readAnswer (counting 16 full) 63 .refusal ∷ readAnswer (counting 200 full) 63 .refusal ∷ [], 0 ∷ 30 ∷ [])
     ∷ []

@@ -5,7 +5,7 @@ use mathlib.Core.Bool.{Bool, true, false, cond, not, _&&_}
 use mathlib.Core.List.{List, [], _∷_, _++_, List·Permᴰ}
 use Prim.Native.Nat.{ℕ, _+_, _^_, _≤_, _<_}
 use lib.Dec.{eqb}
-use lib.ListN.{length, take}
+use lib.ListN.{length}
 use Rattle.laws.specs.Define.{allOf, pairsOf}
 use Rattle.laws.specs.Every.{All}
 use Rattle.floor.specs.declared.Canister.{Canister}
@@ -15,6 +15,7 @@ use Rattle.floor.specs.Model.{runsOf, membersOf, numbersOn}
 use Rattle.floor.specs.Memory.{view}
 use Rattle.floor.specs.Well.{inside, apart, wellFormed}
 use Rattle.floor.specs.Calls.{bookAnswer, stopAnswer, repairAnswer, roundAnswer}
+use Rattle.floor.specs.Reports.{listed}
 use Rattle.floor.specs.Bound.{bound}
 use Rattle.floor.specs.Live.{LivePath, connected, connectedCount}
 
@@ -39,12 +40,12 @@ pub record Outcome : Type 0 where
   pub booked : List ℕ
   pub reported : List ℕ
 
--- a booking's number counts if it is accepted; a round reports the first `count` of its report's four
+-- a booking's number counts if it is accepted; a round reports what its report lists
 unfoldable pub outcome : Floor → Call → Outcome
 outcome f (book t c) = let r = bookAnswer f t c in record { refusal = r .refusal; floor = r .floor; booked = cond (eqb (r .refusal) 0) (c .number ∷ []) []; reported = [] }
 outcome f (stop t) = let r = stopAnswer f t in record { refusal = r .refusal; floor = r .floor; booked = []; reported = [] }
 outcome f (repair t) = let r = repairAnswer f t in record { refusal = r .refusal; floor = r .floor; booked = []; reported = [] }
-outcome f round = let r = roundAnswer f in record { refusal = r .refusal; floor = r .floor; booked = []; reported = take (r .report .count) (r .report .delivered) }
+outcome f round = let r = roundAnswer f in record { refusal = r .refusal; floor = r .floor; booked = []; reported = listed (r .report) }
 
 -- "Each call gets its own arguments and the floor the last one gave; a refused call gives that floor back and stays in the list."
 unfoldable pub floorAfter : Floor → List Call → Floor
