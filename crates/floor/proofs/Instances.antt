@@ -1,4 +1,4 @@
--- Demand 3 on concrete lists: its premises are met there, and what it promises of them is read off.
+-- Demand 3 on concrete lists: its premises are met there, and what it promises of them is read off. Then what the words of later statements mean on such lists.
 use mathlib.Core.Path.{_≡_, refl, sym, ap, _∙_, subst}
 use mathlib.Core.Logic.{_≢_}
 use mathlib.Core.Bool.{Bool, true, false, cond, not, _&&_, _||_}
@@ -20,6 +20,7 @@ use Rattle.floor.specs.Calls.{freshAnswer}
 use Rattle.floor.specs.Bound.{bound}
 use Rattle.floor.specs.Live.{connected, connectedCount}
 use Rattle.floor.specs.Demand3.{Call, book, stop, repair, round, Typed, outcome, floorAfter, bookedIn, reportedIn, runsBy, latest, runsAfter, isRound, Quiet, roundsIn, Promises, Demand3}
+use Rattle.floor.specs.Together.{stops, repairs, Exchangeable, presses, booking, reportTo, saidIn, BothBooked}
 use Rattle.floor.proofs.Calling.{got, settings, fresh, can, book as put, rounds as run, counted, Table, holds}
 use Rattle.floor.proofs.Theorem.{demand3}
 
@@ -127,3 +128,25 @@ later = let seven = can 7 70 0 in (typed-book 0 seven (omega arith), (tt, (typed
 mixed-empty : membersOf (view (floorAfter (floorAfter swift mixed) further)) 0 ≡ []
 unfolding holds swift can mixed further isQuiet floorAfter outcome runsAfter latest runsBy
 mixed-empty = emptied swift refl mixed further typed later refl refl 0 refl
+
+-- ---- [14]: calls that may change places; two bookings that are accepted on two tiles; the answers of a list with the rounds' reports
+stop-repair : (t u : ℕ) → t ≢ u → Exchangeable (stop t) (repair u)
+stop-repair t u n = presses n stops repairs
+
+book-stop : (t u : ℕ) (c : Canister) → t ≢ u → c .number < 2 ^ 32 → Exchangeable (book t c) (stop u)
+book-stop t u c n h = booking n h stops
+
+both-booked : BothBooked (fresh 3 1 2) 0 (can 5 0 0) 1 (can 7 0 0)
+unfolding holds can outcome
+both-booked = (refl, refl)
+
+unfoldable heard : Table
+heard =
+    let calls = book 0 (can 6 0 0) ∷ rounds 4 in
+    (map (λ x. x .0) (saidIn one calls), 34 ∷ replicate 4 0)
+    ∷ (map (λ x. x .1 .count) (saidIn one calls), 0 ∷ 0 ∷ 0 ∷ 0 ∷ 1 ∷ [])
+    ∷ []
+
+heard-all : holds heard ≡ true
+unfolding holds one can outcome reportTo saidIn heard
+heard-all = refl

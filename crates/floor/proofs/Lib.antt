@@ -30,6 +30,8 @@ pub mod Lists
 pub mod Reports
 pub mod Theorem
 pub mod Chain
+pub mod Forms
+pub mod Together
 pub mod Numbering
 pub mod Calling
 pub mod Trials

@@ -12,3 +12,4 @@ pub mod Reports
 pub mod Bound
 pub mod Live
 pub mod Demand3
+pub mod Together

@@ -1,0 +1,80 @@
+-- Two phones, two tiles: which calls may change places, and what stop, repair, stop comes to. The theorem is `two-phones` of proofs/Together.
+use mathlib.Core.Path.{_≡_}
+use mathlib.Core.Logic.{_≢_}
+use mathlib.Core.Bool.{true, false}
+use mathlib.Core.List.{List, [], _∷_, _++_}
+use Prim.Native.Nat.{ℕ, _^_, _<_}
+use Rattle.floor.specs.declared.Canister.{Canister}
+use Rattle.floor.specs.declared.Floor.{Floor}
+use Rattle.floor.specs.declared.Report.{Report}
+use Rattle.floor.specs.Settings.{isHopper}
+use Rattle.floor.specs.Model.{runsOf}
+use Rattle.floor.specs.Memory.{view}
+use Rattle.floor.specs.Well.{wellFormed}
+use Rattle.floor.specs.Calls.{zeroReport, roundAnswer}
+use Rattle.floor.specs.Demand3.{Call, book, stop, repair, round, outcome, floorAfter}
+
+-- a stop or a repair of tile t
+pub data Presses (t : ℕ) : Call → Type 0 where
+  stops : Presses t (stop t)
+  repairs : Presses t (repair t)
+
+-- two calls that may change places; each pair stands here one way round, since what is said of it reads the same both ways
+pub data Exchangeable : Call → Call → Type 0 where
+  -- "Stops and repairs of different tiles"
+  presses : {t u : ℕ} {c e : Call} → t ≢ u → Presses t c → Presses u e → Exchangeable c e
+  -- "A booking and a stop or repair of another tile"; the number has its width, 32 bits
+  booking : {t u : ℕ} {b : Canister} {e : Call} → t ≢ u → b .number < 2 ^ 32 → Presses u e → Exchangeable (book t b) e
+
+-- c and e from f: "the same floor and the same two answers in either order"
+pub record EitherOrder (f : Floor) (c e : Call) : Type 0 where
+  pub same-floor : floorAfter f (c ∷ e ∷ []) ≡ floorAfter f (e ∷ c ∷ [])
+  pub first-answer : outcome (outcome f e .floor) c .refusal ≡ outcome f c .refusal
+  pub second-answer : outcome (outcome f c .floor) e .refusal ≡ outcome f e .refusal
+
+-- a round's report; zeros for the other calls, which have none
+unfoldable pub reportTo : Floor → Call → Report
+reportTo f (book t b) = zeroReport
+reportTo f (stop t) = zeroReport
+reportTo f (repair t) = zeroReport
+reportTo f round = roundAnswer f .report
+
+-- all that a call answers beside its floor: its refusal number and its report
+abbrev pub said : Floor → Call → ℕ × Report
+said f c = (outcome f c .refusal, reportTo f c)
+
+-- the answers of a list, in its order
+unfoldable pub saidIn : Floor → List Call → List (ℕ × Report)
+saidIn f [] = []
+saidIn f (c ∷ cs) = said f c ∷ saidIn (outcome f c .floor) cs
+
+-- c and e as neighbours in a list from f: exchanged, they take their answers along, and no other answer changes
+pub record Exchanged (f : Floor) (before : List Call) (c e : Call) (after : List Call) : Type 0 where
+  pub here : Floor
+  pub is-here : here ≡ floorAfter f before
+  pub same-floor : floorAfter f (before ++ (c ∷ e ∷ after)) ≡ floorAfter f (before ++ (e ∷ c ∷ after))
+  pub answers : saidIn f (before ++ (c ∷ e ∷ after)) ≡ saidIn f before ++ (said here c ∷ said here e ∷ saidIn (floorAfter here (c ∷ e ∷ [])) after)
+  pub exchanged : saidIn f (before ++ (e ∷ c ∷ after)) ≡ saidIn f before ++ (said here e ∷ said here c ∷ saidIn (floorAfter here (c ∷ e ∷ [])) after)
+
+-- b on tile t and then c on tile u are both accepted
+abbrev pub BothBooked : Floor → ℕ → Canister → ℕ → Canister → Type 0
+BothBooked f t b u c = (outcome f (book t b) .refusal ≡ 0) × (outcome (outcome f (book t b) .floor) (book u c) .refusal ≡ 0)
+
+-- f is any floor, well formed or not; t and u are any numbers, of tiles or not
+pub record TwoPhones (f : Floor) : Type 0 where
+  -- "the same floor and the same two answers in either order, refused ones included"; and so anywhere in a list
+  pub either : (c e : Call) → Exchangeable c e → EitherOrder f c e
+  pub anywhere : (before : List Call) (c e : Call) (after : List Call) → Exchangeable c e → Exchanged f before c e after
+  -- "On one running tile other than a hopper, stop, repair, stop gives the floor of a single stop": the floor is the same on any tile; on such a one all three are accepted
+  pub again : (t : ℕ) → floorAfter f (stop t ∷ repair t ∷ stop t ∷ []) ≡ floorAfter f (stop t ∷ [])
+  pub again-accepted : (t : ℕ) → wellFormed f ≡ true → runsOf (view f) t ≡ true → isHopper (f .settings) t ≡ false
+      → (outcome f (stop t) .refusal ≡ 0) × (outcome (floorAfter f (stop t ∷ [])) (repair t) .refusal ≡ 0) × (outcome (floorAfter f (stop t ∷ repair t ∷ [])) (stop t) .refusal ≡ 0)
+  -- "Two bookings of given numbers on one floor, both accepted in one order, never are in the other"
+  pub rising : (t u : ℕ) (b c : Canister) → BothBooked f t b u c → ¬ (BothBooked f u c t b)
+  -- "because numbers must rise": in the other order the first is accepted, and the second refused by 33
+  pub rising-answers : (t u : ℕ) (b c : Canister) → c .number < 2 ^ 32 → BothBooked f t b u c
+      → (outcome f (book u c) .refusal ≡ 0) × (outcome (outcome f (book u c) .floor) (book t b) .refusal ≡ 33)
+
+-- the theorem: for every floor
+abbrev pub Together : Type 0
+Together = (f : Floor) → TwoPhones f
