@@ -24,14 +24,18 @@ pub const NAMES: [&str; 8] = [
     "fresh", "book", "stop", "repair", "round", "read", "write", "load",
 ];
 
+pub const BOOK: usize = 1;
+pub const STOP: usize = 2;
+pub const REPAIR: usize = 3;
+
 impl Call {
     /// Its place among `NAMES`.
     pub fn kind(&self) -> usize {
         match self {
             Call::Fresh { .. } => 0,
-            Call::Book { .. } => 1,
-            Call::Stop { .. } => 2,
-            Call::Repair { .. } => 3,
+            Call::Book { .. } => BOOK,
+            Call::Stop { .. } => STOP,
+            Call::Repair { .. } => REPAIR,
             Call::Round => 4,
             Call::Read { .. } => 5,
             Call::Write { .. } => 6,
@@ -41,6 +45,17 @@ impl Call {
 
     pub fn name(&self) -> &'static str {
         NAMES[self.kind()]
+    }
+
+    /// The tile that it names.
+    pub fn tile(&self) -> Option<u32> {
+        match self {
+            Call::Book { tile, .. }
+            | Call::Stop { tile }
+            | Call::Repair { tile }
+            | Call::Read { tile } => Some(*tile),
+            _ => None,
+        }
     }
 }
 
@@ -72,6 +87,14 @@ impl Outcome {
             Outcome::Round(answer) => answer.refusal,
             Outcome::Reading(answer) => answer.refusal,
             Outcome::Written(answer, _) => answer.refusal,
+        }
+    }
+
+    /// A round's report, zeros for other calls.
+    pub fn report(&self) -> Report {
+        match self {
+            Outcome::Round(answer) => answer.report,
+            _ => Report::ZERO,
         }
     }
 

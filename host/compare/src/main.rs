@@ -2,6 +2,7 @@
 
 mod call;
 mod convert;
+mod exchange;
 #[cfg(feature = "faults")]
 mod faults;
 mod images;
@@ -35,8 +36,29 @@ struct Found {
     failure: Box<Failure>,
 }
 
-/// Cycles of all four kinds until both numbers are reached.
+/// The four kinds, then the runs for single requests, which have random
+/// numbers and counts of their own.
 fn run(plan: Plan, tally: &mut Tally) -> Result<(), Found> {
+    cycles(plan, tally)?;
+    let mut further = Tally::new();
+    let made = requests(plan, &mut further);
+    tally.add(further);
+    made
+}
+
+/// One of each for five hundred calls.
+fn requests(plan: Plan, tally: &mut Tally) -> Result<(), Found> {
+    for at in 0..plan.calls / 500 {
+        let mut rng = Rng::new(Rng::new(!plan.seed ^ at << 20).draw());
+        let found = |kind| move |failure| Found { kind, failure };
+        runs::exchange_once(&mut rng, tally).map_err(found("calls in either order"))?;
+        runs::exchange_in_list(&mut rng, tally).map_err(found("a list in either order"))?;
+    }
+    Ok(())
+}
+
+/// Cycles of all four kinds until both numbers are reached.
+fn cycles(plan: Plan, tally: &mut Tally) -> Result<(), Found> {
     for cycle in 0.. {
         let more_calls = tally.calls < plan.calls;
         let more_images = tally.damaged_images < plan.images;

@@ -37,7 +37,8 @@ pub fn any_call(rng: &mut Rng, floor: &Floor) -> Call {
     }
 }
 
-fn any_booking(rng: &mut Rng, floor: &Floor) -> Call {
+/// A booking with any arguments.
+pub fn any_booking(rng: &mut Rng, floor: &Floor) -> Call {
     let last = floor.counters.last;
     let number = match rng.below(8) {
         0 => 0,
@@ -66,12 +67,12 @@ fn coordinate(rng: &mut Rng, floor: &Floor, tile: u32, of: impl Fn(&Canister) ->
     let place = match rng.below(16) {
         0 => 0,
         1 => span,
-        2 => span + 1,
+        2 => span.saturating_add(1),
         3 => rng.draw() as u16,
         4..=6 => near.saturating_add(spacing),
-        7 => near.saturating_add(spacing - 1),
+        7 => near.saturating_add(spacing.saturating_sub(1)),
         8 | 9 => near.saturating_sub(spacing),
-        10 => near.saturating_sub(spacing - 1),
+        10 => near.saturating_sub(spacing.saturating_sub(1)),
         _ => rng.range(0, span.into()) as u16,
     };
     match rng.chance(1, 12) {

@@ -4,6 +4,7 @@ use oracle::random::{self, Rng};
 use oracle::{Canister, Floor, Settings};
 
 use crate::call::{both, Call, Outcome, Trouble};
+use crate::exchange;
 use crate::makers;
 use crate::promise::{self, Record};
 use crate::tally::Tally;
@@ -19,6 +20,8 @@ pub struct Case {
     pub must: Option<u8>,
     /// Whether the first floor is to be taken as well formed.
     pub sound: bool,
+    /// Neighbouring calls are also made in the other order.
+    pub either: bool,
 }
 
 pub struct Failure {
@@ -85,6 +88,24 @@ impl<'a> Run<'a> {
         self.record.note(call, outcome)
     }
 
+    /// Makes calls in either order from the floor of the moment, which stays.
+    fn exchange(&mut self, calls: Vec<Call>) -> Result<(), Trouble> {
+        match exchange::check(&self.floor, &calls) {
+            Ok(Some(met)) => {
+                self.tally.calls += met.calls(calls.len());
+                self.tally.exchanges.note(met, calls.len());
+            }
+            Ok(None) => {}
+            Err(trouble) => {
+                self.case.first = self.floor;
+                self.case.calls = calls;
+                self.case.either = true;
+                return Err(trouble);
+            }
+        }
+        Ok(())
+    }
+
     fn check(&mut self) -> Result<(), Trouble> {
         match self.case.sound {
             true => self.record.check(&self.floor),
@@ -101,7 +122,14 @@ pub fn replay(case: &Case) -> Option<Trouble> {
         ..case.clone()
     };
     let mut run = Run::of(empty, &mut tally);
-    for call in &case.calls {
+    for (at, call) in case.calls.iter().enumerate() {
+        let turned = match case.either {
+            true => exchange::check(&run.floor, &case.calls[at..]).err(),
+            false => None,
+        };
+        if turned.is_some() {
+            return turned;
+        }
         let made = run.make(call.clone()).map(|_| ());
         if let Err(trouble) = made.and_then(|()| run.check()) {
             return Some(trouble);
@@ -133,6 +161,7 @@ fn begin(first: Floor, sound: bool, must: Option<u8>) -> Case {
         drain: false,
         must,
         sound,
+        either: false,
     }
 }
 
@@ -209,13 +238,17 @@ fn list_settings(rng: &mut Rng) -> Settings {
     settings
 }
 
-/// An arbitrary well-formed floor and a few calls.
-pub fn arbitrary(rng: &mut Rng, tally: &mut Tally) -> Result<(), Box<Failure>> {
-    let first = match rng.below(12) {
+fn arbitrary_floor(rng: &mut Rng) -> Floor {
+    match rng.below(12) {
         0 => makers::packed_floor(rng),
         1 => makers::facing_floor(rng),
         _ => random::floor(rng),
-    };
+    }
+}
+
+/// An arbitrary well-formed floor and a few calls.
+pub fn arbitrary(rng: &mut Rng, tally: &mut Tally) -> Result<(), Box<Failure>> {
+    let first = arbitrary_floor(rng);
     finish(begin(first, true, None), tally, |run| {
         for _ in 0..rng.range(1, 20) {
             let floor = run.floor;
@@ -302,4 +335,54 @@ pub fn image(rng: &mut Rng, floor: &Floor, tally: &mut Tally) -> Result<(), Box<
         tally.calls = calls;
     }
     made
+}
+
+/// Every pair in either order, on a well-formed floor and on a damaged one.
+pub fn exchange_once(rng: &mut Rng, tally: &mut Tally) -> Result<(), Box<Failure>> {
+    for sound in [true, true, false] {
+        let first = match sound {
+            true => arbitrary_floor(rng),
+            false => damaged_floor(rng).0,
+        };
+        finish(begin(first, sound, None), tally, |run| {
+            for pair in 0..=exchange::FREE.len() {
+                run.exchange(exchange::pair(rng, &first, pair))?;
+            }
+            run.exchange(exchange::stop_twice(rng, &first))
+        })?;
+    }
+    Ok(())
+}
+
+/// Pairs in either order on the floors of a list; then one pair in its middle
+/// is exchanged, with all that comes after.
+pub fn exchange_in_list(rng: &mut Rng, tally: &mut Tally) -> Result<(), Box<Failure>> {
+    let first = match rng.chance(1, 2) {
+        true => oracle::fresh(list_settings(rng)).floor,
+        false => random::floor(rng),
+    };
+    finish(begin(first, true, None), tally, |run| {
+        for _ in 0..rng.range(5, 50) {
+            let floor = run.floor;
+            if rng.chance(1, 4) {
+                let pair = rng.range(0, exchange::FREE.len() as u64) as usize;
+                run.exchange(exchange::pair(rng, &floor, pair))?;
+            }
+            run.make(random::call(rng, &floor).into())?;
+        }
+        let middle = run.floor;
+        let before = run.case.calls.len();
+        let pair = rng.below(exchange::FREE.len() as u64) as usize;
+        for call in exchange::pair(rng, &middle, pair) {
+            run.make(call)?;
+        }
+        for _ in 0..rng.range(5, 50) {
+            let floor = run.floor;
+            run.make(random::call(rng, &floor).into())?;
+        }
+        run.check()?;
+        let calls = run.case.calls.split_off(before);
+        run.floor = middle;
+        run.exchange(calls)
+    })
 }

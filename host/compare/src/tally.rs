@@ -1,8 +1,11 @@
 //! What the runs met.
 
+use std::fmt::Display;
+
 use oracle::{Floor, Grid, RoundAnswer, Side};
 
 use crate::call::{Call, Outcome, NAMES};
+use crate::exchange;
 
 /// The answers that each call can give, in the order of `NAMES`.
 const ANSWERS: [&[u8]; 8] = [
@@ -25,6 +28,9 @@ pub struct Tally {
     pub drained: u64,
     pub closest: f64,
     pub known_damage: u64,
+    pub exchanges: exchange::Counts,
+    /// Calls of the runs for single requests.
+    pub further: u64,
     answers: Vec<[u64; 256]>,
     crossings: [u64; 4],
     withheld: u64,
@@ -40,6 +46,12 @@ impl Tally {
             answers: vec![[0; 256]; NAMES.len()],
             ..Tally::default()
         }
+    }
+
+    /// Takes over what the runs for single requests met.
+    pub fn add(&mut self, further: Tally) {
+        self.exchanges = further.exchanges;
+        self.further = further.calls;
     }
 
     pub fn note(&mut self, before: &Floor, call: &Call, outcome: &Outcome) {
@@ -81,7 +93,14 @@ impl Tally {
 
     /// Prints the counts and gives those that are 0.
     pub fn print(&self) -> Vec<String> {
-        let mut missing = self.print_answers();
+        let mut missing = Vec::new();
+        for ((name, answers), counts) in NAMES.iter().zip(ANSWERS).zip(&self.answers) {
+            let cells = answers.iter().map(|at| (*at, counts[usize::from(*at)]));
+            print_line(&format!("{name:8}"), cells, &mut missing);
+        }
+        for (name, cells) in self.exchanges.lines() {
+            print_line(&name, cells, &mut missing);
+        }
         for (name, count) in self.events() {
             println!("{name}: {count}");
             if count == 0 {
@@ -89,23 +108,6 @@ impl Tally {
             }
         }
         println!("rounds used of the bound, at most: {:.3}", self.closest);
-        missing
-    }
-
-    /// How often each call gave each of its answers.
-    fn print_answers(&self) -> Vec<String> {
-        let mut missing = Vec::new();
-        for ((name, answers), counts) in NAMES.iter().zip(ANSWERS).zip(&self.answers) {
-            let mut line = format!("{name:8}");
-            for answer in answers {
-                let count = counts[usize::from(*answer)];
-                line += &format!(" {answer}: {count}");
-                if count == 0 {
-                    missing.push(format!("{name} never answered {answer}"));
-                }
-            }
-            println!("{line}");
-        }
         missing
     }
 
@@ -131,8 +133,25 @@ impl Tally {
             ("good images", self.good_images),
             ("damaged images", self.damaged_images),
             ("calls", self.calls),
+            ("further calls, for single requests", self.further),
         ];
         events.extend(more.map(|(name, count)| (name.into(), count)));
         events
     }
+}
+
+/// Prints a line of counts; those that are 0 are missing.
+fn print_line<T: Display>(
+    name: &str,
+    cells: impl IntoIterator<Item = (T, u64)>,
+    missing: &mut Vec<String>,
+) {
+    print!("{name}");
+    for (cell, count) in cells {
+        print!(" {cell}: {count}");
+        if count == 0 {
+            missing.push(format!("{} {cell}: never", name.trim_end()));
+        }
+    }
+    println!();
 }

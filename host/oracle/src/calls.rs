@@ -3,6 +3,7 @@
 use crate::check::{settings_refusal, well_formed};
 use crate::faults::{self, Fault};
 use crate::refusal;
+use crate::round::route;
 use crate::types::{
     Answer, Canister, Counters, Floor, Reading, Settings, Tile, NONE, NO_SIDE, PLACES,
 };
@@ -124,6 +125,9 @@ pub fn repair(floor: &Floor, tile: u32) -> Answer {
         Ok(tile) => {
             let mut after = *floor;
             after.tiles[tile].running = 1;
+            if faults::on(Fault::RepairRoutes) {
+                after.tiles[tile] = route(&after)[tile];
+            }
             Answer::accepted(after)
         }
         Err(refusal) => Answer::refused(refusal, floor),

@@ -47,6 +47,7 @@ faults! {
     BookTooStrict "book-too-strict" "34 at a spacing of exactly d"
     TileCut "tile-cut" "the tile argument is cut to eight bits"
     StopClears "stop-clears" "stop takes the canisters off"
+    RepairRoutes "repair-routes" "repair gives a way at once"
     MeasureBeforeSets "measure-before-sets" "3 before 2"
     SpacingWraps "spacing-wraps" "l + r in sixteen bits"
     UnusedUnchecked "unused-unchecked" "unused places of a tile may hold anything"

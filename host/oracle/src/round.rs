@@ -27,7 +27,7 @@ pub fn round(floor: &Floor) -> RoundAnswer {
 }
 
 /// New distances and arrows, all from the old distances.
-fn route(floor: &Floor) -> [Tile; MAX_TILES] {
+pub(crate) fn route(floor: &Floor) -> [Tile; MAX_TILES] {
     let grid = Grid::of(&floor.settings);
     let hopper = usize::from(floor.settings.hopper);
     let mut tiles = floor.tiles;
