@@ -1,5 +1,5 @@
 -- What one tile's signal tells: its grant goes to a side that wants, across a gap; its token to a side that wants.
-use mathlib.Core.Path.{_≡_, refl}
+use mathlib.Core.Path.{_≡_, refl, sym, ap, _∙_}
 use mathlib.Core.Logic.{_⊎_, inl, inr}
 use mathlib.Core.Bool.{Bool, true, false, cond, _&&_}
 use mathlib.Core.List.{List, [], List·Memᴰ}
@@ -27,16 +27,16 @@ module _ (p : ℕ → Bool) where
       go (inl e) = first-mem p (after k) e .1
       go (inr e) = absurd (omega (arith, first-none p (after k) e))
 
-  chosen-wants : (k : ℕ) → 0 < chosen p k → p (chosen p k) ≡ true
+  pub chosen-wants : (k : ℕ) → 0 < chosen p k → p (chosen p k) ≡ true
   unfolding chosen
   chosen-wants k h = go (p k) refl
     where
-      go : (b : Bool) → p k ≡ b → p (cond (p k) k (following p k)) ≡ true
+      go : (b : Bool) → p k ≡ b → p (chosen p k) ≡ true
       go true e = rw e e
-      go false e = rw e (following-wants k (rw e at h))
+      go false e = rw e (following-wants _ (rw e at h))
 
   -- where some side wants, one is chosen
-  chosen-some : p 0 ≡ false → (j : ℕ) → List·Memᴰ j sides → p j ≡ true → (k : ℕ) → 0 < chosen p k
+  pub chosen-some : p 0 ≡ false → (j : ℕ) → List·Memᴰ j sides → p j ≡ true → (k : ℕ) → 0 < chosen p k
   unfolding chosen following
   chosen-some z j mj h k = go (p k) refl
     where
@@ -44,9 +44,12 @@ module _ (p : ℕ → Bool) where
       pos zero e = not-both e z
       pos (suc x) e = omega arith
 
-      go : (b : Bool) → p k ≡ b → 0 < cond b k (firstOf p (after k))
-      go true e = pos k e
-      go false e = pos (firstOf p (after k)) (first-mem p (after k) (any-mem p (side-after k mj) h) .1)
+      some : (x : ℕ) → 0 < following p x
+      some x = pos (firstOf p (after x)) (first-mem p (after x) (any-mem p (side-after x mj) h) .1)
+
+      go : (b : Bool) → p k ≡ b → 0 < chosen p k
+      go true e = rw e (pos k e)
+      go false e = rw e (some _)
 
 module _ (s : Settings) (running : Bool) (token : ℕ) (l : List Canister) (p : ℕ → Bool) where
   abbrev given : Signal
@@ -59,28 +62,21 @@ module _ (s : Settings) (running : Bool) (token : ℕ) (l : List Canister) (p : 
       k : ℕ
       k = chosen p token
 
-      made : Bool → Bool → Signal
-      made r b = cond r (cond b (record { token = following p k; grant = k }) (record { token = k; grant = 0 })) (record { token = token; grant = 0 })
-
-      go : (r : Bool) → running ≡ r → (b : Bool) → (ltb 0 k && hasGap s k l) ≡ b
-          → (running ≡ true) × (p (made running (ltb 0 k && hasGap s k l) .grant) ≡ true) × (hasGap s (made running (ltb 0 k && hasGap s k l) .grant) l ≡ true)
+      go : (r : Bool) → running ≡ r → (b : Bool) → (ltb 0 k && hasGap s k l) ≡ b → (running ≡ true) × (p (given .grant) ≡ true) × (hasGap s (given .grant) l ≡ true)
       go false e b q = absurd (omega (arith, rw e at h))
       go true e false q = absurd (omega (arith, rw (e, q) at h))
       go true e true q = rw (e, q) (refl, chosen-wants p token (rw (e, q) at h), and-right (ltb 0 k) (hasGap s k l) q)
 
   pub token-told : running ≡ true → 0 < given .token → p (given .token) ≡ true
   unfolding signalBy signalWith
-  token-told r h = rw r (go (ltb 0 k && hasGap s k l) refl)
+  token-told r h = go (ltb 0 k && hasGap s k l) refl
     where
       k : ℕ
       k = chosen p token
 
-      made : Bool → Signal
-      made b = cond b (record { token = following p k; grant = k }) (record { token = k; grant = 0 })
-
-      go : (b : Bool) → (ltb 0 k && hasGap s k l) ≡ b → p (made (ltb 0 k && hasGap s k l) .token) ≡ true
-      go true q = rw q (following-wants p k (rw (r, q) at h))
-      go false q = rw q (chosen-wants p token (rw (r, q) at h))
+      go : (b : Bool) → (ltb 0 k && hasGap s k l) ≡ b → p (given .token) ≡ true
+      go true q = rw (r, q) (following-wants p _ (rw (r, q) at h))
+      go false q = rw (r, q) (chosen-wants p token (rw (r, q) at h))
 
   pub token-stopped : running ≡ false → given .token ≡ token
   unfolding signalBy
@@ -92,3 +88,19 @@ module _ (s : Settings) (running : Bool) (token : ℕ) (l : List Canister) (p : 
   grant-some r e z j mj h =
       let c = chosen-some p z j mj h token in
       rw (r, e, lt-ltb 0 (chosen p token) c) c
+
+  -- a running tile grants the chosen side, exactly if that side wants and the tile has the gap for it
+  pub grant-chosen : running ≡ true → p 0 ≡ false → given .grant ≡ cond (p (chosen p token) && hasGap s (chosen p token) l) (chosen p token) 0
+  unfolding signalBy signalWith
+  grant-chosen r z = go (p k && hasGap s k l) refl
+    where
+      k : ℕ
+      k = chosen p token
+
+      wanted : (x : ℕ) → k ≡ x → ltb 0 x ≡ p x
+      wanted zero e = sym z
+      wanted (suc x) e = lt-ltb 0 (suc x) (omega arith) ∙ sym (ap p (sym e) ∙ chosen-wants p token (omega arith))
+
+      go : (b : Bool) → (p k && hasGap s k l) ≡ b → given .grant ≡ cond (p k && hasGap s k l) k 0
+      go true q = rw (r, wanted k refl, q)
+      go false q = rw (r, wanted k refl, q)

@@ -1,8 +1,8 @@
 -- Demand 3 on concrete lists: its premises are met there, and what it promises of them is read off. Then what the words of later statements mean on such lists.
 use mathlib.Core.Path.{_≡_, refl, sym, ap, _∙_, subst}
 use mathlib.Core.Logic.{_≢_}
-use mathlib.Core.Bool.{Bool, true, false, cond, not, _&&_, _||_}
-use mathlib.Core.List.{List, [], _∷_, _++_, map}
+use mathlib.Core.Bool.{Bool, true, false, cond, not, _&&_, _||_, false≢true}
+use mathlib.Core.List.{List, [], _∷_, _++_, map, List·Memᴰ, List·Memᴰ·head, List·Memᴰ·tail}
 use Prim.Native.Nat.{ℕ, zero, suc, _-_, _^_, _≤_, _<_}
 use native.Mathlib.Omega.{arith}
 use lib.Dec.{leb, eqb}
@@ -21,8 +21,10 @@ use Rattle.floor.specs.Bound.{bound}
 use Rattle.floor.specs.Live.{connected, connectedCount}
 use Rattle.floor.specs.Demand3.{Call, book, stop, repair, round, Typed, outcome, floorAfter, bookedIn, reportedIn, runsBy, latest, runsAfter, isRound, Quiet, roundsIn, Promises, Demand3}
 use Rattle.floor.specs.Together.{stops, repairs, Exchangeable, presses, booking, reportTo, saidIn, BothBooked}
+use Rattle.floor.specs.Fairness.{wants, Waiting, granted, grantsIn, Fair, grantCount, turnOf}
 use Rattle.floor.proofs.Calling.{got, settings, fresh, can, book as put, rounds as run, counted, Table, holds}
 use Rattle.floor.proofs.Theorem.{demand3}
+use Rattle.floor.proofs.Fairness.{nobody-waits-twice}
 
 -- ---- the premises as tests, and what follows from them by the theorem alone
 unfoldable isQuiet : Floor → List Call → Bool
@@ -150,3 +152,62 @@ heard =
 heard-all : holds heard ≡ true
 unfolding holds one can outcome reportTo saidIn heard
 heard-all = refl
+
+-- ---- [11]: the hopper in the middle of 3 × 3, canisters on all four sides. West wants in each of five rounds, after a refused stop, and is granted again after the other three; a list in which another side is granted twice meanwhile is not fair
+unfoldable crowd : Floor
+crowd = put 8 0 0 7 (put 7 0 0 5 (put 6 0 0 3 (put 5 0 0 1 (fresh 3 3 4))))
+
+-- 3 × 2, hopper 3: west, south and east want; the turn is south's when tile 2 stops, so east is next
+unfoldable corner : Floor
+corner = put 7 50 0 5 (put 6 0 0 2 (put 5 0 0 1 (fresh 3 2 3)))
+
+unfoldable turns : Table
+turns =
+    (grantsIn crowd (stop 4 ∷ rounds 5) 4, 1 ∷ 2 ∷ 3 ∷ 4 ∷ 1 ∷ [])
+    ∷ (grantsIn corner (round ∷ stop 2 ∷ round ∷ []) 3, 1 ∷ 4 ∷ [])
+    ∷ (grantCount (1 ∷ 0 ∷ 2 ∷ []) ∷ [], 2 ∷ [])
+    ∷ []
+
+turns-all : holds turns ≡ true
+unfolding holds crowd corner outcome granted grantsIn grantCount turns
+turns-all = refl
+
+west-waits : Waiting crowd (stop 4 ∷ rounds 5) 4 1
+unfolding holds crowd outcome wants
+west-waits = (λ e. absurd (false≢true e), (λ _. refl, (λ _. refl, (λ _. refl, (λ _. refl, (λ _. refl, tt))))))
+
+west-fair : Fair 1 (grantsIn crowd (stop 4 ∷ rounds 5) 4)
+unfolding holds crowd
+west-fair = nobody-waits-twice crowd refl .fair (stop 4 ∷ rounds 5) (typed-stop 4, typed-rounds 5) 4 1 west-waits
+
+unfair : ¬ (Fair 4 (1 ∷ 2 ∷ 1 ∷ []))
+unfair h = none (h 1 [] (2 ∷ []) [] (omega arith) (omega arith) refl)
+  where
+    none : List·Memᴰ {A = ℕ} 4 (2 ∷ []) → ⊥
+    none (List·Memᴰ·head e) = absurd (omega arith)
+
+-- the further promises: east waits while the three others are granted; a stop and a repair at once leave no side wanting; the grant and the turn
+not-east : ¬ (List·Memᴰ {A = ℕ} 4 (1 ∷ 2 ∷ 3 ∷ []))
+not-east (List·Memᴰ·head e) = absurd (omega arith)
+not-east (List·Memᴰ·tail (List·Memᴰ·head e)) = absurd (omega arith)
+not-east (List·Memᴰ·tail (List·Memᴰ·tail (List·Memᴰ·head e))) = absurd (omega arith)
+
+east-waits : Waiting crowd (rounds 3) 4 4
+unfolding holds crowd outcome wants
+east-waits = (λ _. refl, (λ _. refl, (λ _. refl, tt)))
+
+east-three : grantCount (grantsIn crowd (rounds 3) 4) ≤ 3
+unfolding holds crowd outcome granted grantsIn
+east-three = nobody-waits-twice crowd refl .three (rounds 3) (typed-rounds 3) 4 4 east-waits not-east
+
+ends-repaired : (k : ℕ) → wants (view (floorAfter one (stop 0 ∷ repair 0 ∷ []))) 0 k ≡ false
+unfolding holds one outcome
+ends-repaired = nobody-waits-twice one refl .stop-ends 0 refl (repair 0 ∷ []) (typed-repair 0, tt) refl
+
+crowd-grants : granted crowd 4 ≡ 1
+unfolding holds crowd outcome wants turnOf
+crowd-grants = nobody-waits-twice crowd refl .grants 4 refl
+
+crowd-turn : wants (view (run 1 crowd)) 4 (turnOf (view (run 1 crowd)) 4) ≡ true
+unfolding holds crowd wants
+crowd-turn = nobody-waits-twice (run 1 crowd) refl .turn-wants 4 4 refl

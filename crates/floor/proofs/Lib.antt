@@ -32,6 +32,9 @@ pub mod Theorem
 pub mod Chain
 pub mod Forms
 pub mod Together
+pub mod Touching
+pub mod Tokens
+pub mod Fairness
 pub mod Numbering
 pub mod Calling
 pub mod Trials

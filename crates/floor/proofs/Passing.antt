@@ -14,11 +14,12 @@ use Rattle.floor.specs.declared.Canister.{Canister}
 use Rattle.floor.specs.declared.Signal.{Signal}
 use Rattle.floor.specs.Sides.{sides, opposite}
 use Rattle.floor.specs.Settings.{total}
-use Rattle.floor.specs.Grid.{neighbour, around}
+use Rattle.floor.specs.Grid.{neighbour}
 use Rattle.floor.specs.Model.{TileState, Model, runsOf, distanceOf, nextOf, tokenOf, membersOf}
 use Rattle.floor.specs.Route.{route}
 use Rattle.floor.specs.Signal.{requests, hasGap, signalBy, signalTile, shownOf, signalOf, grantOf}
 use Rattle.floor.specs.Move.{wayOf, leaving}
+use Rattle.floor.specs.Fairness.{wants}
 use Rattle.floor.proofs.Sound.{Sound}
 use Rattle.floor.proofs.Grid.{side-pos, opposite-side, opposite-sum, requests-side, requests-at, neighbour-none, neighbour-back}
 use Rattle.floor.proofs.Routing.{Arrow, arrow}
@@ -29,9 +30,6 @@ use Rattle.floor.proofs.Borders.{leaving-nil}
 use Rattle.floor.proofs.Fields.{wayAt, leaves, comes}
 
 -- ---- which sides of t want
-unfoldable pub wants : Model → ℕ → ℕ → Bool
-wants m t = around (m .settings) (shownOf (route m)) t requests
-
 -- side k of t wants
 pub record Wanting (m : Model) (t k : ℕ) : Type 0 where
   pub side : List·Memᴰ k sides
@@ -51,7 +49,7 @@ module _ (m : Model) (w : Whole m) where
   unfolding shownOf
   shown u = ap (λ (l : List Canister). cond (ltb 0 (length l)) (nextOf (route m) u) 0) (route-members m w u)
 
-  wants-side : (t k : ℕ) → wants m t k ≡ true → List·Memᴰ k sides
+  pub wants-side : (t k : ℕ) → wants m t k ≡ true → List·Memᴰ k sides
   unfolding wants
   wants-side t k h =
       requests-side (shownOf (route m) (neighbour (m .settings) 1 t)) (shownOf (route m) (neighbour (m .settings) 2 t)) (shownOf (route m) (neighbour (m .settings) 3 t)) (shownOf (route m) (neighbour (m .settings) 4 t)) k h
@@ -77,7 +75,7 @@ module _ (m : Model) (w : Whole m) where
       let u = neighbour (m .settings) k t in
       wants-at t k (W .side) ∙ eq-eqb (shownOf (route m) u) (opposite k) (shown u ∙ rw (lt-ltb 0 (length (membersOf m u)) (W .full)) (W .arrow))
 
-  signal-is : (t : ℕ) → signalOf (route m) t ≡ signalBy (m .settings) (runsOf m t) (tokenOf m t) (membersOf m t) (wants m t)
+  pub signal-is : (t : ℕ) → signalOf (route m) t ≡ signalBy (m .settings) (runsOf m t) (tokenOf m t) (membersOf m t) (wants m t)
   unfolding signalOf signalTile wants route
   signal-is t =
       ap (λ (n : ℕ). signalBy (m .settings) (eqb n 1) (tokenOf (route m) t) (membersOf (route m) t) (wants m t)) (route-running m w t)

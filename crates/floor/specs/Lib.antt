@@ -13,3 +13,4 @@ pub mod Bound
 pub mod Live
 pub mod Demand3
 pub mod Together
+pub mod Fairness
