@@ -12,6 +12,7 @@ mod runs;
 mod show;
 mod shrink;
 mod tally;
+mod waits;
 
 use std::process::ExitCode;
 use std::time::Instant;
@@ -53,6 +54,7 @@ fn requests(plan: Plan, tally: &mut Tally) -> Result<(), Found> {
         let found = |kind| move |failure| Found { kind, failure };
         runs::exchange_once(&mut rng, tally).map_err(found("calls in either order"))?;
         runs::exchange_in_list(&mut rng, tally).map_err(found("a list in either order"))?;
+        runs::crowd(&mut rng, tally).map_err(found("a crowded floor"))?;
     }
     Ok(())
 }

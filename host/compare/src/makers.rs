@@ -167,6 +167,26 @@ pub fn packed_with(rng: &mut Rng, settings: Settings, near: bool) -> Floor {
     floor
 }
 
+/// A tile in the middle of 3 x 3 with full neighbours: the hopper, where four
+/// sides want, or a tile on the way between stopped corners, where three do.
+pub fn crowded_floor(rng: &mut Rng) -> Floor {
+    let hopper = rng.pick(&[4, 4, 1, 3, 5, 7]);
+    let settings = Settings {
+        columns: 3,
+        rows: 3,
+        hopper,
+        sources: 0x1ff & !(1 << hopper),
+        ..dense(rng)
+    };
+    let mut floor = packed_with(rng, settings, true);
+    if hopper != 4 {
+        for corner in [0, 2, 6, 8] {
+            floor.tiles[corner].running = 0;
+        }
+    }
+    floor
+}
+
 /// Two tiles that face each other by stale distances, each with room to grant.
 pub fn facing_floor(rng: &mut Rng) -> Floor {
     let upright = rng.chance(1, 2);

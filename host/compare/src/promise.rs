@@ -6,6 +6,7 @@ use oracle::{Floor, Grid, Settings, Side};
 
 use crate::call::{both, Call, Outcome, Trouble};
 use crate::tally::Tally;
+use crate::waits::Waits;
 
 /// What is known of a list so far.
 pub struct Record {
@@ -14,6 +15,7 @@ pub struct Record {
     running: Vec<bool>,
     booked: u32,
     delivered: u32,
+    waits: Waits,
 }
 
 fn held(floor: &Floor) -> impl Iterator<Item = u32> + '_ {
@@ -36,13 +38,25 @@ impl Record {
             running: used.iter().map(|tile| tile.running == 1).collect(),
             booked: floor.counters.booked,
             delivered: floor.counters.delivered,
+            waits: Waits::new(),
         }
     }
 
-    pub fn note(&mut self, call: &Call, outcome: &Outcome) -> Result<(), Trouble> {
+    pub fn note(
+        &mut self,
+        before: &Floor,
+        call: &Call,
+        outcome: &Outcome,
+        tally: &mut Tally,
+    ) -> Result<(), Trouble> {
         if outcome.refusal() != 0 {
             return Ok(());
         }
+        self.count(call, outcome)?;
+        self.waits.note(before, call, outcome, &mut tally.waits)
+    }
+
+    fn count(&mut self, call: &Call, outcome: &Outcome) -> Result<(), Trouble> {
         match (call, outcome) {
             (Call::Book { canister, .. }, _) => {
                 self.booked += 1;
@@ -211,6 +225,6 @@ fn made(
     let outcome = both(floor, call)?;
     tally.calls += 1;
     tally.note(floor, call, &outcome);
-    record.note(call, &outcome)?;
+    record.note(floor, call, &outcome, tally)?;
     Ok(outcome)
 }

@@ -85,7 +85,7 @@ impl<'a> Run<'a> {
             let text = format!("{} finds the floor of a list malformed", call.name());
             return Err(Trouble::promise("well formed", text));
         }
-        self.record.note(call, outcome)
+        self.record.note(&self.floor, call, outcome, self.tally)
     }
 
     /// Makes calls in either order from the floor of the moment, which stays.
@@ -384,5 +384,20 @@ pub fn exchange_in_list(rng: &mut Rng, tally: &mut Tally) -> Result<(), Box<Fail
         let calls = run.case.calls.split_off(before);
         run.floor = middle;
         run.exchange(calls)
+    })
+}
+
+/// A floor where several sides of a tile want, and mostly rounds.
+pub fn crowd(rng: &mut Rng, tally: &mut Tally) -> Result<(), Box<Failure>> {
+    let first = makers::crowded_floor(rng);
+    finish(begin(first, true, None), tally, |run| {
+        for _ in 0..rng.range(20, 60) {
+            let floor = run.floor;
+            run.make(match rng.chance(3, 4) {
+                true => Call::Round,
+                false => random::call(rng, &floor).into(),
+            })?;
+        }
+        run.check()
     })
 }

@@ -5,7 +5,7 @@ use std::fmt::Display;
 use oracle::{Floor, Grid, RoundAnswer, Side};
 
 use crate::call::{Call, Outcome, NAMES};
-use crate::exchange;
+use crate::{exchange, waits};
 
 /// The answers that each call can give, in the order of `NAMES`.
 const ANSWERS: [&[u8]; 8] = [
@@ -29,6 +29,7 @@ pub struct Tally {
     pub closest: f64,
     pub known_damage: u64,
     pub exchanges: exchange::Counts,
+    pub waits: waits::Counts,
     /// Calls of the runs for single requests.
     pub further: u64,
     answers: Vec<[u64; 256]>,
@@ -51,6 +52,7 @@ impl Tally {
     /// Takes over what the runs for single requests met.
     pub fn add(&mut self, further: Tally) {
         self.exchanges = further.exchanges;
+        self.waits.add(&further.waits);
         self.further = further.calls;
     }
 
@@ -98,7 +100,8 @@ impl Tally {
             let cells = answers.iter().map(|at| (*at, counts[usize::from(*at)]));
             print_line(&format!("{name:8}"), cells, &mut missing);
         }
-        for (name, cells) in self.exchanges.lines() {
+        let lines = [self.exchanges.lines(), self.waits.lines()];
+        for (name, cells) in lines.into_iter().flatten() {
             print_line(&name, cells, &mut missing);
         }
         for (name, count) in self.events() {
