@@ -18,7 +18,7 @@ use Rattle.floor.specs.Grid.{neighbour}
 use Rattle.floor.specs.Model.{runsOf, numbersOn}
 use Rattle.floor.specs.Memory.{zeroFloor, stateOf, view, head, places, rows, build, pack, isZeroCanister, isZeroTile, headFits, tileFits, tilesFit, fits}
 use Rattle.floor.specs.Well.{hopperSound, runningSound, stoppedSound, faces, headSound, inside, apart, inOrder, membersSound, tileSound, numbersSound, countersSound, sound, wellFormed}
-use Rattle.floor.specs.Route.{nearer, nearest, onward, headingOf, routeTile, route}
+use Rattle.floor.specs.Route.{nearer, nearest, liesAt, kept, onward, headingOf, routeTile, route}
 use Rattle.floor.specs.Signal.{requests, clear, hasGap, signalWith, signalBy, signalTile, shownOf, signalOf, signal}
 use Rattle.floor.specs.Move.{wayOf, crosses, shift, land, staying, leaving, insert, insertEach, membersNext, arrivals, moveTile, deliveredBy, move}
 use Rattle.floor.specs.Calls.{refusalOf, answer, freshTile, freshFloor, freshAnswer, bookTests, booked, bookAnswer, stopTests, stopped, stopAnswer, repairTests, repaired, repairAnswer, afterRound, delivered, reportOf, zeroReport, roundAnswer, readTests, readAnswer}
@@ -143,7 +143,7 @@ unfolding got settings fresh can book stop repair rounds flat on tile distances 
     sides opposite after following chosen isHopper settingsTests settingsRefusal settingsPass neighbour numbersOn
     zeroFloor stateOf view head places rows build pack isZeroCanister isZeroTile headFits tileFits tilesFit fits
     hopperSound runningSound stoppedSound faces headSound inside apart inOrder membersSound tileSound numbersSound countersSound sound wellFormed
-    nearer nearest onward headingOf routeTile route requests clear hasGap signalWith signalBy signalTile shownOf signalOf signal
+    nearer nearest liesAt kept onward headingOf routeTile route requests clear hasGap signalWith signalBy signalTile shownOf signalOf signal
     wayOf crosses shift land staying leaving insert insertEach membersNext arrivals moveTile deliveredBy move
     refusalOf answer freshTile freshFloor freshAnswer bookTests booked bookAnswer stopTests stopped stopAnswer repairTests repaired repairAnswer
     afterRound delivered reportOf zeroReport roundAnswer readTests readAnswer crossing bound reached connected connectedCount liveCount boundOf

@@ -66,15 +66,15 @@ graph-rounds zero m S = refl
 graph-rounds (suc n) m S = graph-rounds n (afterRound m) (round-sound m S) ∙ graph-round m S
 
 -- ---- distances settle
+pub right-round : (k : ℕ) (m : Model) → Sound m → RightTo (graphOf m) k (distanceOf m) → RightTo (graphOf (afterRound m)) (suc k) (distanceOf (afterRound m))
+right-round k m S I =
+    subst (λ (g : Graph). RightTo g (suc k) (distanceOf (afterRound m))) (sym (graph-round m S))
+    (subst (λ (d : ℕ → ℕ). RightTo (graphOf m) (suc k) d) (sym (fun-ext (round-distance m (S .len)))) (right-next (graphOf m) (laid m S) (formed m S) (route-routed m (S .len)) k I))
+
 right-rounds : (n k : ℕ) (m : Model) → Sound m → RightTo (graphOf m) k (distanceOf m) → RightTo (graphOf (rounds n m)) (n + k) (distanceOf (rounds n m))
 unfolding rounds
 right-rounds zero k m S I t j h = I t j (omega arith)
-right-rounds (suc n) k m S I t j h = right-rounds n (suc k) (afterRound m) (round-sound m S) next t j (omega arith)
-  where
-    next : RightTo (graphOf (afterRound m)) (suc k) (distanceOf (afterRound m))
-    next =
-        subst (λ (g : Graph). RightTo g (suc k) (distanceOf (afterRound m))) (sym (graph-round m S))
-        (subst (λ (d : ℕ → ℕ). RightTo (graphOf m) (suc k) d) (sym (fun-ext (round-distance m (S .len)))) (right-next (graphOf m) (laid m S) (formed m S) (route-routed m (S .len)) k I))
+right-rounds (suc n) k m S I t j h = right-rounds n (suc k) (afterRound m) (round-sound m S) (right-round k m S I) t j (omega arith)
 
 abbrev pub Settled : Model → Type 0
 Settled m = Right (graphOf m) (distanceOf m)

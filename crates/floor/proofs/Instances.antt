@@ -7,13 +7,15 @@ use Prim.Native.Nat.{ℕ, zero, suc, _-_, _^_, _≤_, _<_}
 use native.Mathlib.Omega.{arith}
 use lib.Dec.{leb, eqb}
 use lib.ListN.{take, replicate}
-use borrow.Author.Tests.{leb-true}
+use borrow.Author.Tests.{leb-true, eqb-false}
 use Rattle.laws.specs.Define.{allOf}
 use Rattle.laws.specs.Every.{All}
 use Rattle.laws.specs.Tests.{r-ne, and-left, and-right}
 use Rattle.floor.specs.declared.Canister.{Canister}
 use Rattle.floor.specs.declared.Floor.{Floor}
-use Rattle.floor.specs.Model.{membersOf}
+use Rattle.floor.specs.Sides.{sides}
+use Rattle.floor.specs.Settings.{isHopper}
+use Rattle.floor.specs.Model.{distanceOf, nextOf, membersOf}
 use Rattle.floor.specs.Memory.{view}
 use Rattle.floor.specs.Well.{wellFormed}
 use Rattle.floor.specs.Calls.{freshAnswer}
@@ -22,9 +24,12 @@ use Rattle.floor.specs.Live.{connected, connectedCount}
 use Rattle.floor.specs.Demand3.{Call, book, stop, repair, round, Typed, outcome, floorAfter, bookedIn, reportedIn, runsBy, latest, runsAfter, isRound, Quiet, roundsIn, Promises, Demand3}
 use Rattle.floor.specs.Together.{stops, repairs, Exchangeable, presses, booking, reportTo, saidIn, BothBooked}
 use Rattle.floor.specs.Fairness.{wants, Waiting, granted, grantsIn, Fair, grantCount, turnOf}
-use Rattle.floor.proofs.Calling.{got, settings, fresh, can, book as put, rounds as run, counted, Table, holds}
+use Rattle.floor.specs.Arrows.{beyond, FacesNearest, Chooses, Unpressed, Steady, Resting}
+use Rattle.floor.proofs.Calling.{got, settings, fresh, can, book as put, stop as halt, rounds as run, counted, Table, holds}
 use Rattle.floor.proofs.Theorem.{demand3}
 use Rattle.floor.proofs.Fairness.{nobody-waits-twice}
+use Rattle.floor.proofs.Arrows.{arrows}
+use Rattle.floor.proofs.Grid.{each-side, side-pos}
 
 -- ---- the premises as tests, and what follows from them by the theorem alone
 unfoldable isQuiet : Floor → List Call → Bool
@@ -211,3 +216,84 @@ crowd-grants = nobody-waits-twice crowd refl .grants 4 refl
 crowd-turn : wants (view (run 1 crowd)) 4 (turnOf (view (run 1 crowd)) 4) ≡ true
 unfolding holds crowd wants
 crowd-turn = nobody-waits-twice (run 1 crowd) refl .turn-wants 4 4 refl
+
+-- ---- [3]: 2 × 2, hopper 3. After four rounds arrows rest: a booking, a refused stop and rounds leave them
+unfoldable square : Floor
+square = fresh 2 2 3
+
+unpressed-rounds : (n : ℕ) (f : Floor) → Unpressed f (rounds n)
+unpressed-rounds zero f = tt
+unpressed-rounds (suc n) f = (λ e. absurd (false≢true e), unpressed-rounds n (outcome f round .floor))
+
+unfoldable settled : Floor
+settled = floorAfter square (rounds 4)
+
+unfoldable busy : List Call
+busy = book 0 (can 5 0 0) ∷ stop 3 ∷ rounds 2
+
+busy-unpressed : Unpressed settled busy
+unfolding holds square settled busy can outcome floorAfter
+busy-unpressed = (λ e. absurd (false≢true e), (λ e z. absurd (8≢0 z), unpressed-rounds 2 (outcome (outcome settled (book 0 (can 5 0 0)) .floor) (stop 3) .floor)))
+  where
+    8≢0 : outcome (outcome settled (book 0 (can 5 0 0)) .floor) (stop 3) .refusal ≢ 0
+    8≢0 z = let e : outcome (outcome settled (book 0 (can 5 0 0)) .floor) (stop 3) .refusal ≡ 8 = refl in absurd (omega (arith, e, z))
+
+rested : (t : ℕ) → nextOf (view (floorAfter settled busy)) t ≡ nextOf (view settled) t
+unfolding holds square settled busy can
+rested = arrows square refl .1 .rests (rounds 4) (typed-rounds 4) (unpressed-rounds 4 square) (omega arith) .stays busy (typed-book 0 (can 5 0 0) (omega arith), (typed-stop 3, typed-rounds 2)) busy-unpressed
+
+-- tile 0 has two ways at distance 1; it has the later one, east, since tile 1 was stopped once, and keeps it
+unfoldable mended : Floor
+mended = floorAfter (run 3 (halt 1 (run 3 square))) (repair 1 ∷ round ∷ [])
+
+faces-east : FacesNearest (view mended) 0 (nextOf (view mended) 0)
+unfolding holds square mended outcome floorAfter sides
+faces-east = record {
+  side = List·Memᴰ·tail (List·Memᴰ·tail (List·Memᴰ·tail (List·Memᴰ·head refl)));
+  least = λ j. each-side (λ k. beyond (view mended) 0 (nextOf (view mended) 0) ≤ beyond (view mended) 0 k) (near 1 refl) (near 2 refl) (near 3 refl) (near 4 refl);
+}
+  where
+    near : (k : ℕ) → leb (beyond (view mended) 0 (nextOf (view mended) 0)) (beyond (view mended) 0 k) ≡ true → beyond (view mended) 0 (nextOf (view mended) 0) ≤ beyond (view mended) 0 k
+    near k = leb-true (beyond (view mended) 0 (nextOf (view mended) 0)) (beyond (view mended) 0 k)
+
+-- the arrow that a round gives
+chosen : (f : Floor) → wellFormed f ≡ true → (t : ℕ) → isHopper (f .settings) t ≡ false → distanceOf (view (outcome f round .floor)) t ≢ 255 → Chooses (view f) (view (outcome f round .floor)) t
+chosen f w t off some = let A = arrows f w .0 in subst (λ (g : Floor). distanceOf (view g) t ≢ 255 → Chooses (view f) (view g) t) (A .is-after) (A .chooses t off) some
+
+kept-east : nextOf (view (outcome mended round .floor)) 0 ≡ nextOf (view mended) 0
+unfolding holds square mended outcome floorAfter
+kept-east = chosen mended refl 0 refl (eqb-false (distanceOf (view (outcome mended round .floor)) 0) 255 refl) .keeps faces-east
+
+-- tile 0 gets its first arrow in the second round: it faces a nearest neighbour, and south, the side before it, is farther
+unfoldable early : Floor
+early = run 1 square
+
+early-chooses : Chooses (view early) (view (outcome early round .floor)) 0
+unfolding holds square early outcome
+early-chooses = chosen early refl 0 refl (eqb-false (distanceOf (view (outcome early round .floor)) 0) 255 refl)
+
+early-nearest : FacesNearest (view early) 0 (nextOf (view (outcome early round .floor)) 0)
+early-nearest = early-chooses .nearest
+
+early-ties : beyond (view early) 0 (nextOf (view (outcome early round .floor)) 0) < beyond (view early) 0 2
+unfolding holds square early outcome sides
+early-ties = early-chooses .ties (λ N. absurd (none (N .side))) 2 (List·Memᴰ·tail (List·Memᴰ·head refl)) (omega arith)
+  where
+    none : List·Memᴰ (nextOf (view early) 0) sides → ⊥
+    none h = let e : nextOf (view early) 0 ≡ 0 = refl in absurd (omega (arith, e, side-pos h))
+
+-- after three rounds, C - 1, the next one changes no distance; after it arrows rest, and face a nearest neighbour
+unfoldable third : Floor
+third = floorAfter square (rounds 3)
+
+third-steady : Steady third
+unfolding holds square third
+third-steady = arrows square refl .1 .steady (rounds 3) (typed-rounds 3) (unpressed-rounds 3 square) (omega arith)
+
+third-rests : Resting settled
+unfolding holds square third settled outcome floorAfter
+third-rests = let A = arrows third refl .0 in subst Resting (A .is-after) (A .rests third-steady)
+
+busy-faces : FacesNearest (view (floorAfter settled busy)) 0 (nextOf (view (floorAfter settled busy)) 0)
+unfolding holds square settled busy can outcome floorAfter
+busy-faces = third-rests .faces busy (typed-book 0 (can 5 0 0) (omega arith), (typed-stop 3, typed-rounds 2)) busy-unpressed 0 (eqb-false (nextOf (view (floorAfter settled busy)) 0) 0 refl)

@@ -35,6 +35,7 @@ pub mod Together
 pub mod Touching
 pub mod Tokens
 pub mod Fairness
+pub mod Arrows
 pub mod Numbering
 pub mod Calling
 pub mod Trials

@@ -11,7 +11,7 @@ use Rattle.floor.specs.declared.Tile.{Tile}
 use Rattle.floor.specs.declared.Floor.{Floor}
 use Rattle.floor.specs.Memory.{zeroFloor}
 use Rattle.floor.specs.Calls.{freshAnswer, roundAnswer, readAnswer}
-use Rattle.floor.proofs.Calling.{got, settings, fresh, can, book, stop, rounds, next, grant, liveCount, boundOf, refusedRound, Table, holds}
+use Rattle.floor.proofs.Calling.{got, settings, fresh, can, book, stop, repair, rounds, next, grant, liveCount, boundOf, refusedRound, Table, holds}
 
 -- W, H, hopper, fill set; l 21, r 0, v 10: four along each axis
 unfoldable dense : ℕ → ℕ → ℕ → ℕ → Settings
@@ -40,8 +40,21 @@ table =
     let north = book 5 50 50 2 (rounds 2 (fresh 1 3 0)) in
     let east = book 5 50 50 2 (rounds 2 (fresh 3 1 0)) in
     let full = got (freshAnswer (dense 8 8 0 (2 ^ 63))) in
+    let tall = rounds 5 (fresh 2 3 5) in
+    let mended = rounds 5 (repair 1 (rounds 5 (stop 1 tall))) in
     -- ties, south before north: tile 1 has both at distance 3, tile 4 to its east is stopped
     (next 1 ring, 0 ∷ 2 ∷ [])
+    -- 2 × 3, hopper 5: tile 0 has tiles 1 (north) and 3 (east) at distance 2, and takes north; east while tile 1 is stopped, and it keeps east after the repair
+    ∷ (next 0 tall, 0 ∷ 3 ∷ [])
+    ∷ (next 0 mended, 0 ∷ 4 ∷ [])
+    -- 2 × 2, hopper 1: tile 2 has tiles 0 (west) and 3 (north) at distance 1, and keeps north, which it took while tile 0 was stopped
+    ∷ (next 2 (rounds 2 (repair 0 (rounds 1 (stop 0 (rounds 3 (fresh 2 2 1)))))), 0 ∷ 3 ∷ [])
+    -- after its own stop and repair, or with no distance meanwhile, the order decides
+    ∷ (next 0 (rounds 1 (repair 0 (stop 0 mended))), 0 ∷ 3 ∷ [])
+    ∷ (next 0 (rounds 2 (repair 3 (repair 1 (rounds 1 (stop 3 (stop 1 mended)))))), 0 ∷ 3 ∷ [])
+    -- tile 4 stopped: tile 3 is farther from the next round on, and its old distance is read once more
+    ∷ (next 0 (rounds 1 (stop 4 mended)), 0 ∷ 4 ∷ [])
+    ∷ (next 0 (rounds 2 (stop 4 mended)), 0 ∷ 3 ∷ [])
     -- the sides after west: south, then north; north where south doesn't want
     ∷ (grant 4 plus, 0 ∷ 2 ∷ [])
     ∷ (grant 4 after, 0 ∷ 3 ∷ [])

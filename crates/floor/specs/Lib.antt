@@ -14,3 +14,4 @@ pub mod Live
 pub mod Demand3
 pub mod Together
 pub mod Fairness
+pub mod Arrows

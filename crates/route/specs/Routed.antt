@@ -32,7 +32,7 @@ distanceIn ts u = getD ts u zeroTile .distance
 abbrev pub headed : Tile → Heading → Tile
 headed h b = record { running = h .running; distance = b .distance; next = record { code = b .side }; token = h .token; count = h .count }
 
--- one tile, from its neighbours' old distances
+-- one tile, from its own old arrow and its neighbours' old distances
 unfoldable pub routedTile : Settings → ℕ → Tile → ℕ → ℕ → ℕ → ℕ → Tile
 routedTile s t h west south north east = headed h (headingOf s t (eqb (h .running) 1) (record { distance = h .distance; side = h .next .code }) west south north east)
 

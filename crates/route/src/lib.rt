@@ -35,6 +35,33 @@ pub fn nearest(west: u8, south: u8, north: u8, east: u8) -> Heading
     nearer(nearer(nearer(first, south, 2), north, 3), east, 4)
 }
 
+// Whether the neighbour on that side is at that distance; on side none there is no neighbour.
+fn lies_at(west: u8, south: u8, north: u8, east: u8, distance: u8, side: u8) -> bool
+    ensures { λ r. ⌜ r ≡ R.liesAt west south north east distance side ⌝ }
+{
+    match side {
+        1 => west == distance,
+        2 => south == distance,
+        3 => north == distance,
+        4 => east == distance,
+        _ => false,
+    }
+}
+
+// The nearest neighbour: the one that the present arrow, own, faces if it is among the nearest.
+fn kept(own: u8, west: u8, south: u8, north: u8, east: u8) -> Heading
+    ensures { λ r. ⌜ r ≡ R.kept own west south north east ⌝ }
+{
+    let b = nearest(west, south, north, east);
+    if lies_at(west, south, north, east, b.distance, own) {
+        return Heading {
+            distance: b.distance,
+            side: own,
+        };
+    }
+    b
+}
+
 // One more than the least; at the number of tiles or more it is none.
 fn onward(all: usize, b: Heading) -> Heading
     requires { ⌜ all ≤ 64 ⌝ }
@@ -53,7 +80,7 @@ fn onward(all: usize, b: Heading) -> Heading
     }
 }
 
-// One tile, from its four neighbours' old distances. The hopper and a stopped tile keep their own.
+// One tile, from its own old arrow and its four neighbours' old distances. The hopper and a stopped tile stay as they are.
 pub fn route_tile(
     s: Settings,
     t: usize,
@@ -72,7 +99,8 @@ pub fn route_tile(
         return tile;
     }
     let all = s.columns as usize * s.rows as usize;
-    let near = nearest(west, south, north, east);
+    let own = tile.next.code;
+    let near = kept(own, west, south, north, east);
     let b = onward(all, near);
     let next = Side { code: b.side };
     let token = tile.token;

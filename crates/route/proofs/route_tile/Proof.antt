@@ -6,7 +6,7 @@ use Rattle.route.proofs.route_tile.Statement.{statement}
 use Rattle.route.proofs.route_tile.Tie as tie
 use Rattle.route.proofs.route_tile.Reads as reads
 use Rattle.route.proofs.route_tile.Lts as lts
-use Rattle.route.proofs.nearest.Reads as nearest-reads
+use Rattle.route.proofs.kept.Reads as kept-reads
 use Rattle.route.proofs.onward.Reads as onward-reads
 
 cast-hopper : tie.Need-cast-hopper
@@ -24,8 +24,8 @@ cast-all-2 c = search needs
 mul-all : tie.Need-mul-all
 mul-all c = search needs
 
-nearest-requires : tie.Need-nearest-requires
-nearest-requires c κs = search needs
+kept-requires : tie.Need-kept-requires
+kept-requires c κs = search needs
 
 onward-requires : tie.Need-onward-requires
 onward-requires c κs = c .before .before .before .before .before .before .pre
@@ -33,7 +33,7 @@ onward-requires c κs = c .before .before .before .before .before .before .pre
 returns-2 : tie.Need-returns-2
 returns-2 c =
     let g = c .before .before .before .before .before .before .before .before .args in
-    let e = rw (c .before .before .nearest .ensures) at (c .before .onward .ensures) in
+    let e = rw (c .before .before .kept .ensures) at (c .before .onward .ensures) in
     ap (headed g.tile) e ∙ tile-on g.s g.t g.tile g.west g.south g.north g.east (c .before .before .before .before .before .if1 .left)
 
 pub route-tile-spec : {M : Type 1} → statement M
@@ -45,6 +45,6 @@ route-tile-spec =
     cast-all
     cast-all-2
     mul-all
-    nearest-requires
+    kept-requires
     onward-requires
     returns-2)
