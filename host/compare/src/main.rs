@@ -1,5 +1,6 @@
 //! Long random runs of the library against the second implementation.
 
+mod arrows;
 mod call;
 mod convert;
 mod exchange;
@@ -55,6 +56,7 @@ fn requests(plan: Plan, tally: &mut Tally) -> Result<(), Found> {
         runs::exchange_once(&mut rng, tally).map_err(found("calls in either order"))?;
         runs::exchange_in_list(&mut rng, tally).map_err(found("a list in either order"))?;
         runs::crowd(&mut rng, tally).map_err(found("a crowded floor"))?;
+        runs::ties(&mut rng, tally).map_err(found("a list about ties"))?;
     }
     Ok(())
 }

@@ -4,6 +4,7 @@ use std::collections::BTreeSet;
 
 use oracle::{Floor, Grid, Settings, Side};
 
+use crate::arrows::Settled;
 use crate::call::{both, Call, Outcome, Trouble};
 use crate::tally::Tally;
 use crate::waits::Waits;
@@ -16,6 +17,7 @@ pub struct Record {
     booked: u32,
     delivered: u32,
     waits: Waits,
+    settled: Settled,
 }
 
 fn held(floor: &Floor) -> impl Iterator<Item = u32> + '_ {
@@ -39,6 +41,7 @@ impl Record {
             booked: floor.counters.booked,
             delivered: floor.counters.delivered,
             waits: Waits::new(),
+            settled: Settled::default(),
         }
     }
 
@@ -53,7 +56,8 @@ impl Record {
             return Ok(());
         }
         self.count(call, outcome)?;
-        self.waits.note(before, call, outcome, &mut tally.waits)
+        self.waits.note(before, call, outcome, &mut tally.waits)?;
+        self.settled.note(before, call, outcome, &mut tally.settled)
     }
 
     fn count(&mut self, call: &Call, outcome: &Outcome) -> Result<(), Trouble> {

@@ -3,6 +3,7 @@
 use oracle::random::{self, Rng};
 use oracle::{Canister, Floor, Settings};
 
+use crate::arrows;
 use crate::call::{both, Call, Outcome, Trouble};
 use crate::exchange;
 use crate::makers;
@@ -103,6 +104,20 @@ impl<'a> Run<'a> {
                 return Err(trouble);
             }
         }
+        Ok(())
+    }
+
+    /// Holds the floor to its bound, if that is at most so many rounds.
+    fn drain(&mut self, rng: &mut Rng, most: u64) -> Result<(), Trouble> {
+        if promise::bound_of(&self.floor) > most {
+            return Ok(());
+        }
+        self.case.drain = true;
+        promise::drain(&self.floor, self.tally, |floor| {
+            rng.chance(1, 8)
+                .then(|| random::refused_call(rng, floor).into())
+        })?;
+        self.tally.drained += 1;
         Ok(())
     }
 
@@ -215,16 +230,7 @@ pub fn list(rng: &mut Rng, tally: &mut Tally) -> Result<(), Box<Failure>> {
         }
         run.check()?;
         run.tally.lists += 1;
-        let floor = run.floor;
-        if promise::bound_of(&floor) <= 3_000 {
-            run.case.drain = true;
-            promise::drain(&floor, run.tally, |floor| {
-                rng.chance(1, 8)
-                    .then(|| random::refused_call(rng, floor).into())
-            })?;
-            run.tally.drained += 1;
-        }
-        Ok(())
+        run.drain(rng, 3_000)
     })
 }
 
@@ -399,5 +405,26 @@ pub fn crowd(rng: &mut Rng, tally: &mut Tally) -> Result<(), Box<Failure>> {
             })?;
         }
         run.check()
+    })
+}
+
+/// A floor of two rows and columns or more, fresh or with any old arrows, and
+/// stops and repairs that make and break ties between neighbours.
+pub fn ties(rng: &mut Rng, tally: &mut Tally) -> Result<(), Box<Failure>> {
+    let mut settings = list_settings(rng);
+    while settings.columns < 2 || settings.rows < 2 {
+        settings = list_settings(rng);
+    }
+    let first = match rng.chance(1, 2) {
+        true => oracle::fresh(settings).floor,
+        false => random::floor_with(rng, settings),
+    };
+    finish(begin(first, true, None), tally, |run| {
+        for _ in 0..rng.below(80) {
+            let floor = run.floor;
+            run.make(arrows::tie_call(rng, &floor))?;
+        }
+        run.check()?;
+        run.drain(rng, 400)
     })
 }

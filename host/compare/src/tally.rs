@@ -5,7 +5,7 @@ use std::fmt::Display;
 use oracle::{Floor, Grid, RoundAnswer, Side};
 
 use crate::call::{Call, Outcome, NAMES};
-use crate::{exchange, waits};
+use crate::{arrows, exchange, waits};
 
 /// The answers that each call can give, in the order of `NAMES`.
 const ANSWERS: [&[u8]; 8] = [
@@ -30,6 +30,9 @@ pub struct Tally {
     pub known_damage: u64,
     pub exchanges: exchange::Counts,
     pub waits: waits::Counts,
+    pub settled: u64,
+    /// Arrows kept and lists held to the bound in the runs for single requests.
+    tied: [u64; 2],
     /// Calls of the runs for single requests.
     pub further: u64,
     answers: Vec<[u64; 256]>,
@@ -39,6 +42,7 @@ pub struct Tally {
     sixteen: u64,
     mutual: u64,
     full: u64,
+    kept: u64,
 }
 
 impl Tally {
@@ -53,6 +57,9 @@ impl Tally {
     pub fn add(&mut self, further: Tally) {
         self.exchanges = further.exchanges;
         self.waits.add(&further.waits);
+        self.settled += further.settled;
+        self.tied = [further.kept, further.drained];
+        self.closest = self.closest.max(further.closest);
         self.further = further.calls;
     }
 
@@ -68,6 +75,7 @@ impl Tally {
     fn note_round(&mut self, before: &Floor, answer: &RoundAnswer) {
         let grid = Grid::of(&before.settings);
         let grants = &answer.report.grants;
+        self.kept += arrows::kept(before, &answer.floor);
         self.deliveries[usize::from(answer.report.count).min(4)] += 1;
         let used = &before.tiles[..before.settings.tile_count()];
         self.sixteen += u64::from(used.iter().any(|tile| tile.count == 16));
@@ -130,8 +138,12 @@ impl Tally {
             ("rounds with a tile of sixteen", self.sixteen),
             ("pairs of tiles granting each other", self.mutual),
             ("rounds on a full 8 x 8 floor (1,008 canisters)", self.full),
+            ("arrows kept against the order of ties", self.kept),
+            ("the same in runs for single requests", self.tied[0]),
+            ("rounds on settled floors", self.settled),
             ("lists held to demand 3", self.lists),
             ("further lists held to the bound", self.drained),
+            ("the same after lists about ties", self.tied[1]),
             ("floors with damage that must be 30", self.known_damage),
             ("good images", self.good_images),
             ("damaged images", self.damaged_images),

@@ -32,6 +32,9 @@ macro_rules! faults {
 
 faults! {
     LaterSide "later-side" "ties between neighbours go to the later side"
+    ArrowForgotten "arrow-forgotten" "a tie turns the arrow by the order of ties"
+    ArrowStuck "arrow-stuck" "the arrow is kept though another neighbour is nearer"
+    KeepByNew "keep-by-new" "whether the arrow is kept goes by distances of this round"
     NoCut "no-cut" "a distance isn't cut at C"
     RouteInPlace "route-in-place" "route reads distances of this round"
     OldArrow "old-arrow" "a side wants by the arrow before the round"

@@ -26,7 +26,7 @@ pub fn round(floor: &Floor) -> RoundAnswer {
     }
 }
 
-/// New distances and arrows, all from the old distances.
+/// New distances and arrows, all from the old ones.
 pub(crate) fn route(floor: &Floor) -> [Tile; MAX_TILES] {
     let grid = Grid::of(&floor.settings);
     let hopper = usize::from(floor.settings.hopper);
@@ -37,34 +37,48 @@ pub(crate) fn route(floor: &Floor) -> [Tile; MAX_TILES] {
                 true => &tiles,
                 false => &floor.tiles,
             };
-            let (distance, next) = way(old, grid, spot, floor.settings.tile_count());
-            tiles[spot.tile].distance = distance;
-            tiles[spot.tile].next = next;
+            let (least, first) = nearest(old, grid, spot);
+            let seen = match faults::on(Fault::KeepByNew) {
+                true => &tiles,
+                false => &floor.tiles,
+            };
+            let next = kept(seen, grid, spot, least).unwrap_or(first);
+            let uncut = least < NONE - 1 && faults::on(Fault::NoCut);
+            let near = usize::from(least) + 1 < floor.settings.tile_count() || uncut;
+            let tile = &mut tiles[spot.tile];
+            (tile.distance, tile.next) = match near {
+                true => (least + 1, next),
+                false => (NONE, NO_SIDE),
+            };
         }
     }
     tiles
 }
 
-/// The distance and arrow that a tile's neighbours give it.
-fn way(old: &[Tile; MAX_TILES], grid: Grid, spot: Spot, tiles: usize) -> (u8, u8) {
+/// The least distance among a tile's neighbours, and the first side that has it.
+fn nearest(old: &[Tile; MAX_TILES], grid: Grid, spot: Spot) -> (u8, u8) {
     let mut least = NONE;
-    let mut next = NO_SIDE;
+    let mut first = NO_SIDE;
     for side in Side::ALL {
         if let Some(there) = grid.neighbour(spot, side) {
             let distance = old[there].distance;
             let tie = distance == least && distance != NONE;
             if distance < least || tie && faults::on(Fault::LaterSide) {
                 least = distance;
-                next = side.code();
+                first = side.code();
             }
         }
     }
-    let uncut = least < NONE - 1 && faults::on(Fault::NoCut);
-    if usize::from(least) + 1 < tiles || uncut {
-        (least + 1, next)
-    } else {
-        (NONE, NO_SIDE)
-    }
+    (least, first)
+}
+
+/// The present arrow, if it faces a neighbour of the least distance.
+fn kept(old: &[Tile; MAX_TILES], grid: Grid, spot: Spot, least: u8) -> Option<u8> {
+    let side = Side::from_code(old[spot.tile].next)?;
+    let distance = old[grid.neighbour(spot, side)?].distance;
+    let stuck = distance != NONE && faults::on(Fault::ArrowStuck);
+    let keeps = distance == least && !faults::on(Fault::ArrowForgotten);
+    (keeps || stuck).then_some(side.code())
 }
 
 /// Updates the turns and gives the grant of every tile.

@@ -65,7 +65,7 @@ impl Record {
     }
 }
 
-fn perform(call: Call, floor: &Floor) -> (u8, Floor, Report) {
+pub fn perform(call: Call, floor: &Floor) -> (u8, Floor, Report) {
     let answer = match call {
         Call::Book { tile, canister } => book(floor, tile, canister),
         Call::Stop { tile } => stop(floor, tile),

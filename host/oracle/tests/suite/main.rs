@@ -1,5 +1,6 @@
 //! Tests against the paper.
 
+mod arrows;
 mod common;
 mod floors;
 mod full;

@@ -44,7 +44,8 @@ fn settings_fit(floor: &Floor) -> bool {
         && (u - l) / d <= 3
 }
 
-fn faces_floor(floor: &Floor, tile: usize, code: u8) -> bool {
+/// The neighbour behind a side, by column and row.
+pub fn beside(floor: &Floor, tile: usize, code: u8) -> Option<usize> {
     let (w, h) = (floor.settings.columns as i64, floor.settings.rows as i64);
     let (column, row) = (tile as i64 / h, tile as i64 % h);
     let (column, row) = match code {
@@ -52,9 +53,10 @@ fn faces_floor(floor: &Floor, tile: usize, code: u8) -> bool {
         2 => (column, row - 1),
         3 => (column, row + 1),
         4 => (column + 1, row),
-        _ => return false,
+        _ => return None,
     };
-    0 <= column && column < w && 0 <= row && row < h
+    let on = 0 <= column && column < w && 0 <= row && row < h;
+    on.then_some((column * h + row) as usize)
 }
 
 fn tile_fits(floor: &Floor, tile: usize) -> bool {
@@ -81,7 +83,7 @@ fn tile_fits(floor: &Floor, tile: usize) -> bool {
     }
     [t.next, t.token]
         .iter()
-        .all(|code| *code == 0 || faces_floor(floor, tile, *code))
+        .all(|code| *code == 0 || beside(floor, tile, *code).is_some())
         && canisters_fit(floor, tile, t.count as usize)
 }
 
