@@ -62,17 +62,20 @@ fn kept(own: u8, west: u8, south: u8, north: u8, east: u8) -> Heading
     b
 }
 
-// One more than the least; at the number of tiles or more it is none.
-fn onward(all: usize, b: Heading) -> Heading
+// One more than the least; at the number of tiles or more it is none. None, 255, is tested first: one more is no byte.
+fn onward(all: u8, b: Heading) -> Heading
     requires { ⌜ all ≤ 64 ⌝ }
     ensures { λ r. ⌜ r ≡ R.onward all b ⌝ }
 {
-    let next = b.distance as usize + 1;
-    if next < all {
-        return Heading {
-            distance: next as u8,
-            side: b.side,
-        };
+    let least = b.distance;
+    if least < 255 {
+        let next = least + 1;
+        if next < all {
+            return Heading {
+                distance: next,
+                side: b.side,
+            };
+        }
     }
     Heading {
         distance: 255,
@@ -98,7 +101,7 @@ pub fn route_tile(
     if still {
         return tile;
     }
-    let all = s.columns as usize * s.rows as usize;
+    let all = s.columns * s.rows;
     let own = tile.next.code;
     let near = kept(own, west, south, north, east);
     let b = onward(all, near);

@@ -15,12 +15,6 @@ cast-hopper c = search needs
 returns : tie.Need-returns
 returns c = let g = c .before .before .before .args in tile-still g.s g.t g.tile g.west g.south g.north g.east (c .if1 .taken)
 
-cast-all : tie.Need-cast-all
-cast-all c = search needs
-
-cast-all-2 : tie.Need-cast-all-2
-cast-all-2 c = search needs
-
 mul-all : tie.Need-mul-all
 mul-all c = search needs
 
@@ -28,13 +22,13 @@ kept-requires : tie.Need-kept-requires
 kept-requires c κs = search needs
 
 onward-requires : tie.Need-onward-requires
-onward-requires c κs = c .before .before .before .before .before .before .pre
+onward-requires c κs = c .before .before .before .before .before .pre
 
 returns-2 : tie.Need-returns-2
 returns-2 c =
-    let g = c .before .before .before .before .before .before .before .before .args in
+    let g = c .before .before .before .before .before .before .before .args in
     let e = rw (c .before .before .kept .ensures) at (c .before .onward .ensures) in
-    ap (headed g.tile) e ∙ tile-on g.s g.t g.tile g.west g.south g.north g.east (c .before .before .before .before .before .if1 .left)
+    ap (headed g.tile) e ∙ tile-on g.s g.t g.tile g.west g.south g.north g.east (c .before .before .before .before .if1 .left)
 
 pub route-tile-spec : {M : Type 1} → statement M
 route-tile-spec =
@@ -42,8 +36,6 @@ route-tile-spec =
     (tie.spec
     cast-hopper
     returns
-    cast-all
-    cast-all-2
     mul-all
     kept-requires
     onward-requires
