@@ -97,9 +97,10 @@ pub fn with_booking(counters: Counters, number: u32) -> Counters
     requires { ⌜ counters .booked < number ⌝ }
     ensures { λ r. ⌜ r ≡ withBooking counters number ⌝ }
 {
+    let delivered = counters.delivered;
     Counters {
         last: number,
         booked: counters.booked + 1,
-        delivered: counters.delivered,
+        delivered: delivered,
     }
 }

@@ -13,6 +13,7 @@ use changes::tile_head;
 use changes::tile_members;
 use floor::Answer;
 use floor::Canister;
+use floor::Delivery;
 use floor::Floor;
 use floor::Reading;
 use floor::Report;
@@ -143,10 +144,13 @@ pub fn read(floor: Floor, tile: u32) -> Reading
 fn no_report() -> Report
     ensures { λ r. ⌜ r ≡ zeroReport ⌝ }
 {
+    let none = Delivery {
+        numbers: [0; 4],
+        count: 0,
+    };
     Report {
         grants: [0; 64],
-        count: 0,
-        delivered: [0; 4],
+        deliveries: [none; 4],
     }
 }
 
@@ -168,12 +172,10 @@ pub fn round(floor: Floor) -> Rounded
     let grants = next.grants;
     let moved = move_floor(floor, tiles, grants);
     let after = moved.floor;
-    let count = moved.count;
-    let delivered = moved.delivered;
+    let deliveries = moved.deliveries;
     let report = Report {
         grants: grants,
-        count: count,
-        delivered: delivered,
+        deliveries: deliveries,
     };
     Rounded {
         refusal: 0,

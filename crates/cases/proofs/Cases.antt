@@ -15,7 +15,7 @@ use Rattle.floor.proofs.Calling.{got, settings, fresh, can, book, stop, repair,
 
 -- W, H, hopper, fill set; U, l, r, v
 unfoldable made : ℕ → ℕ → ℕ → ℕ → ℕ → ℕ → ℕ → ℕ → Settings
-made W H hopper fill U l r v = record { columns = W; rows = H; hopper = hopper; sources = fill; width = U; length = l; gap = r; travel = v }
+made W H hopper fill U l r v = record { columns = W; rows = H; hoppers = 2 ^ hopper; sources = fill; width = U; length = l; gap = r; travel = v }
 
 -- ---- fresh
 -- refused: the number, then 1 where the answer has the all-zero floor
@@ -61,8 +61,8 @@ freshCases =
     ∷ (asked (made 9 1 9 1 100 30 10 20), 1 ∷ 1 ∷ [])
     ∷ (asked (made 2 1 2 1 100 30 10 30), 2 ∷ 1 ∷ [])
     -- what an accepted one holds: the settings as given, counters 0, every tile
-    ∷ (setUp (freshAnswer (made 3 1 1 4 100 30 10 20) .floor .settings), 3 ∷ 1 ∷ 1 ∷ 4 ∷ 100 ∷ 30 ∷ 10 ∷ 20 ∷ [])
-    ∷ (counted (fresh 3 1 1), 0 ∷ 0 ∷ 0 ∷ 0 ∷ [])
+    ∷ (setUp (freshAnswer (made 3 1 1 4 100 30 10 20) .floor .settings), 3 ∷ 1 ∷ 2 ∷ 4 ∷ 100 ∷ 30 ∷ 10 ∷ 20 ∷ [])
+    ∷ (counted (fresh 3 1 1), 0 ∷ 0 ∷ 0 ∷ 0 ∷ 0 ∷ 0 ∷ 0 ∷ [])
     ∷ (tile 0 (fresh 3 1 1), 0 ∷ 1 ∷ 255 ∷ 0 ∷ 0 ∷ [])
     ∷ (tile 1 (fresh 3 1 1), 0 ∷ 1 ∷ 0 ∷ 0 ∷ 0 ∷ [])
     ∷ (tile 2 (fresh 3 1 1), 0 ∷ 1 ∷ 255 ∷ 0 ∷ 0 ∷ [])
@@ -109,7 +109,7 @@ bookCases =
     -- accepted at U - l on both axes: the canister, its tile's other fields, the other tile, the counters
     ∷ (tile 2 (book 20 70 70 2 f), 0 ∷ 1 ∷ 255 ∷ 0 ∷ 0 ∷ 20 ∷ 70 ∷ 70 ∷ [])
     ∷ (tile 1 (book 20 70 70 2 f), 0 ∷ 1 ∷ 255 ∷ 0 ∷ 0 ∷ 9 ∷ 0 ∷ 0 ∷ [])
-    ∷ (counted (book 20 70 70 2 f), 0 ∷ 20 ∷ 2 ∷ 0 ∷ [])
+    ∷ (counted (book 20 70 70 2 f), 0 ∷ 20 ∷ 2 ∷ 0 ∷ 0 ∷ 0 ∷ 0 ∷ [])
     -- all sixteen places that a reading gives
     ∷ (let r = readAnswer f 1 in r .refusal ∷ r .tile .count ∷ flat (r .members), 0 ∷ 1 ∷ 9 ∷ 0 ∷ 0 ∷ replicate 45 0)
     ∷ []
@@ -139,8 +139,8 @@ otherCases =
     ∷ (tile 2 g, 0 ∷ 1 ∷ 2 ∷ 1 ∷ 0 ∷ 7 ∷ 0 ∷ 0 ∷ [])
     ∷ (tile 2 h, 0 ∷ 1 ∷ 2 ∷ 1 ∷ 0 ∷ 7 ∷ 0 ∷ 0 ∷ [])
     ∷ (tile 0 h, 0 ∷ 1 ∷ 0 ∷ 0 ∷ 4 ∷ [])
-    ∷ (counted g, 0 ∷ 7 ∷ 3 ∷ 0 ∷ [])
-    ∷ (counted h, 0 ∷ 7 ∷ 3 ∷ 0 ∷ [])
+    ∷ (counted g, 0 ∷ 7 ∷ 3 ∷ 0 ∷ 0 ∷ 0 ∷ 0 ∷ [])
+    ∷ (counted h, 0 ∷ 7 ∷ 3 ∷ 0 ∷ 0 ∷ 0 ∷ 0 ∷ [])
     -- 30 for every call on the all-zero floor, which has no tile either (30 before 4)
     ∷ (refused (bookAnswer zeroFloor 0 (can 1 0 0)) zeroFloor, 30 ∷ 1 ∷ [])
     ∷ (refused (stopAnswer zeroFloor 0) zeroFloor, 30 ∷ 1 ∷ [])
@@ -148,7 +148,7 @@ otherCases =
     ∷ (refusedRound zeroFloor, 30 ∷ 1 ∷ 1 ∷ [])
     ∷ (refusedReading (readAnswer zeroFloor 0), 30 ∷ 1 ∷ [])
     -- the order of each call as the paper lists it, also where no floor meets two of them
-    ∷ (map (λ x. x .1) (settingsTests (f .settings)), 1 ∷ 1 ∷ 1 ∷ 1 ∷ 1 ∷ 2 ∷ 2 ∷ 2 ∷ 3 ∷ 3 ∷ 3 ∷ 3 ∷ 3 ∷ 3 ∷ [])
+    ∷ (map (λ x. x .1) (settingsTests (f .settings)), 1 ∷ 1 ∷ 1 ∷ 1 ∷ 1 ∷ 2 ∷ 2 ∷ 2 ∷ 2 ∷ 2 ∷ 3 ∷ 3 ∷ 3 ∷ 3 ∷ 3 ∷ 3 ∷ [])
     ∷ (map (λ x. x .1) (bookTests (view f) 1 (can 9 0 0)), 4 ∷ 5 ∷ 6 ∷ 7 ∷ 31 ∷ 33 ∷ 34 ∷ [])
     ∷ (map (λ x. x .1) (stopTests (view f) 1), 4 ∷ 8 ∷ 31 ∷ [])
     ∷ (map (λ x. x .1) (repairTests (view f) 1), 4 ∷ 32 ∷ [])
@@ -170,7 +170,7 @@ unfoldable withPlace : ℕ → Canister → Floor → Floor
 withPlace k c f = record { settings = f .settings; counters = f .counters; tiles = f .tiles; canisters = set (f .canisters) k c }
 
 unfoldable withCounts : ℕ → ℕ → ℕ → Floor → Floor
-withCounts last booked delivered f = record { settings = f .settings; counters = record { last = last; booked = booked; delivered = delivered }; tiles = f .tiles; canisters = f .canisters }
+withCounts last booked delivered f = record { settings = f .settings; counters = record { last = last; booked = booked; delivered = delivered ∷ 0 ∷ 0 ∷ 0 ∷ [] }; tiles = f .tiles; canisters = f .canisters }
 
 unfoldable withSettings : Settings → Floor → Floor
 withSettings s f = record { settings = s; counters = f .counters; tiles = f .tiles; canisters = f .canisters }

@@ -1,9 +1,10 @@
 -- Cases beyond the paper's trials, through the answers of the calls: rounds. One row, the last of the turns, reads a definition. A row is what the answers give, then what is due.
 use mathlib.Core.Path.{_≡_, refl}
 use mathlib.Core.Bool.{true, false}
-use mathlib.Core.List.{[], _∷_}
+use mathlib.Core.List.{[], _∷_, map}
 use Prim.Native.Nat.{ℕ, zero, suc, _*_, _/_, _%_}
 use lib.ListN.{length, replicate}
+use Rattle.laws.specs.Define.{join}
 use Rattle.floor.specs.declared.Settings.{Settings}
 use Rattle.floor.specs.declared.Floor.{Floor}
 use Rattle.floor.specs.Signal.{signalBy}
@@ -12,7 +13,7 @@ use Rattle.floor.proofs.Calling.{got, settings, fresh, can, book, stop, repair,
 
 -- l 21, r 0, v 10: four along each axis
 unfoldable dense : Settings
-dense = record { columns = 2; rows = 1; hopper = 1; sources = 1; width = 100; length = 21; gap = 0; travel = 10 }
+dense = record { columns = 2; rows = 1; hoppers = 2; sources = 1; width = 100; length = 21; gap = 0; travel = 10 }
 
 -- ---- move, on each side: 5 ends at the border and stays, 6 goes one past it and lands, 7 moves
 unfoldable moveCases : Table
@@ -34,7 +35,7 @@ moveCases =
     ∷ (on 0 east, 0 ∷ 5 ∷ 70 ∷ 0 ∷ 7 ∷ 30 ∷ 13 ∷ [])
     ∷ (on 1 east, 0 ∷ 6 ∷ 0 ∷ 40 ∷ [])
     -- nothing is delivered on the way
-    ∷ (counted west, 0 ∷ 7 ∷ 3 ∷ 0 ∷ [])
+    ∷ (counted west, 0 ∷ 7 ∷ 3 ∷ 0 ∷ 0 ∷ 0 ∷ 0 ∷ [])
     ∷ []
 
 move-cases : holds moveCases ≡ true
@@ -159,16 +160,16 @@ listCases =
     let full = packed 16 in
     -- delivered in the first round by the arrow that this round gives
     (reported early, 0 ∷ 5 ∷ [])
-    ∷ (counted (rounds 1 early), 0 ∷ 5 ∷ 1 ∷ 1 ∷ [])
+    ∷ (counted (rounds 1 early), 0 ∷ 5 ∷ 1 ∷ 1 ∷ 0 ∷ 0 ∷ 0 ∷ [])
     ∷ (on 0 (rounds 1 early), 0 ∷ [])
     ∷ (tile 1 (rounds 1 early), 0 ∷ 1 ∷ 0 ∷ 0 ∷ 1 ∷ [])
     -- two in one round, then four, rising
     ∷ (reported two, 0 ∷ 5 ∷ 6 ∷ [])
-    ∷ (let r = roundAnswer two in r .refusal ∷ r .report .count ∷ r .report .delivered, 0 ∷ 2 ∷ 5 ∷ 6 ∷ 0 ∷ 0 ∷ [])
-    ∷ (counted (rounds 1 two), 0 ∷ 6 ∷ 2 ∷ 2 ∷ [])
+    ∷ (let r = roundAnswer two in r .refusal ∷ join (map (λ d. d .count ∷ d .numbers) (r .report .deliveries)), 0 ∷ 2 ∷ 5 ∷ 6 ∷ 0 ∷ 0 ∷ replicate 15 0)
+    ∷ (counted (rounds 1 two), 0 ∷ 6 ∷ 2 ∷ 2 ∷ 0 ∷ 0 ∷ 0 ∷ [])
     ∷ (on 1 (rounds 1 two), 0 ∷ [])
     ∷ (reported row, 0 ∷ 1 ∷ 2 ∷ 3 ∷ 4 ∷ [])
-    ∷ (counted (rounds 1 row), 0 ∷ 4 ∷ 4 ∷ 4 ∷ [])
+    ∷ (counted (rounds 1 row), 0 ∷ 4 ∷ 4 ∷ 4 ∷ 0 ∷ 0 ∷ 0 ∷ [])
     -- 5 and 7 arrive between 6 and 8, which move
     ∷ (on 1 mixed, 0 ∷ 5 ∷ 70 ∷ 0 ∷ 6 ∷ 5 ∷ 20 ∷ 7 ∷ 70 ∷ 40 ∷ 8 ∷ 10 ∷ 60 ∷ [])
     ∷ (on 2 mixed, 0 ∷ [])

@@ -1,3 +1,4 @@
 pub mod Cases
 pub mod CasesRound
+pub mod CasesHoppers
 pub mod Longest

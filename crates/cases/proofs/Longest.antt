@@ -6,27 +6,27 @@ use mathlib.Core.List.{List, [], _∷_}
 use Prim.Native.Nat.{ℕ, _+_, _-_, _*_, _/_, _%_, _^_, _<_}
 use native.Mathlib.Omega.{arith}
 use lib.Dec.{ltb, eqb}
-use lib.ListN.{length}
+use lib.ListN.{length, replicate}
 use borrow.Author.Tests.{ltb-true}
-use Rattle.laws.specs.Define.{tab, cat, allOf, pairsOf, allBelow, sum, bit, refusal}
+use Rattle.laws.specs.Define.{tab, cat, allOf, anyOf, pairsOf, allBelow, sum, bit, bitsBelow, refusal}
 use Rattle.laws.specs.Every.{All, Pairs}
 use Rattle.laws.specs.Tests.{and-left, and-right, and-true, r-ne, r-pairs}
 use Rattle.laws.specs.Lists.{all-imp}
 use Rattle.floor.specs.declared.Canister.{Canister}
 use Rattle.floor.specs.declared.Settings.{Settings}
-use Rattle.floor.specs.Settings.{isHopper, settingsTests, settingsRefusal, settingsPass}
+use Rattle.floor.specs.Settings.{isHopper, hoppersOf, settingsTests, settingsRefusal, settingsPass}
 use Rattle.floor.specs.Model.{TileState, Model, numbersOn}
 use Rattle.floor.specs.Memory.{view, head, pack}
 use Rattle.floor.specs.Well.{hopperSound, runningSound, faces, headSound, inside, apart, inOrder, membersSound, tileSound, numbersSound, countersSound, sound, wellFormed}
 use Rattle.floor.proofs.Well.{sound-fact}
 use Rattle.floor.proofs.Capacity.{view-packed, well-pack}
-use Rattle.image.specs.Image.{encode}
+use Rattle.image.specs.Image.{several, encode}
 use Rattle.image.proofs.Sizes.{tileSize, encode-size}
 
 -- ---- the floor: 8 x 8 tiles, tile 0 the hopper
 -- d = 30 and (100 - 10) div 30 = 3: four places along each axis
 unfoldable pub settings : Settings
-settings = record { columns = 8; rows = 8; hopper = 0; sources = 2 ^ 64 - 2; width = 100; length = 10; gap = 20; travel = 9 }
+settings = record { columns = 8; rows = 8; hoppers = 1; sources = 2 ^ 64 - 2; width = 100; length = 10; gap = 20; travel = 9 }
 
 -- canister k of tile t; the numbers are 1 to 1008, from tile 63 down to tile 1
 unfoldable pub canister : ℕ → ℕ → Canister
@@ -37,7 +37,7 @@ unfoldable pub tile : ℕ → TileState
 tile t = record { running = 1; distance = cond (eqb t 0) 0 255; next = 0; token = 0; members = cond (eqb t 0) [] (tab 16 (canister t)) }
 
 unfoldable pub longest : Model
-longest = let ts = tab 64 tile in record { settings = settings; counters = record { last = 1008; booked = 1008; delivered = 0 }; tiles = ts }
+longest = let ts = tab 64 tile in record { settings = settings; counters = record { last = 1008; booked = 1008; delivered = replicate 4 0 }; tiles = ts }
 
 -- ---- rising numbers differ
 -- the first number is above n, each other one above the one before it
@@ -68,7 +68,7 @@ longest-differ : pairsOf (λ x y. not (eqb x y)) (numbersOn longest) ≡ true
 longest-differ = r-pairs (λ x y. not (eqb x y)) (λ x y. x ≢ y) r-ne (numbersOn longest) .1 (rises-differ 0 (numbersOn longest) longest-rises)
 
 longest-sound : sound longest ≡ true
-unfolding settings canister tile longest tab cat allOf pairsOf allBelow bit refusal isHopper settingsTests settingsRefusal settingsPass numbersOn head
+unfolding settings canister tile longest tab cat allOf pairsOf allBelow anyOf sum bit bitsBelow refusal isHopper hoppersOf settingsTests settingsRefusal settingsPass numbersOn head
     hopperSound runningSound faces headSound inside apart inOrder membersSound tileSound numbersSound countersSound sound
 longest-sound = and-true refl (and-true refl (and-true refl (and-true (and-true refl longest-differ) refl)))
 
@@ -77,5 +77,5 @@ longest-well = well-pack longest longest-sound
 
 -- ---- the length of its image
 pub longest-reached : length (encode (view (pack longest))) ≡ 8748
-unfolding tile longest tab sum tileSize
+unfolding settings tile longest tab sum tileSize several hoppersOf bitsBelow bit
 longest-reached = rw (view-packed longest (sound-fact longest .0 longest-sound)) (encode-size longest)

@@ -1,7 +1,7 @@
 -- The code's arrays and records, read as a floor's value and packed.
 use mathlib.Core.Path.{_≡_, refl, sym, ap, _∙_}
 use mathlib.Core.Logic.{_≢_}
-use mathlib.Core.Bool.{true}
+use mathlib.Core.Bool.{true, false}
 use mathlib.Core.List.{List}
 use Prim.Native.Nat.{ℕ, zero, suc, _+_, _*_, _/_, _%_, _≤_, _<_}
 use native.Mathlib.Omega.{arith}
@@ -60,15 +60,15 @@ module _ (f : Floor) (t : ℕ) (w : wellFormed f ≡ true) (on : t < total (f .s
       put x = record { settings = f .settings; counters = f .counters; tiles = set (f .tiles) t x; canisters = f .canisters }
 
 -- ---- a fresh floor
-pub fresh-hopper : (s : Settings) (t : ℕ) → t ≡ s .hopper
+pub fresh-hopper : (s : Settings) (t : ℕ) → isHopper s t ≡ true
     → _≡_ {A = Tile} (record { running = 1; distance = 0; next = record { code = 0 }; token = record { code = 0 }; count = 0 }) (head (freshTile s t))
-unfolding head freshTile isHopper
-fresh-hopper s t e = rw (eq-eqb t (s .hopper) e)
+unfolding head freshTile
+fresh-hopper s t e = rw e
 
-pub fresh-other : (s : Settings) (t : ℕ) → t ≢ s .hopper
+pub fresh-other : (s : Settings) (t : ℕ) → isHopper s t ≡ false
     → _≡_ {A = Tile} (record { running = 1; distance = 255; next = record { code = 0 }; token = record { code = 0 }; count = 0 }) (head (freshTile s t))
-unfolding head freshTile isHopper
-fresh-other s t e = rw (ne-eqb t (s .hopper) e)
+unfolding head freshTile
+fresh-other s t e = rw e
 
 pub zero-tiles : (z : Floor) → z ≡ zeroFloor → (i : ℕ) → getD (z .tiles) i zeroTile ≡ zeroTile
 unfolding zeroFloor
@@ -88,7 +88,7 @@ pub fresh-pack : (s : Settings) (z : Floor) (ts : List Tile) → z ≡ zeroFloor
 unfolding freshFloor freshTile zeroFloor
 fresh-pack s z ts e l up off =
     ap (λ (x : Floor). record { settings = s; counters = x .counters; tiles = ts; canisters = x .canisters }) e
-    ∙ pack-tab s (record { last = 0; booked = 0; delivered = 0 }) (freshTile s) ts (replicate 1024 zeroCanister) l (length-replicate 1024 zeroCanister)
+    ∙ pack-tab s (record { last = 0; booked = 0; delivered = replicate 4 0 }) (freshTile s) ts (replicate 1024 zeroCanister) l (length-replicate 1024 zeroCanister)
     (λ t _ k. up t k) (λ t _ k. off t k) (λ i k _. none i k) (λ i k _. none i k)
   where
     none : (i : ℕ) → i < 1024 → getD (replicate 1024 zeroCanister) i zeroCanister ≡ zeroCanister

@@ -62,18 +62,18 @@ module _ (f : Floor) (t : ℕ) where
   unfolding stopTests refusal view
   stop-4 h = rw (le-leb (total (f .settings)) t h)
 
-  pub stop-8 : t < total (f .settings) → t ≡ f .settings .hopper → 8 ≡ refusal (stopTests (view f) t)
-  unfolding stopTests refusal view isHopper
-  stop-8 on e = rw (lt-leb (total (f .settings)) t on, eq-eqb t (f .settings .hopper) e)
+  pub stop-8 : t < total (f .settings) → isHopper (f .settings) t ≡ true → 8 ≡ refusal (stopTests (view f) t)
+  unfolding stopTests refusal view
+  stop-8 on e = rw (lt-leb (total (f .settings)) t on, e)
 
-  module _ (on : t < total (f .settings)) (n : t ≢ f .settings .hopper) (h : Tile) (e : h ≡ head (tileOf (view f) t)) where
+  module _ (on : t < total (f .settings)) (n : isHopper (f .settings) t ≡ false) (h : Tile) (e : h ≡ head (tileOf (view f) t)) where
     pub stop-31 : h .running ≢ 1 → 31 ≡ refusal (stopTests (view f) t)
-    unfolding stopTests refusal view isHopper
-    stop-31 r = rw (lt-leb (total (f .settings)) t on, ne-eqb t (f .settings .hopper) n, runs-no f t h e r)
+    unfolding stopTests refusal view
+    stop-31 r = rw (lt-leb (total (f .settings)) t on, n, runs-no f t h e r)
 
     pub stop-0 : h .running ≡ 1 → 0 ≡ refusal (stopTests (view f) t)
-    unfolding stopTests refusal view isHopper
-    stop-0 r = rw (lt-leb (total (f .settings)) t on, ne-eqb t (f .settings .hopper) n, runs-yes f t h e r)
+    unfolding stopTests refusal view
+    stop-0 r = rw (lt-leb (total (f .settings)) t on, n, runs-yes f t h e r)
 
   pub stop-on : refusal (stopTests (view f) t) ≡ 0 → t < total (f .settings)
   unfolding stopTests view

@@ -15,6 +15,7 @@ use floor::Settings;
 use floor::Side;
 use floor::Tile;
 use floor::zero_floor;
+use sets::holds;
 use settings::tiles_of;
 
 // A tile of a fresh floor.
@@ -22,8 +23,8 @@ pub fn fresh_tile(s: Settings, t: usize) -> Tile
     ensures { λ r. ⌜ r ≡ head (freshTile s t) ⌝ }
 {
     let none = Side::NONE;
-    let hopper = s.hopper as usize;
-    let distance: u8 = if t == hopper { 0 } else { 255 };
+    let hopper = holds(s.hoppers, t);
+    let distance: u8 = if hopper { 0 } else { 255 };
     Tile {
         running: 1,
         distance: distance,
@@ -87,7 +88,7 @@ pub fn stop_refusal(floor: Floor, tile: u32) -> u8
     if all <= tile as usize {
         return 4;
     }
-    if tile == s.hopper as u32 {
+    if holds(s.hoppers, tile as usize) {
         return 8;
     }
     let old = tile_head(floor, tile);

@@ -1,12 +1,20 @@
 // What refuses an image, record by record: the faults of each kind of record, and the scan of the tiles' records. Without 12.
 ghost use mathlib.Core.Path.{_≡_};
+ghost use mathlib.Core.Logic.{_⊎_};
+ghost use mathlib.Core.Bool.{not, _&&_};
 ghost use Prim.Native.Nat.{_+_, _≤_};
+ghost use lib.Dec.{eqb};
 ghost use lib.ListN.{length, drop};
 ghost use Rattle.laws.specs.Define.{refusal};
+ghost use Rattle.image.specs.Image as I;
 ghost use Rattle.image.specs.Image.{settingsIn, settingsFaults, countersFaults, tileFaults, endFaults, recordFault, tilesFault};
 ghost use Rattle.faults.specs.Scan.{Starts};
 use floor::Settings;
+use sets::lowest;
+use sets::single;
+use sets::size;
 use settings::settings_refusal;
+use settings::sizes_wrong;
 use wire::u16_at;
 use wire::u64_at;
 
@@ -16,11 +24,23 @@ pub struct Scan {
     pub fault: u8,
 }
 
-// The settings whose record's body starts at `at`.
-pub fn settings_at(s: &[u8], at: usize) -> Settings
-    requires { ⌜ at + 20 ≤ length (now s) ⌝ }
-    ensures { λ r. ⌜ r ≡ settingsIn (drop at (now (s .entry))) ⌝ }
+// The hopper set of record 1: the last eight of its 28 bytes; of 20 bytes, the one tile that its hopper byte names.
+fn hoppers_at(s: &[u8], at: usize, n: u16) -> u64
+    requires { ⌜ (at + n ≤ length (now s)) × ((n ≡ 20) ⊎ (n ≡ 28)) ⌝ }
+    ensures { λ r. ⌜ r ≡ settingsIn n (drop at (now (s .entry))) .hoppers ⌝ }
 {
+    if n == 28 {
+        return u64_at(s, at + 20);
+    }
+    single(s[at + 2])
+}
+
+// The settings whose record's body of n bytes starts at `at`.
+pub fn settings_at(s: &[u8], at: usize, n: u16) -> Settings
+    requires { ⌜ (at + n ≤ length (now s)) × ((n ≡ 20) ⊎ (n ≡ 28)) ⌝ }
+    ensures { λ r. ⌜ r ≡ settingsIn n (drop at (now (s .entry))) ⌝ }
+{
+    let hoppers = hoppers_at(s, at, n);
     let width = u16_at(s, at + 4);
     let length = u16_at(s, at + 6);
     let gap = u16_at(s, at + 8);
@@ -29,7 +49,7 @@ pub fn settings_at(s: &[u8], at: usize) -> Settings
     Settings {
         columns: s[at],
         rows: s[at + 1],
-        hopper: s[at + 2],
+        hoppers: hoppers,
         sources: sources,
         width: width,
         length: length,
@@ -38,26 +58,46 @@ pub fn settings_at(s: &[u8], at: usize) -> Settings
     }
 }
 
+// Whether the hopper byte of a record with a set isn't the lowest of its tiles. It isn't tested for an empty set.
+fn byte_wrong(byte: u8, set: u64) -> bool
+    ensures { λ r. ⌜ r ≡ (not (eqb set 0) && not (eqb byte (I.lowest set))) ⌝ }
+{
+    let low = lowest(set);
+    (set != 0) & (byte != low)
+}
+
 // Kind 1 with a body of n bytes: 11, then 1 to 3.
 fn settings_fault(s: &[u8], at: usize, n: u16) -> u8
     requires { ⌜ at + n ≤ length (now s) ⌝ }
     ensures { λ r. ⌜ r ≡ refusal (settingsFaults n (drop at (now (s .entry)))) ⌝ }
 {
-    if n != 20 {
+    if (n != 20) & (n != 28) {
         return 11;
     }
     if s[at + 3] != 0 {
         return 11;
     }
-    let x = settings_at(s, at);
+    let x = settings_at(s, at, n);
+    let more = n == 28;
+    let wrong = byte_wrong(s[at + 2], x.hoppers);
+    if more & wrong {
+        return 11;
+    }
+    if sizes_wrong(x) {
+        return 1;
+    }
+    let count = size(x.hoppers);
+    if more & (count < 2) {
+        return 2;
+    }
     settings_refusal(x)
 }
 
-// Kind 2 with a body of n bytes: 11.
-fn counters_fault(n: u16) -> u8
-    ensures { λ r. ⌜ r ≡ refusal (countersFaults n) ⌝ }
+// Kind 2 with a body of n bytes, where there are h hoppers: 11.
+fn counters_fault(n: u16, h: u8) -> u8
+    ensures { λ r. ⌜ r ≡ refusal (countersFaults h n) ⌝ }
 {
-    if n != 12 {
+    if n != 8 + 4 * (h as u16) {
         return 11;
     }
     0
@@ -94,7 +134,7 @@ fn end_fault(n: u16) -> u8
     0
 }
 
-// The refusal of the record at `at` where kind `due` is due: the kind found decides which record's test runs, and 10.
+// The refusal of the record at `at` where kind `due` is due; `tile` is the tile that is due and, for kind 2, the number of hoppers: the kind found decides which record's test runs, and 10.
 pub fn record_fault(s: &[u8], at: usize, due: u16, tile: u8) -> u8
     requires { ⌜ (at ≤ length (now s)) × (1 ≤ due) × (due ≤ 4) ⌝ }
     ensures { λ r. ⌜ r ≡ recordFault due tile (drop at (now (s .entry))) ⌝ }
@@ -114,7 +154,11 @@ pub fn record_fault(s: &[u8], at: usize, due: u16, tile: u8) -> u8
         } else {
             10
         },
-        2 => if due == 2 { counters_fault(n) } else { 10 },
+        2 => if due == 2 {
+            counters_fault(n, tile)
+        } else {
+            10
+        },
         3 => if due == 3 {
             tile_fault(s, at + 4, n, tile)
         } else {

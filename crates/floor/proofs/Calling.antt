@@ -4,7 +4,7 @@ use mathlib.Core.List.{List, [], _∷_, _++_, map}
 use Prim.Native.Nat.{ℕ, zero, suc, _-_, _*_, _^_}
 use lib.Dec.{eqb}
 use lib.ListN.{getD, take, replicate}
-use Rattle.laws.specs.Define.{tab, cat, allOf, anyOf, pairsOf, allBelow, keep, firstOf, sum, bit, refusal}
+use Rattle.laws.specs.Define.{tab, cat, allOf, anyOf, pairsOf, allBelow, keep, firstOf, sum, bit, bitsBelow, join, refusal}
 use Rattle.floor.specs.declared.Canister.{Canister}
 use Rattle.floor.specs.declared.Settings.{Settings}
 use Rattle.floor.specs.declared.Counters.{Counters}
@@ -13,15 +13,16 @@ use Rattle.floor.specs.declared.Floor.{Floor}
 use Rattle.floor.specs.declared.Answer.{Answer}
 use Rattle.floor.specs.declared.Reading.{Reading}
 use Rattle.floor.specs.Sides.{sides, opposite, after, following, chosen}
-use Rattle.floor.specs.Settings.{isHopper, settingsTests, settingsRefusal, settingsPass}
+use Rattle.floor.specs.Settings.{isHopper, hoppersOf, settingsTests, settingsRefusal, settingsPass}
 use Rattle.floor.specs.Grid.{neighbour}
 use Rattle.floor.specs.Model.{runsOf, numbersOn}
 use Rattle.floor.specs.Memory.{zeroFloor, stateOf, view, head, places, rows, build, pack, isZeroCanister, isZeroTile, headFits, tileFits, tilesFit, fits}
 use Rattle.floor.specs.Well.{hopperSound, runningSound, stoppedSound, faces, headSound, inside, apart, inOrder, membersSound, tileSound, numbersSound, countersSound, sound, wellFormed}
 use Rattle.floor.specs.Route.{nearer, nearest, liesAt, kept, onward, headingOf, routeTile, route}
 use Rattle.floor.specs.Signal.{requests, clear, hasGap, signalWith, signalBy, signalTile, shownOf, signalOf, signal}
-use Rattle.floor.specs.Move.{wayOf, crosses, shift, land, staying, leaving, insert, insertEach, membersNext, arrivals, moveTile, deliveredBy, move}
-use Rattle.floor.specs.Calls.{refusalOf, answer, freshTile, freshFloor, freshAnswer, bookTests, booked, bookAnswer, stopTests, stopped, stopAnswer, repairTests, repaired, repairAnswer, afterRound, delivered, reportOf, zeroReport, roundAnswer, readTests, readAnswer}
+use Rattle.floor.specs.Move.{wayOf, crosses, shift, land, staying, leaving, insert, insertEach, membersNext, arrivals, moveTile, deliveredBy, raised, move}
+use Rattle.floor.specs.Calls.{refusalOf, answer, freshTile, freshFloor, freshAnswer, bookTests, booked, bookAnswer, stopTests, stopped, stopAnswer, repairTests, repaired, repairAnswer, afterRound, delivered, deliveryOf, reportOf, zeroReport, roundAnswer, readTests, readAnswer}
+use Rattle.floor.specs.Reports.{listedAt}
 use Rattle.floor.specs.Bound.{crossing, bound}
 use Rattle.floor.specs.Live.{reached, connected, connectedCount}
 
@@ -29,9 +30,13 @@ use Rattle.floor.specs.Live.{reached, connected, connectedCount}
 unfoldable pub got : Answer → Floor
 got r = cond (eqb (r .refusal) 0) (r .floor) zeroFloor
 
--- "U 100, l 30, r 10", travel v, "every tile but the hopper a fill tile"
+-- "U 100, l 30, r 10", travel v, "every tile but the hopper a fill tile": a set of hoppers
+unfoldable pub several : ℕ → ℕ → ℕ → ℕ → Settings
+several W H hoppers v = record { columns = W; rows = H; hoppers = hoppers; sources = 2 ^ (W * H) - 1 - hoppers; width = 100; length = 30; gap = 10; travel = v }
+
+-- one hopper
 unfoldable pub settings : ℕ → ℕ → ℕ → ℕ → Settings
-settings W H hopper v = record { columns = W; rows = H; hopper = hopper; sources = 2 ^ (W * H) - 1 - 2 ^ hopper; width = 100; length = 30; gap = 10; travel = v }
+settings W H hopper v = several W H (2 ^ hopper) v
 
 unfoldable pub fresh : ℕ → ℕ → ℕ → Floor
 fresh W H hopper = got (freshAnswer (settings W H hopper 20))
@@ -77,9 +82,12 @@ next t f = let r = readAnswer f t in r .refusal ∷ r .tile .next .code ∷ []
 unfoldable pub turn : ℕ → Floor → List ℕ
 turn t f = let r = readAnswer f t in r .refusal ∷ r .tile .token .code ∷ []
 
--- what the next round reports: the numbers delivered; the grant of tile t
+-- what the next round reports: the numbers delivered to hopper k, and to the only one; the grant of tile t
+unfoldable pub reportedTo : ℕ → Floor → List ℕ
+reportedTo k f = let r = roundAnswer f in r .refusal ∷ listedAt (r .report) k
+
 unfoldable pub reported : Floor → List ℕ
-reported f = let r = roundAnswer f in r .refusal ∷ take (r .report .count) (r .report .delivered)
+reported f = reportedTo 0 f
 
 unfoldable pub grant : ℕ → Floor → List ℕ
 grant t f = let r = roundAnswer f in r .refusal ∷ getD (r .report .grants) t 0 ∷ []
@@ -91,9 +99,9 @@ liveCount f = let m = view f in connectedCount m (runsOf m)
 unfoldable pub boundOf : Floor → ℕ
 boundOf f = bound (f .settings) (liveCount f)
 
--- last, booked and delivered
+-- last, booked and delivered to each of four hoppers
 unfoldable pub counts : Counters → List ℕ
-counts c = c .last ∷ c .booked ∷ c .delivered ∷ []
+counts c = c .last ∷ c .booked ∷ c .delivered
 
 -- those of a floor, after the refusal of reading it
 unfoldable pub counted : Floor → List ℕ
@@ -108,7 +116,7 @@ same (x ∷ xs) (y ∷ ys) = eqb x y && same xs ys
 
 -- ---- whole floors, field by field
 unfoldable pub setUp : Settings → List ℕ
-setUp s = s .columns ∷ s .rows ∷ s .hopper ∷ s .sources ∷ s .width ∷ s .length ∷ s .gap ∷ s .travel ∷ []
+setUp s = s .columns ∷ s .rows ∷ s .hoppers ∷ s .sources ∷ s .width ∷ s .length ∷ s .gap ∷ s .travel ∷ []
 
 unfoldable pub heads : List Tile → List ℕ
 heads [] = []
@@ -127,7 +135,7 @@ refused r f = r .refusal ∷ cond (sameFloor (r .floor) f) 1 0 ∷ []
 unfoldable pub refusedRound : Floor → List ℕ
 refusedRound f =
     let r = roundAnswer f in
-    r .refusal ∷ cond (sameFloor (r .floor) f) 1 0 ∷ cond (same (r .report .count ∷ r .report .delivered ++ r .report .grants) (replicate 69 0)) 1 0 ∷ []
+    r .refusal ∷ cond (sameFloor (r .floor) f) 1 0 ∷ cond (same (join (map (λ d. d .count ∷ d .numbers) (r .report .deliveries)) ++ r .report .grants) (replicate 84 0)) 1 0 ∷ []
 
 -- of a reading: the refusal, then 1 where the tile and its sixteen places are zeros
 unfoldable pub refusedReading : Reading → List ℕ
@@ -138,13 +146,13 @@ abbrev pub Table : Type 0
 Table = List (List ℕ × List ℕ)
 
 unfoldable pub holds : Table → Bool
-unfolding got settings fresh can book stop repair rounds flat on tile distances next turn reported grant counts counted same setUp heads sameFloor refused refusedRound refusedReading
-    tab cat allOf anyOf pairsOf allBelow keep firstOf sum bit refusal
-    sides opposite after following chosen isHopper settingsTests settingsRefusal settingsPass neighbour numbersOn
+unfolding got several settings fresh can book stop repair rounds flat on tile distances next turn listedAt reportedTo reported grant counts counted same setUp heads sameFloor refused refusedRound refusedReading
+    tab cat allOf anyOf pairsOf allBelow keep firstOf sum bit bitsBelow join refusal
+    sides opposite after following chosen isHopper hoppersOf settingsTests settingsRefusal settingsPass neighbour numbersOn
     zeroFloor stateOf view head places rows build pack isZeroCanister isZeroTile headFits tileFits tilesFit fits
     hopperSound runningSound stoppedSound faces headSound inside apart inOrder membersSound tileSound numbersSound countersSound sound wellFormed
     nearer nearest liesAt kept onward headingOf routeTile route requests clear hasGap signalWith signalBy signalTile shownOf signalOf signal
-    wayOf crosses shift land staying leaving insert insertEach membersNext arrivals moveTile deliveredBy move
+    wayOf crosses shift land staying leaving insert insertEach membersNext arrivals moveTile deliveredBy raised move
     refusalOf answer freshTile freshFloor freshAnswer bookTests booked bookAnswer stopTests stopped stopAnswer repairTests repaired repairAnswer
-    afterRound delivered reportOf zeroReport roundAnswer readTests readAnswer crossing bound reached connected connectedCount liveCount boundOf
+    afterRound delivered deliveryOf reportOf zeroReport roundAnswer readTests readAnswer crossing bound reached connected connectedCount liveCount boundOf
 holds table = allOf (λ r. same (r .0) (r .1)) table

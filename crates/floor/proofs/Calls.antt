@@ -3,46 +3,51 @@ use mathlib.Core.Path.{_≡_, refl, sym, ap, _∙_}
 use mathlib.Core.Logic.{_⊎_, inl, inr, _↔_, _≢_}
 use mathlib.Core.Bool.{Bool, true, false, cond, true≢false, false≢true}
 use mathlib.Core.List.{List, [], _∷_, _++_, append-nil}
-use mathlib.Core.List.{List·Permᴰ, List·Permᴰ·trans, Permᴰ·refl, Permᴰ·symm}
+use mathlib.Core.List.{List·Permᴰ, List·Permᴰ·trans, Permᴰ·refl, Permᴰ·symm, Permᴰ·append-left}
 use Prim.Native.Nat.{ℕ, _+_, _^_, _≤_, _<_}
 use native.Mathlib.Omega.{arith}
 use native.Mathlib.Decide.{ℕ-discrete}
 use lib.Dec.{eqb}
 use lib.ListN.{length, getD, set, length-set, length-append}
 use lib.Seq.{getD-set-same, getD-set-other}
-use borrow.Author.Tests.{leb-false, eqb-true, eq-eqb, ne-eqb, not-false}
-use Rattle.laws.specs.Define.{cat, allOf, bit}
+use borrow.Author.Tests.{leb-false, eq-eqb, ne-eqb, not-false}
+use Rattle.laws.specs.Define.{cat, allOf, sum, bit}
 use Rattle.laws.specs.Every.{All, Pairs}
 use Rattle.laws.specs.Tests.{by-test, not-both, r-all}
-use Rattle.laws.specs.Lists.{all-perm, all-imp, all-unmap, pairs-perm, cat-perm, cat-append, cat-one, cat-all, swap-append, map-perm, perm-of, perm-chain, length-perm, all-append, all-cross, pairs-append}
+use Rattle.laws.specs.Lists.{all-perm, all-imp, all-unmap, pairs-perm, cat-perm, cat-append, cat-nil, cat-one, cat-all, swap-append, map-perm, perm-of, perm-chain, length-perm, all-append, all-cross, pairs-append}
+use Rattle.laws.specs.SetBits.{bits-each}
 use Rattle.floor.specs.declared.Canister.{Canister}
 use Rattle.floor.specs.declared.Settings.{Settings}
 use Rattle.floor.specs.declared.Counters.{Counters}
-use Rattle.floor.specs.Settings.{total, spacing, isHopper}
+use Rattle.floor.specs.Settings.{total, spacing, isHopper, hoppersOf}
 use Rattle.floor.specs.Model.{TileState, Model, noTile, tileOf, runs, runsOf, membersOf, numbers, numbersOn, withTile, withMembers}
 use Rattle.floor.specs.Well.{inside, apart}
 use Rattle.floor.specs.Move.{insert}
-use Rattle.floor.specs.Calls.{bookTests, booked, stopTests, stopped, repairTests, repaired, afterRound, delivered}
-use Rattle.floor.proofs.Sound.{Inside, Apart, Faces, Sound}
+use Rattle.floor.specs.Calls.{bookTests, booked, stopTests, stopped, repairTests, repaired, afterRound}
+use Rattle.floor.proofs.Sound.{Measured, Inside, Apart, Faces, Sound}
 use Rattle.floor.proofs.Well.{inside-fact, apart-fact}
 use Rattle.floor.proofs.Geometry.{apart-sym}
 use Rattle.floor.proofs.Borders.{Rising}
 use Rattle.floor.proofs.Insertion.{insert-perm, insert-rising}
-use Rattle.floor.proofs.Fields.{round-settings, round-last, round-booked, round-delivered}
+use Rattle.floor.proofs.Fields.{round-settings, round-last, round-booked, went, round-counter, delivered-length}
 use Rattle.floor.proofs.Conservation.{round-numbers}
 use Rattle.floor.proofs.Kept.{round-sound}
 
--- what a call from m to n keeps; `came` and `went` are the numbers booked and delivered
-pub record Keeps (m n : Model) (came went : List ℕ) : Type 0 where
+-- what a call from m to n keeps; `came` are the numbers booked, `gone k` those delivered to hopper k
+pub record Keeps (m n : Model) (came : List ℕ) (gone : ℕ → List ℕ) : Type 0 where
   pub well : Sound n
   pub same-settings : n .settings ≡ m .settings
-  pub nums : List·Permᴰ (numbersOn n ++ went) (numbersOn m ++ came)
+  pub nums : List·Permᴰ (numbersOn n ++ cat 4 gone) (numbersOn m ++ came)
   pub rises : m .counters .last ≤ n .counters .last
   pub above : All (λ k. m .counters .last < k) came
   pub upto : All (λ k. k ≤ n .counters .last) came
   pub distinct : Pairs (λ x y. x ≢ y) came
   pub books : n .counters .booked ≡ m .counters .booked + length came
-  pub delivers : n .counters .delivered ≡ m .counters .delivered + length went
+  pub delivers : (k : ℕ) → getD (n .counters .delivered) k 0 ≡ getD (m .counters .delivered) k 0 + length (gone k)
+
+-- nothing delivered
+abbrev pub none : ℕ → List ℕ
+none _ = []
 
 -- none of the tests is met
 abbrev pub Accepted : List (Bool × ℕ) → Type 0
@@ -100,8 +105,8 @@ module _ (m : Model) (S : Sound m) (t : ℕ) (on : t < total (m .settings)) wher
         (perm-of (ap (λ z. numbersOn m ++ z) one)))
 
     put-sound : isHopper (m .settings) t ≡ false → Fine x → All (λ k. 0 < k) (numbersOn (put x c)) → All (λ k. k ≤ c .last) (numbersOn (put x c)) → Pairs (λ x y. x ≢ y) (numbersOn (put x c))
-        → c .booked ≡ c .delivered + length (numbersOn (put x c)) → c .booked ≤ c .last → c .last < 2 ^ 32 → Sound (put x c)
-    put-sound n F pos bel uni cnt bl fit =
+        → c .delivered ≡ m .counters .delivered → c .booked ≡ sum (c .delivered) + length (numbersOn (put x c)) → c .booked ≤ c .last → c .last < 2 ^ 32 → Sound (put x c)
+    put-sound n F pos bel uni same cnt bl fit =
         let s = m .settings in
         record {
           measured = S .measured;
@@ -125,27 +130,29 @@ module _ (m : Model) (S : Sound m) (t : ℕ) (on : t < total (m .settings)) wher
           positive = pos;
           below = bel;
           unique = uni;
+          four = ap (λ (l : List ℕ). length l) same ∙ S .four;
+          spare = λ k h. ap (λ (l : List ℕ). getD l k 0) same ∙ S .spare k h;
           counted = cnt;
           booked-last = bl;
           last-fits = fit;
         }
 
   -- stop and repair: the same canisters
-  same-keeps : (x : TileState) → isHopper (m .settings) t ≡ false → Fine x → x .members ≡ membersOf m t → Keeps m (withTile m t x) [] []
+  same-keeps : (x : TileState) → isHopper (m .settings) t ≡ false → Fine x → x .members ≡ membersOf m t → Keeps m (withTile m t x) [] none
   same-keeps x n F e =
       let p = put-numbers x (m .counters) [] (rw (e, append-nil) (Permᴰ·refl (numbers (membersOf m t)))) in
       let q : List·Permᴰ (numbersOn m) (numbersOn (withTile m t x)) = Permᴰ·symm (rw append-nil at p) in
       record {
         well = put-sound x (m .counters) n F (all-perm (λ k. 0 < k) q (S .positive)) (all-perm (λ k. k ≤ m .counters .last) q (S .below))
-            (pairs-perm (λ x y. x ≢ y) (λ x y n e. n (sym e)) q (S .unique)) (omega (arith, S .counted, length-perm q)) (S .booked-last) (S .last-fits);
+            (pairs-perm (λ x y. x ≢ y) (λ x y n e. n (sym e)) q (S .unique)) refl (omega (arith, S .counted, length-perm q)) (S .booked-last) (S .last-fits);
         same-settings = refl;
-        nums = rw append-nil p;
+        nums = rw (cat-nil {A = ℕ} 4, append-nil) p;
         rises = omega arith;
         above = tt;
         upto = tt;
         distinct = tt;
         books = omega arith;
-        delivers = omega arith;
+        delivers = λ k. omega arith;
       }
 
   stop-fine : Fine (stopped (tileOf m t))
@@ -203,12 +210,13 @@ module _ (m : Model) (S : Sound m) (t : ℕ) (on : t < total (m .settings)) wher
   }
 
 -- ---- the calls
-is-hopper : (s : Settings) (t : ℕ) → isHopper s t ≡ true → t ≡ s .hopper
-unfolding isHopper
-is-hopper s t h = eqb-true t (s .hopper) h
+-- no hopper is a fill tile
+no-source : (s : Settings) → Measured s → (t : ℕ) → t < total s → isHopper s t ≡ true → bit (s .sources) t ≡ false
+unfolding isHopper hoppersOf
+no-source s M = bits-each (λ t. bit (s .sources) t ≡ false) (s .hoppers) (total s) (M .no-source)
 
 -- Booking. A number of 32 bits is asked for, since the counters have no more.
-pub book-keeps : (m : Model) → Sound m → (t : ℕ) (c : Canister) → Accepted (bookTests m t c) → c .number < 2 ^ 32 → Keeps m (booked m t c) (c .number ∷ []) []
+pub book-keeps : (m : Model) → Sound m → (t : ℕ) (c : Canister) → Accepted (bookTests m t c) → c .number < 2 ^ 32 → Keeps m (booked m t c) (c .number ∷ []) none
 unfolding bookTests booked
 book-keeps m S t c T fit =
     let on = leb-false (total (m .settings)) t (T .0) in
@@ -226,28 +234,28 @@ book-keeps m S t c T fit =
           (all-perm (λ n. 0 < n) q (omega arith, S .positive))
           (all-perm (λ n. n ≤ c .number) q (omega arith, all-imp (λ n. n ≤ m .counters .last) (λ n. n ≤ c .number) (numbersOn m) (λ n h. omega arith) (S .below)))
           (pairs-perm (λ x y. x ≢ y) (λ x y n e. n (sym e)) q (all-imp (λ n. n ≤ m .counters .last) (λ n. c .number ≢ n) (numbersOn m) (λ n h. omega arith) (S .below), S .unique))
-          (omega (arith, S .counted, length-perm q)) (omega (arith, S .booked-last)) fit;
+          refl (omega (arith, S .counted, length-perm q)) (omega (arith, S .booked-last)) fit;
       same-settings = refl;
-      nums = rw append-nil p;
+      nums = rw (cat-nil {A = ℕ} 4, append-nil) p;
       rises = omega arith;
       above = (new, tt);
       upto = (omega arith, tt);
       distinct = (tt, tt);
       books = omega arith;
-      delivers = omega arith;
+      delivers = λ k. omega arith;
     }
   where
     off : (isHopper (m .settings) t ≡ true) ⊎ (isHopper (m .settings) t ≡ false) → isHopper (m .settings) t ≡ false
     off (inr n) = n
-    off (inl h) = not-both (not-false (bit (m .settings .sources) t) (T .1 .0)) (ap (bit (m .settings .sources)) (is-hopper (m .settings) t h) ∙ S .measured .no-source)
+    off (inl h) = not-both (not-false (bit (m .settings .sources) t) (T .1 .0)) (no-source (m .settings) (S .measured) t (leb-false (total (m .settings)) t (T .0)) h)
 
-pub stop-keeps : (m : Model) → Sound m → (t : ℕ) → Accepted (stopTests m t) → Keeps m (withTile m t (stopped (tileOf m t))) [] []
+pub stop-keeps : (m : Model) → Sound m → (t : ℕ) → Accepted (stopTests m t) → Keeps m (withTile m t (stopped (tileOf m t))) [] none
 unfolding stopTests stopped
 stop-keeps m S t T =
     let on = leb-false (total (m .settings)) t (T .0) in
     same-keeps m S t on (stopped (tileOf m t)) (T .1 .0) (stop-fine m S t on) refl
 
-pub repair-keeps : (m : Model) → Sound m → (t : ℕ) → Accepted (repairTests m t) → Keeps m (withTile m t (repaired (tileOf m t))) [] []
+pub repair-keeps : (m : Model) → Sound m → (t : ℕ) → Accepted (repairTests m t) → Keeps m (withTile m t (repaired (tileOf m t))) [] none
 unfolding repairTests repaired
 repair-keeps m S t T =
     let on = leb-false (total (m .settings)) t (T .0) in
@@ -258,7 +266,7 @@ repair-keeps m S t T =
     off (inr n) = n
     off (inl h) = not-both (S .hopper-runs t h) (T .1 .0)
 
-pub round-keeps : (m : Model) → Sound m → Keeps m (afterRound m) [] (delivered m)
+pub round-keeps : (m : Model) → Sound m → Keeps m (afterRound m) [] (went m)
 round-keeps m S = record {
   well = round-sound m S;
   same-settings = round-settings m;
@@ -268,26 +276,26 @@ round-keeps m S = record {
   upto = tt;
   distinct = tt;
   books = omega (arith, round-booked m);
-  delivers = round-delivered m;
+  delivers = round-counter m (S .four) (omega (arith, delivered-length m (S .len), S .measured .hoppers-few));
 }
 
 -- a refused call
-pub same-floor : (m : Model) → Sound m → Keeps m m [] []
-same-floor m S = record { well = S; same-settings = refl; nums = Permᴰ·refl (numbersOn m ++ []); rises = omega arith; above = tt; upto = tt; distinct = tt; books = omega arith; delivers = omega arith }
+pub same-floor : (m : Model) → Sound m → Keeps m m [] none
+same-floor m S = record { well = S; same-settings = refl; nums = rw (cat-nil {A = ℕ} 4) (Permᴰ·refl (numbersOn m ++ [])); rises = omega arith; above = tt; upto = tt; distinct = tt; books = omega arith; delivers = λ k. omega arith }
 
 -- one call, and what follows it
-pub keeps-join : (l m n : Model) (came went came′ went′ : List ℕ) → Keeps l m came went → Keeps m n came′ went′ → Keeps l n (came ++ came′) (went ++ went′)
-keeps-join l m n came went came′ went′ K J = record {
+pub keeps-join : (l m n : Model) (came : List ℕ) (gone : ℕ → List ℕ) (came′ : List ℕ) (gone′ : ℕ → List ℕ) → Keeps l m came gone → Keeps m n came′ gone′ → Keeps l n (came ++ came′) (λ k. gone k ++ gone′ k)
+keeps-join l m n came gone came′ gone′ K J = record {
   well = J .well;
   same-settings = J .same-settings ∙ K .same-settings;
-  nums = perm-chain (numbersOn l) (numbersOn m) (numbersOn n) came came′ went went′ (K .nums) (J .nums);
+  nums = List·Permᴰ·trans (Permᴰ·append-left (numbersOn n) (cat-append 4 gone gone′)) (perm-chain (numbersOn l) (numbersOn m) (numbersOn n) came came′ (cat 4 gone) (cat 4 gone′) (K .nums) (J .nums));
   rises = omega (arith, K .rises, J .rises);
   above = all-append (λ k. l .counters .last < k) came came′ (K .above) (all-imp (λ k. m .counters .last < k) (λ k. l .counters .last < k) came′ (λ k h. omega (arith, K .rises)) (J .above));
   upto = all-append (λ k. k ≤ n .counters .last) came came′ (all-imp (λ k. k ≤ m .counters .last) (λ k. k ≤ n .counters .last) came (λ k h. omega (arith, J .rises)) (K .upto)) (J .upto);
   distinct = pairs-append (λ x y. x ≢ y) came came′ (K .distinct) (J .distinct)
       (all-cross (λ k. k ≤ m .counters .last) (λ k. m .counters .last < k) (λ x y. x ≢ y) came came′ (λ x y p q. omega arith) (K .upto) (J .above));
   books = omega (arith, K .books, J .books, length-append came came′);
-  delivers = omega (arith, K .delivers, J .delivers, length-append went went′);
+  delivers = λ k. omega (arith, K .delivers k, J .delivers k, length-append (gone k) (gone′ k));
 }
 
 -- ---- what runs changes only at t, and only by stop and repair (for a round, see round-runs)

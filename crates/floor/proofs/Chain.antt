@@ -9,26 +9,30 @@ use Rattle.floor.specs.declared.Floor.{Floor}
 use Rattle.floor.specs.declared.Answer.{Answer}
 use Rattle.floor.specs.declared.Rounded.{Rounded}
 use Rattle.floor.specs.Calls.{bookAnswer, stopAnswer, repairAnswer, roundAnswer}
-use Rattle.floor.specs.Reports.{listed}
+use Rattle.floor.specs.Reports.{listedAt}
 use Rattle.floor.specs.Demand3.{Call, book, stop, repair, round, outcome, floorAfter, bookedIn, reportedIn, runsBy, latest}
 
 -- the number that a booking's answer accepted
 abbrev pub bookedBy : Canister → Answer → List ℕ
 bookedBy c r = cond (eqb (r .refusal) 0) (c .number ∷ []) []
 
--- the numbers that a round's answer reported delivered
-abbrev pub reportedBy : Rounded → List ℕ
-reportedBy r = listed (r .report)
+-- the numbers that a round's answer reported delivered to hopper k
+abbrev pub reportedBy : Rounded → ℕ → List ℕ
+reportedBy r = listedAt (r .report)
 
--- calls made one after another from f, each answer r by its contract; g is the last floor, bs what was booked and ns what was reported delivered
-pub data Made : Floor → List Call → Floor → List ℕ → List ℕ → Type 0 where
-  none : {f : Floor} → Made f [] f [] []
-  books : {f g : Floor} {cs : List Call} {bs ns : List ℕ} (t : ℕ) (c : Canister) (r : Answer) → r ≡ bookAnswer f t c → Made (r .floor) cs g bs ns → Made f (book t c ∷ cs) g (bookedBy c r ++ bs) ns
-  stops : {f g : Floor} {cs : List Call} {bs ns : List ℕ} (t : ℕ) (r : Answer) → r ≡ stopAnswer f t → Made (r .floor) cs g bs ns → Made f (stop t ∷ cs) g bs ns
-  repairs : {f g : Floor} {cs : List Call} {bs ns : List ℕ} (t : ℕ) (r : Answer) → r ≡ repairAnswer f t → Made (r .floor) cs g bs ns → Made f (repair t ∷ cs) g bs ns
-  rounds : {f g : Floor} {cs : List Call} {bs ns : List ℕ} (r : Rounded) → r ≡ roundAnswer f → Made (r .floor) cs g bs ns → Made f (round ∷ cs) g bs (reportedBy r ++ ns)
+-- and then ns
+abbrev pub joined : Rounded → (ℕ → List ℕ) → ℕ → List ℕ
+joined r ns k = reportedBy r k ++ ns k
 
-pub made-floor : {f g : Floor} {cs : List Call} {bs ns : List ℕ} → Made f cs g bs ns → g ≡ floorAfter f cs
+-- calls made one after another from f, each answer r by its contract; g is the last floor, bs what was booked and ns k what was reported delivered to hopper k
+pub data Made : Floor → List Call → Floor → List ℕ → (ℕ → List ℕ) → Type 0 where
+  none : {f : Floor} → Made f [] f [] (λ _. [])
+  books : {f g : Floor} {cs : List Call} {bs : List ℕ} {ns : ℕ → List ℕ} (t : ℕ) (c : Canister) (r : Answer) → r ≡ bookAnswer f t c → Made (r .floor) cs g bs ns → Made f (book t c ∷ cs) g (bookedBy c r ++ bs) ns
+  stops : {f g : Floor} {cs : List Call} {bs : List ℕ} {ns : ℕ → List ℕ} (t : ℕ) (r : Answer) → r ≡ stopAnswer f t → Made (r .floor) cs g bs ns → Made f (stop t ∷ cs) g bs ns
+  repairs : {f g : Floor} {cs : List Call} {bs : List ℕ} {ns : ℕ → List ℕ} (t : ℕ) (r : Answer) → r ≡ repairAnswer f t → Made (r .floor) cs g bs ns → Made f (repair t ∷ cs) g bs ns
+  rounds : {f g : Floor} {cs : List Call} {bs : List ℕ} {ns : ℕ → List ℕ} (r : Rounded) → r ≡ roundAnswer f → Made (r .floor) cs g bs ns → Made f (round ∷ cs) g bs (joined r ns)
+
+pub made-floor : {f g : Floor} {cs : List Call} {bs : List ℕ} {ns : ℕ → List ℕ} → Made f cs g bs ns → g ≡ floorAfter f cs
 unfolding floorAfter outcome
 made-floor none = refl
 made-floor (books {cs = cs} t c r e p) = made-floor p ∙ ap (λ (x : Answer). floorAfter (x .floor) cs) e
@@ -36,7 +40,7 @@ made-floor (stops {cs = cs} t r e p) = made-floor p ∙ ap (λ (x : Answer). flo
 made-floor (repairs {cs = cs} t r e p) = made-floor p ∙ ap (λ (x : Answer). floorAfter (x .floor) cs) e
 made-floor (rounds {cs = cs} r e p) = made-floor p ∙ ap (λ (x : Rounded). floorAfter (x .floor) cs) e
 
-pub made-booked : {f g : Floor} {cs : List Call} {bs ns : List ℕ} → Made f cs g bs ns → bs ≡ bookedIn f cs
+pub made-booked : {f g : Floor} {cs : List Call} {bs : List ℕ} {ns : ℕ → List ℕ} → Made f cs g bs ns → bs ≡ bookedIn f cs
 unfolding bookedIn outcome
 made-booked none = refl
 made-booked (books {cs = cs} t c r e p) = ap (λ l. bookedBy c r ++ l) (made-booked p) ∙ ap (λ (x : Answer). bookedBy c x ++ bookedIn (x .floor) cs) e
@@ -44,23 +48,23 @@ made-booked (stops {cs = cs} t r e p) = made-booked p ∙ ap (λ (x : Answer). b
 made-booked (repairs {cs = cs} t r e p) = made-booked p ∙ ap (λ (x : Answer). bookedIn (x .floor) cs) e
 made-booked (rounds {cs = cs} r e p) = made-booked p ∙ ap (λ (x : Rounded). bookedIn (x .floor) cs) e
 
-pub made-reported : {f g : Floor} {cs : List Call} {bs ns : List ℕ} → Made f cs g bs ns → ns ≡ reportedIn f cs
+pub made-reported : {f g : Floor} {cs : List Call} {bs : List ℕ} {ns : ℕ → List ℕ} → Made f cs g bs ns → ns ≡ reportedIn f cs
 unfolding reportedIn outcome
 made-reported none = refl
 made-reported (books {cs = cs} t c r e p) = made-reported p ∙ ap (λ (x : Answer). reportedIn (x .floor) cs) e
 made-reported (stops {cs = cs} t r e p) = made-reported p ∙ ap (λ (x : Answer). reportedIn (x .floor) cs) e
 made-reported (repairs {cs = cs} t r e p) = made-reported p ∙ ap (λ (x : Answer). reportedIn (x .floor) cs) e
-made-reported (rounds {cs = cs} r e p) = ap (λ l. reportedBy r ++ l) (made-reported p) ∙ ap (λ (x : Rounded). reportedBy x ++ reportedIn (x .floor) cs) e
+made-reported (rounds {cs = cs} r e p) = ap (joined r) (made-reported p) ∙ ap (λ (x : Rounded). joined x (reportedIn (x .floor) cs)) e
 
 -- whether tile t runs, by the answers to its stops and repairs, where b says whether it ran before
-unfoldable pub runsMade : {f g : Floor} {cs : List Call} {bs ns : List ℕ} → Made f cs g bs ns → ℕ → Bool → Bool
+unfoldable pub runsMade : {f g : Floor} {cs : List Call} {bs : List ℕ} {ns : ℕ → List ℕ} → Made f cs g bs ns → ℕ → Bool → Bool
 runsMade none t b = b
 runsMade (books u c r e p) t b = runsMade p t b
 runsMade (stops u r e p) t b = runsMade p t (cond (eqb (r .refusal) 0 && eqb u t) false b)
 runsMade (repairs u r e p) t b = runsMade p t (cond (eqb (r .refusal) 0 && eqb u t) true b)
 runsMade (rounds r e p) t b = runsMade p t b
 
-pub made-runs : {f g : Floor} {cs : List Call} {bs ns : List ℕ} (m : Made f cs g bs ns) (t : ℕ) (b : Bool) → runsMade m t b ≡ latest f cs t b
+pub made-runs : {f g : Floor} {cs : List Call} {bs : List ℕ} {ns : ℕ → List ℕ} (m : Made f cs g bs ns) (t : ℕ) (b : Bool) → runsMade m t b ≡ latest f cs t b
 unfolding runsMade latest runsBy outcome
 made-runs none t b = refl
 made-runs (books {cs = cs} u c r e p) t b = made-runs p t b ∙ ap (λ (x : Answer). latest (x .floor) cs t b) e

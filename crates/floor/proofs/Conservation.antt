@@ -3,18 +3,20 @@ use mathlib.Core.Path.{_≡_, refl, sym, ap, _∙_, subst}
 use mathlib.Core.Logic.{_⊎_, inl, inr, _≢_}
 use mathlib.Core.Bool.{Bool, true, false, cond}
 use mathlib.Core.List.{List, [], _++_, map, append-nil}
-use mathlib.Core.List.{List·Permᴰ, List·Permᴰ·trans, Permᴰ·symm, Permᴰ·append-right}
-use Prim.Native.Nat.{ℕ, _<_}
+use mathlib.Core.List.{List·Permᴰ, List·Permᴰ·trans, Permᴰ·symm, Permᴰ·append-left, Permᴰ·append-right}
+use Prim.Native.Nat.{ℕ, _≤_, _<_}
 use native.Mathlib.Omega.{arith}
 use native.Mathlib.Decide.{ℕ-discrete, decLe}
 use lib.Dec.{eqb}
+use lib.ListN.{length}
 use borrow.Author.Tests.{eq-eqb, ne-eqb}
-use Rattle.laws.specs.Define.{cat}
+use Rattle.laws.specs.Define.{cat, join}
 use Rattle.laws.specs.Every.{Pairs}
 use Rattle.laws.specs.Lists.{cat-perm, cat-append, cat-swap, cat-empty, cat-one, swap-append, map-append, map-perm, perm-of, cat-pairs, pairs-perm, pairs-unmap}
+use Rattle.laws.specs.SetBits.{cat-bits, cat-places}
 use Rattle.floor.specs.declared.Canister.{Canister}
 use Rattle.floor.specs.declared.Settings.{Settings}
-use Rattle.floor.specs.Settings.{total, isHopper}
+use Rattle.floor.specs.Settings.{total, isHopper, hoppersOf}
 use Rattle.floor.specs.Grid.{neighbour}
 use Rattle.floor.specs.Model.{Model, membersOf, numbers, numbersOn}
 use Rattle.floor.specs.Route.{route}
@@ -24,7 +26,7 @@ use Rattle.floor.specs.Calls.{afterRound, delivered}
 use Rattle.floor.proofs.Sound.{Sound}
 use Rattle.floor.proofs.Grid.{side-pos, opposite-side, neighbour-side, neighbour-none}
 use Rattle.floor.proofs.Borders.{numbers-same, staying-nil}
-use Rattle.floor.proofs.Fields.{wayAt, stays, leaves, comes, round-settings, round-own, round-hopper, delivered-are}
+use Rattle.floor.proofs.Fields.{wayAt, stays, leaves, comes, round-settings, round-own, round-hopper, went, delivered-are, delivered-length}
 use Rattle.floor.proofs.Passing.{Moving, moving, still-or, taking, takes-none, moves-from}
 use Rattle.floor.proofs.Safety.{leaves-still}
 use Rattle.floor.proofs.Insertion.{insert-each-perm}
@@ -110,7 +112,7 @@ module _ (m : Model) (S : Sound m) where
       List·Permᴰ·trans (moved-perm m S (λ _ c. c .number))
       (cat-perm (total (m .settings)) (λ u. numbers (leaves m u) ++ numbers (stays m u)) (λ u. numbers (membersOf m u)) (λ u _. own-numbers u))
 
-  -- tile by tile: the hopper's go out, the others stay
+  -- tile by tile: a hopper's go out, the others stay
   out : ℕ → List ℕ
   out t = cond (isHopper (m .settings) t) (numbers (comes m t)) []
 
@@ -131,22 +133,24 @@ module _ (m : Model) (S : Sound m) where
           (subst (λ (x : List ℕ). List·Permᴰ (numbers (comes m t ++ stays m t)) x) (sym (append-nil (numbers (insertEach (comes m t) (stays m t)))))
           (map-perm (λ c. c .number) (Permᴰ·symm (insert-each-perm (comes m t) (stays m t)))))
 
-  out-all : cat (total (m .settings)) out ≡ delivered m
-  unfolding out isHopper
+  out-all : List·Permᴰ (cat (total (m .settings)) out) (cat 4 (went m))
+  unfolding out isHopper hoppersOf
   out-all =
-      cat-one (total (m .settings)) out (m .settings .hopper) (S .measured .hopper-on) (λ t _ n. rw (ne-eqb t (m .settings .hopper) n))
-      ∙ rw (eq-eqb (m .settings .hopper) (m .settings .hopper) refl) (sym (delivered-are m (S .len)))
+      let few : length (delivered m) ≤ 4 = omega (arith, delivered-length m (S .len), S .measured .hoppers-few) in
+      List·Permᴰ·trans (cat-bits (m .settings .hoppers) (total (m .settings)) (λ t. numbers (comes m t)))
+      (List·Permᴰ·trans (perm-of (ap join (sym (delivered-are m (S .len))))) (Permᴰ·symm (cat-places 4 (delivered m) few)))
 
   -- Each number once: those on the floor after the round with those delivered are those before, in some order.
-  pub round-numbers : List·Permᴰ (numbersOn (afterRound m) ++ delivered m) (numbersOn m)
+  pub round-numbers : List·Permᴰ (numbersOn (afterRound m) ++ cat 4 (went m)) (numbersOn m)
   unfolding numbersOn
   round-numbers =
       let C = total (m .settings) in
       let new : ℕ → List ℕ = λ t. numbers (membersOf (afterRound m) t) in
       let here : numbersOn (afterRound m) ≡ cat C new = ap (λ (s : Settings). cat (total s) new) (round-settings m) in
-      List·Permᴰ·trans (perm-of (ap (λ (x : List ℕ). x ++ delivered m) here ∙ ap (λ (x : List ℕ). cat C new ++ x) (sym out-all)))
+      List·Permᴰ·trans (perm-of (ap (λ (x : List ℕ). x ++ cat 4 (went m)) here))
+      (List·Permᴰ·trans (Permᴰ·append-left (cat C new) (Permᴰ·symm out-all))
       (List·Permᴰ·trans (Permᴰ·symm (cat-append C new out))
-      (List·Permᴰ·trans (Permᴰ·symm (cat-perm C (λ t. numbers (comes m t ++ stays m t)) (λ t. new t ++ out t) split)) moved-numbers))
+      (List·Permᴰ·trans (Permᴰ·symm (cat-perm C (λ t. numbers (comes m t ++ stays m t)) (λ t. new t ++ out t) split)) moved-numbers)))
 
   -- the numbers of one tile differ after the move
   pub moved-differ : (t : ℕ) → t < total (m .settings) → Pairs (λ (x y : Canister). x .number ≢ y .number) (comes m t ++ stays m t)

@@ -1,24 +1,29 @@
--- What a round delivers: rising numbers, never more than four.
+-- What a round delivers to a hopper: rising numbers, never more than four.
 use mathlib.Core.Path.{_≡_, sym, ap, subst}
 use mathlib.Core.Logic.{_⊎_, inl, inr, _≢_}
-use mathlib.Core.List.{List, [], List·Memᴰ}
-use Prim.Native.Nat.{ℕ, _/_, _≤_, _<_}
+use mathlib.Core.List.{List, [], _∷_, map, List·Memᴰ}
+use Prim.Native.Nat.{ℕ, zero, suc, _/_, _≤_, _<_}
 use native.Mathlib.Omega.{arith}
-use lib.ListN.{length, length-map}
+use lib.ListN.{length, getD, length-map}
 use Rattle.laws.specs.Every.{All, Pairs}
-use Rattle.laws.specs.Lists.{all-of, all-both, pairs-map}
+use Rattle.laws.specs.Lists.{all-of, all-map, all-both, pairs-map}
 use Rattle.floor.specs.declared.Canister.{Canister}
 use Rattle.floor.specs.declared.Settings.{Settings}
 use Rattle.floor.specs.Sides.{sides}
-use Rattle.floor.specs.Settings.{spacing}
-use Rattle.floor.specs.Model.{Model}
-use Rattle.floor.specs.Calls.{delivered}
+use Rattle.floor.specs.Settings.{spacing, hoppersOf}
+use Rattle.floor.specs.Model.{Model, numbers}
 use Rattle.floor.proofs.Sound.{Measured, Inside, Apart, Sound}
 use Rattle.floor.proofs.Capacity.{few-cells, spacing-pos, apart-div, within-div}
 use Rattle.floor.proofs.Geometry.{room, across, across-le, Along, apart-along}
-use Rattle.floor.proofs.Fields.{comes, delivered-are}
+use Rattle.floor.proofs.Fields.{comes, went, delivered-are}
 use Rattle.floor.proofs.Passing.{Taking, idle-or}
 use Rattle.floor.proofs.Safety.{comes-inside, comes-apart, comes-rising, comes-room}
+
+-- what holds of every element, and of what is read beyond them
+all-get : {A : Type 0} (P : A → Type 0) (l : List A) (z : A) → P z → All P l → (k : ℕ) → P (getD l k z)
+all-get P [] z p h k = p
+all-get P (x ∷ l) z p h zero = h .0
+all-get P (x ∷ l) z p h (suc k) = all-get P l z p (h .1) k
 
 -- ---- along one border of a tile there is place for four
 module _ (s : Settings) (g : Measured s) {k : ℕ} (mk : List·Memᴰ k sides) where
@@ -51,13 +56,19 @@ module _ (m : Model) (S : Sound m) where
       go (inl e) = omega (arith, ap length e)
       go (inr K) = border-few (m .settings) (S .measured) (K .grant .wanting .side) (comes m t) (comes-inside m S t) (comes-room m S t K) (comes-apart m S t)
 
-  pub delivered-few : length (delivered m) ≤ 4
-  delivered-few =
-      let h = m .settings .hopper in
-      omega (arith, ap (λ (l : List ℕ). length l) (delivered-are m (S .len)), length-map (comes m h) (λ (c : Canister). c .number), comes-few h)
+  -- what holds of what comes to any tile holds of what is delivered to any hopper
+  each-went : (P : List ℕ → Type 0) → P [] → ((t : ℕ) → P (numbers (comes m t))) → (k : ℕ) → P (went m k)
+  each-went P none some k =
+      subst (λ (l : List (List ℕ)). P (getD l k [])) (sym (delivered-are m (S .len)))
+      (all-get P (map (λ h. numbers (comes m h)) hs) [] none (all-map P (λ h. numbers (comes m h)) hs (all-of (λ h. P (numbers (comes m h))) hs (λ h _. some h))) k)
+    where
+      hs : List ℕ
+      hs = hoppersOf (m .settings)
 
-  pub delivered-rising : Pairs (λ x y. x < y) (delivered m)
-  delivered-rising =
-      let l = comes m (m .settings .hopper) in
-      subst (Pairs (λ x y. x < y)) (sym (delivered-are m (S .len)))
-      (pairs-map (λ _. Unit {0}) (λ c e. c .number < e .number) (λ x y. x < y) (λ c. c .number) l (λ x y _ _ h. h) (all-of (λ _. Unit {0}) l (λ _ _. tt)) (comes-rising m S (m .settings .hopper)))
+  -- to each hopper
+  pub delivered-few : (k : ℕ) → length (went m k) ≤ 4
+  delivered-few = each-went (λ l. length l ≤ 4) (omega arith) (λ t. omega (arith, length-map (comes m t) (λ (c : Canister). c .number), comes-few t))
+
+  pub delivered-rising : (k : ℕ) → Pairs (λ x y. x < y) (went m k)
+  delivered-rising = each-went (Pairs (λ x y. x < y)) tt
+      (λ t. pairs-map (λ _. Unit {0}) (λ c e. c .number < e .number) (λ x y. x < y) (λ c. c .number) (comes m t) (λ x y _ _ h. h) (all-of (λ _. Unit {0}) (comes m t) (λ _ _. tt)) (comes-rising m S t))

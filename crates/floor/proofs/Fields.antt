@@ -1,22 +1,23 @@
 -- What a round leaves in each field of each tile.
-use mathlib.Core.Path.{_≡_, refl, sym, ap, _∙_, subst}
+use mathlib.Core.Path.{_≡_, refl, sym, ap, _∙_, subst, fun-ext}
 use mathlib.Core.Bool.{Bool, true, false, cond}
-use mathlib.Core.List.{List, []}
-use Prim.Native.Nat.{ℕ, suc, _+_, _<_}
+use mathlib.Core.List.{List, [], map}
+use Prim.Native.Nat.{ℕ, suc, _+_, _≤_, _<_}
 use native.Mathlib.Omega.{arith}
 use native.Mathlib.Decide.{decLe}
-use lib.ListN.{length}
+use lib.ListN.{length, getD, length-map, List·getD-eq-default}
 use lib.Dec.{eqb}
+use Rattle.laws.specs.Define.{tab}
 use Rattle.laws.specs.Tests.{not-both}
-use Rattle.laws.specs.Tables.{tab-length, tab-at}
+use Rattle.laws.specs.Tables.{tab-length, tab-at, tab-off}
 use Rattle.floor.specs.declared.Canister.{Canister}
 use Rattle.floor.specs.declared.Settings.{Settings}
-use Rattle.floor.specs.Settings.{total, isHopper}
+use Rattle.floor.specs.Settings.{total, isHopper, hoppersOf}
 use Rattle.floor.specs.Grid.{neighbour}
 use Rattle.floor.specs.Model.{TileState, Model, noTile, tileOf, runs, runsOf, distanceOf, nextOf, tokenOf, membersOf, numbers}
 use Rattle.floor.specs.Route.{route}
 use Rattle.floor.specs.Signal.{signalTile, signalOf, grantOf, withToken, signal}
-use Rattle.floor.specs.Move.{wayOf, staying, leaving, insertEach, membersNext, arrivals, moveTile, deliveredBy, move}
+use Rattle.floor.specs.Move.{wayOf, staying, leaving, insertEach, membersNext, arrivals, moveTile, deliveredBy, raised, move}
 use Rattle.floor.specs.Calls.{afterRound, delivered}
 use Rattle.floor.proofs.Tables.{Whole, off-floor, table-each}
 use Rattle.floor.proofs.Nearest.{route-whole, route-running, route-members}
@@ -75,16 +76,33 @@ unfolding afterRound move
 round-whole m = tab-length (total (signal (route m) .settings)) (moveTile (signal (route m)) (grantOf (route m)))
 
 pub round-last : (m : Model) → afterRound m .counters .last ≡ m .counters .last
-unfolding afterRound move signal route
+unfolding afterRound move raised signal route
 round-last m = refl
 
 pub round-booked : (m : Model) → afterRound m .counters .booked ≡ m .counters .booked
-unfolding afterRound move signal route
+unfolding afterRound move raised signal route
 round-booked m = refl
 
-pub round-delivered : (m : Model) → afterRound m .counters .delivered ≡ m .counters .delivered + length (delivered m)
-unfolding afterRound delivered move signal route
+-- the numbers delivered to hopper k
+abbrev pub went : Model → ℕ → List ℕ
+went m k = getD (delivered m) k []
+
+pub round-delivered : (m : Model) → afterRound m .counters .delivered ≡ tab 4 (λ k. getD (m .counters .delivered) k 0 + length (went m k))
+unfolding afterRound delivered move raised signal route
 round-delivered m = refl
+
+-- counter by counter
+pub round-counter : (m : Model) → length (m .counters .delivered) ≡ 4 → length (delivered m) ≤ 4 → (k : ℕ) → getD (afterRound m .counters .delivered) k 0 ≡ getD (m .counters .delivered) k 0 + length (went m k)
+round-counter m e f k = ap (λ (l : List ℕ). getD l k 0) (round-delivered m) ∙ go (decLe (suc k) 4)
+  where
+    go : Dec (k < 4) → getD (tab 4 (λ k. getD (m .counters .delivered) k 0 + length (went m k))) k 0 ≡ getD (m .counters .delivered) k 0 + length (went m k)
+    go (yes h) = tab-at 4 (λ k. getD (m .counters .delivered) k 0 + length (went m k)) k 0 h
+    go (no h) =
+        let q : 4 ≤ k = omega arith in
+        let old : getD (m .counters .delivered) k 0 ≡ 0 = List·getD-eq-default (m .counters .delivered) 0 (omega (arith, e)) in
+        let new : went m k ≡ [] = List·getD-eq-default (delivered m) [] (omega arith) in
+        tab-off 4 (λ k. getD (m .counters .delivered) k 0 + length (went m k)) k 0 q
+        ∙ omega (arith, ap (λ (l : List ℕ). length l) new)
 
 module _ (m : Model) (w : Whole m) where
   abbrev x : Model
@@ -161,7 +179,10 @@ module _ (m : Model) (w : Whole m) where
   pub round-hopper : (t : ℕ) → isHopper (m .settings) t ≡ true → membersOf (afterRound m) t ≡ []
   round-hopper = round-members (λ t l. isHopper (m .settings) t ≡ true → l ≡ []) (λ t _. refl) (λ t _ n h. not-both h n)
 
-  -- what is delivered is what comes to the hopper
-  pub delivered-are : delivered m ≡ numbers (comes m (m .settings .hopper))
+  -- what is delivered is what comes to the hoppers
+  pub delivered-are : delivered m ≡ map (λ h. numbers (comes m h)) (hoppersOf (m .settings))
   unfolding delivered deliveredBy signal route
-  delivered-are = ap (λ (l : List Canister). numbers l) (comes-are (m .settings .hopper))
+  delivered-are = ap (λ (f : ℕ → List ℕ). map f (hoppersOf (m .settings))) (fun-ext (λ h. ap (λ (l : List Canister). numbers l) (comes-are h)))
+
+  pub delivered-length : length (delivered m) ≡ length (hoppersOf (m .settings))
+  delivered-length = ap (λ (l : List (List ℕ)). length l) delivered-are ∙ length-map (hoppersOf (m .settings)) (λ h. numbers (comes m h))

@@ -7,10 +7,10 @@ use Prim.Native.Nat.{ℕ, zero, suc, _/_, _%_, _^_, _≤_, _<_}
 use native.Mathlib.Omega.{arith}
 use native.Mathlib.Nat.{lt-of-lt-of-le}
 use native.Mathlib.Decide.{decLe}
-use lib.ListN.{length, getD, List·getD-eq-default}
+use lib.ListN.{length, getD, replicate, List·getD-eq-default}
 use lib.Pow.{pow-mono}
 use borrow.Author.Tests.{eq-eqb, ne-eqb, lt-leb}
-use Rattle.laws.specs.Define.{refusal, allOf, bit}
+use Rattle.laws.specs.Define.{refusal, allOf, sum, bit}
 use Rattle.laws.specs.Every.{All}
 use Rattle.laws.specs.Tables.{tab-length, tab-at, tab-off}
 use Rattle.laws.specs.Lists.{all-both, all-imp, all-unmap, cat-all, cat-empty}
@@ -54,7 +54,7 @@ fresh-tile s M t = ((own, (inl refl, inl refl)), (tt, tt))
     }
 
 pub fresh-sound : (s : Settings) → Measured s → Sound (freshFloor s)
-unfolding freshFloor freshTile numbersOn
+unfolding freshFloor freshTile numbersOn sum
 fresh-sound s M = sound-of (freshFloor s) M (tab-length (total s) (freshTile s)) (λ t l. subst (SoundTile s t) (sym (tile t l)) (fresh-tile s M t)) counted
   where
     tile : (t : ℕ) → t < total s → tileOf (freshFloor s) t ≡ freshTile s t
@@ -63,8 +63,15 @@ fresh-sound s M = sound-of (freshFloor s) M (tab-length (total s) (freshTile s))
     none : numbersOn (freshFloor s) ≡ []
     none = cat-empty (total s) (λ t. numbers (membersOf (freshFloor s) t)) (λ t l. ap (λ (x : TileState). numbers (x .members)) (tile t l))
 
+    zeros : (k : ℕ) → _≡_ {A = ℕ} (getD (replicate 4 0) k 0) 0
+    zeros zero = refl
+    zeros (suc zero) = refl
+    zeros (suc (suc zero)) = refl
+    zeros (suc (suc (suc zero))) = refl
+    zeros (suc (suc (suc (suc k)))) = refl
+
     counted : Counted (freshFloor s)
-    counted = rw none ((tt, tt), omega arith)
+    counted = rw none ((tt, tt), (refl, (λ k _. zeros k, omega arith)))
 
 pub fresh-well : (s : Settings) → settingsRefusal s ≡ 0 → wellFormed (freshAnswer s .floor) ≡ true
 unfolding freshAnswer settingsPass
@@ -96,15 +103,22 @@ pub record Widths (f : Floor) : Type 0 where
   pub count-fits : (t : ℕ) → headOf f t .count < 256
   pub last-fits : f .counters .last < 2 ^ 32
   pub booked-fits : f .counters .booked < 2 ^ 32
-  pub delivered-fits : f .counters .delivered < 2 ^ 32
+  pub delivered-fits : (k : ℕ) → getD (f .counters .delivered) k 0 < 2 ^ 32
   pub columns-fits : f .settings .columns < 256
   pub rows-fits : f .settings .rows < 256
-  pub hopper-fits : f .settings .hopper < 256
+  pub hoppers-fits : f .settings .hoppers < 2 ^ 64
   pub sources-fits : f .settings .sources < 2 ^ 64
   pub width-fits : f .settings .width < 2 ^ 16
   pub length-fits : f .settings .length < 2 ^ 16
   pub gap-fits : f .settings .gap < 2 ^ 16
   pub travel-fits : f .settings .travel < 2 ^ 16
+
+-- one counter is at most the sum
+pub part-le : (l : List ℕ) (k : ℕ) → getD l k 0 ≤ sum l
+unfolding sum
+part-le [] k = omega arith
+part-le (x ∷ l) zero = omega arith
+part-le (x ∷ l) (suc k) = omega (arith, part-le l k)
 
 all-get : {A : Type 0} (P : A → Type 0) (l : List A) (z : A) → P z → All P l → (k : ℕ) → P (getD l k z)
 all-get P [] z p h k = p
@@ -193,10 +207,10 @@ module _ (f : Floor) (w : wellFormed f ≡ true) where
         count-fits = λ t. narrow t .1 .1 .1 .1;
         last-fits = S .last-fits;
         booked-fits = omega (arith, S .last-fits, S .booked-last);
-        delivered-fits = omega (arith, S .last-fits, S .booked-last, S .counted);
+        delivered-fits = λ k. omega (arith, S .last-fits, S .booked-last, S .counted, part-le (f .counters .delivered) k);
         columns-fits = omega (arith, M .columns-few);
         rows-fits = omega (arith, M .rows-few);
-        hopper-fits = omega (arith, M .hopper-on, M .few);
+        hoppers-fits = lt-of-lt-of-le (M .hoppers-on) (pow-mono (M .few));
         sources-fits = lt-of-lt-of-le (M .sources-on) (pow-mono (M .few));
         width-fits = omega (arith, M .narrow);
         length-fits = omega (arith, M .narrow, M .short);

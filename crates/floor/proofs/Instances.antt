@@ -6,7 +6,7 @@ use mathlib.Core.List.{List, [], _∷_, _++_, map, List·Memᴰ, List·Memᴰ·h
 use Prim.Native.Nat.{ℕ, zero, suc, _-_, _^_, _≤_, _<_}
 use native.Mathlib.Omega.{arith}
 use lib.Dec.{leb, eqb}
-use lib.ListN.{take, replicate}
+use lib.ListN.{length, take, replicate}
 use borrow.Author.Tests.{leb-true, eqb-false}
 use Rattle.laws.specs.Define.{allOf}
 use Rattle.laws.specs.Every.{All}
@@ -21,6 +21,7 @@ use Rattle.floor.specs.Well.{wellFormed}
 use Rattle.floor.specs.Calls.{freshAnswer}
 use Rattle.floor.specs.Bound.{bound}
 use Rattle.floor.specs.Live.{connected, connectedCount}
+use Rattle.floor.specs.Reports.{listedAt}
 use Rattle.floor.specs.Demand3.{Call, book, stop, repair, round, Typed, outcome, floorAfter, bookedIn, reportedIn, runsBy, latest, runsAfter, isRound, Quiet, roundsIn, Promises, Demand3}
 use Rattle.floor.specs.Together.{stops, repairs, Exchangeable, presses, booking, reportTo, saidIn, BothBooked}
 use Rattle.floor.specs.Fairness.{wants, Waiting, granted, grantsIn, Fair, grantCount, turnOf}
@@ -107,9 +108,9 @@ further = book 0 (can 7 70 0) ∷ round ∷ stop 1 ∷ round ∷ repair 0 ∷ ro
 unfoldable history : Table
 history =
     let cut = runsAfter swift (take 4 mixed) in
-    (counted swift, 0 ∷ 5 ∷ 2 ∷ 1 ∷ [])
+    (counted swift, 0 ∷ 5 ∷ 2 ∷ 1 ∷ 0 ∷ 0 ∷ 0 ∷ [])
     ∷ (bookedIn swift mixed, (2 ^ 32 - 1) ∷ [])
-    ∷ (reportedIn swift (mixed ++ further), 5 ∷ (2 ^ 32 - 1) ∷ [])
+    ∷ (reportedIn swift (mixed ++ further) 0, 5 ∷ (2 ^ 32 - 1) ∷ [])
     ∷ (answers swift (mixed ++ further), 0 ∷ 0 ∷ 31 ∷ 0 ∷ 0 ∷ 0 ∷ 8 ∷ 33 ∷ 33 ∷ 0 ∷ 8 ∷ 0 ∷ 32 ∷ replicate 5 0)
     -- tile 0 is stopped by the second call and runs again by the fifth; the hopper runs; tile 2 isn't there
     ∷ (map bitOf (cut 0 ∷ cut 1 ∷ cut 2 ∷ runsAfter swift mixed 0 ∷ []), 0 ∷ 1 ∷ 0 ∷ 1 ∷ [])
@@ -151,7 +152,7 @@ unfoldable heard : Table
 heard =
     let calls = book 0 (can 6 0 0) ∷ rounds 4 in
     (map (λ x. x .0) (saidIn one calls), 34 ∷ replicate 4 0)
-    ∷ (map (λ x. x .1 .count) (saidIn one calls), 0 ∷ 0 ∷ 0 ∷ 0 ∷ 1 ∷ [])
+    ∷ (map (λ x. length (listedAt (x .1) 0)) (saidIn one calls), 0 ∷ 0 ∷ 0 ∷ 0 ∷ 1 ∷ [])
     ∷ []
 
 heard-all : holds heard ≡ true

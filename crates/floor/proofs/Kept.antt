@@ -1,28 +1,31 @@
 -- A round keeps a floor sound.
-use mathlib.Core.Path.{_≡_, sym, ap, _∙_, subst}
+use mathlib.Core.Path.{_≡_, refl, sym, ap, _∙_, subst}
 use mathlib.Core.Logic.{_⊎_, inl, inr, _↔_, _≢_}
 use mathlib.Core.Bool.{true, false}
-use mathlib.Core.List.{Permᴰ·symm}
-use Prim.Native.Nat.{ℕ, suc, _≤_, _<_}
+use mathlib.Core.List.{List, [], Permᴰ·symm}
+use Prim.Native.Nat.{ℕ, suc, _+_, _≤_, _<_}
 use native.Mathlib.Omega.{arith}
 use native.Mathlib.Decide.{decLe}
-use lib.ListN.{length, length-append}
+use lib.ListN.{length, getD, length-append, List·getD-eq-default}
+use Rattle.laws.specs.Define.{cat, sum}
 use Rattle.laws.specs.Every.{All, Pairs}
 use Rattle.laws.specs.Tests.{by-test}
+use Rattle.laws.specs.Tables.{tab-length, filled}
+use Rattle.laws.specs.SetBits.{cat-length, sum-tab-add}
 use Rattle.laws.specs.Lists.{all-perm, all-left, pairs-perm, pairs-left, length-perm}
-use Rattle.floor.specs.Settings.{total, spacing, isHopper}
+use Rattle.floor.specs.Settings.{total, spacing, isHopper, hoppersOf}
 use Rattle.floor.specs.Grid.{neighbour}
 use Rattle.floor.specs.Model.{TileState, Model, runsOf, distanceOf, nextOf, membersOf, numbersOn}
 use Rattle.floor.specs.Route.{route}
 use Rattle.floor.specs.Signal.{signal, signalOf}
-use Rattle.floor.specs.Move.{move}
+use Rattle.floor.specs.Move.{raised, move}
 use Rattle.floor.specs.Calls.{afterRound, delivered}
 use Rattle.floor.proofs.Sound.{Inside, Apart, Faces, Sound}
 use Rattle.floor.proofs.Tables.{off-floor, run-on}
 use Rattle.floor.proofs.Routing.{Formed, Routed, routed-form, arrow-iff}
 use Rattle.floor.proofs.Nearest.{graphOf, route-routed, laid, formed}
 use Rattle.floor.proofs.Geometry.{apart-sym}
-use Rattle.floor.proofs.Fields.{stays, comes, round-whole, round-delivered, round-running, round-runs, round-distance, round-next, round-token, round-members, round-hopper}
+use Rattle.floor.proofs.Fields.{stays, comes, round-whole, went, round-delivered, round-counter, delivered-length, round-running, round-runs, round-distance, round-next, round-token, round-members, round-hopper}
 use Rattle.floor.proofs.Passing.{token-wants, token-still, arrow-at}
 use Rattle.floor.proofs.Insertion.{insert-each-perm, insert-each-rising}
 use Rattle.floor.proofs.Safety.{stays-rising, safe-inside, safe-apart}
@@ -67,8 +70,22 @@ module _ (m : Model) (S : Sound m) where
       go (yes h) (inl r) = inr (full-on (neighbour (m .settings) (signalOf (route m) t .token) t) (token-wants m (S .len) t r h .full))
       go (yes h) (inr r) = absurd (omega (arith, stop-turn t r))
 
+  few : length (delivered m) ≤ 4
+  few = omega (arith, delivered-length m (S .len), S .measured .hoppers-few)
+
+  new-spare : (k : ℕ) → length (hoppersOf (m .settings)) ≤ k → getD (afterRound m .counters .delivered) k 0 ≡ 0
+  new-spare k h =
+      let no : went m k ≡ [] = List·getD-eq-default (delivered m) [] (omega (arith, delivered-length m (S .len))) in
+      round-counter m (S .four) few k ∙ omega (arith, S .spare k h, ap (λ (l : List ℕ). length l) no)
+
+  total-delivered : sum (afterRound m .counters .delivered) ≡ sum (m .counters .delivered) + length (cat 4 (went m))
+  total-delivered =
+      let old : ℕ → ℕ = λ k. getD (m .counters .delivered) k 0 in
+      ap sum (round-delivered m) ∙ sum-tab-add 4 old (λ k. length (went m k))
+      ∙ omega (arith, ap sum (filled 4 old 0 (m .counters .delivered) (S .four) (λ i h. refl)), cat-length 4 (went m))
+
   pub round-sound : Sound (afterRound m)
-  unfolding afterRound move signal route
+  unfolding afterRound move raised signal route
   round-sound =
       let w = S .len in
       let F = new-form in
@@ -97,10 +114,12 @@ module _ (m : Model) (S : Sound m) where
         spaced = round-members m w (λ _. Pairs (Apart (spacing (m .settings)))) (λ _. tt)
             (λ t _ _. pairs-perm (Apart (spacing (m .settings))) (apart-sym (spacing (m .settings))) (Permᴰ·symm (insert-each-perm (comes m t) (stays m t))) (safe-apart m S t));
         rising = round-members m w (λ _. Pairs (λ c e. c .number < e .number)) (λ _. tt) (λ t h _. insert-each-rising (comes m t) (stays m t) (stays-rising m S t) (moved-differ m S t h));
-        positive = all-left (λ n. 0 < n) N (delivered m) (all-perm (λ n. 0 < n) out (S .positive));
-        below = all-left (λ n. n ≤ m .counters .last) N (delivered m) (all-perm (λ n. n ≤ m .counters .last) out (S .below));
-        unique = pairs-left (λ x y. x ≢ y) N (delivered m) (pairs-perm (λ x y. x ≢ y) (λ x y n e. n (sym e)) out (S .unique));
-        counted = omega (arith, S .counted, round-delivered m, length-perm (round-numbers m S), length-append N (delivered m));
+        positive = all-left (λ n. 0 < n) N (cat 4 (went m)) (all-perm (λ n. 0 < n) out (S .positive));
+        below = all-left (λ n. n ≤ m .counters .last) N (cat 4 (went m)) (all-perm (λ n. n ≤ m .counters .last) out (S .below));
+        unique = pairs-left (λ x y. x ≢ y) N (cat 4 (went m)) (pairs-perm (λ x y. x ≢ y) (λ x y n e. n (sym e)) out (S .unique));
+        four = ap (λ (l : List ℕ). length l) (round-delivered m) ∙ tab-length 4 (λ k. getD (m .counters .delivered) k 0 + length (went m k));
+        spare = new-spare;
+        counted = omega (arith, S .counted, total-delivered, length-perm (round-numbers m S), length-append N (cat 4 (went m)));
         booked-last = S .booked-last;
         last-fits = S .last-fits;
       }

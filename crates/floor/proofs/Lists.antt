@@ -1,33 +1,38 @@
 -- Lists of calls on floors in memory: what each call and each list keeps.
-use mathlib.Core.Path.{_≡_, refl, sym, ap, _∙_, subst}
+use mathlib.Core.Path.{_≡_, refl, sym, ap, _∙_, subst, fun-ext}
 use mathlib.Core.Logic.{_≢_}
 use mathlib.Core.Bool.{Bool, true, false, cond, not, _&&_, true≢false, false≢true}
 use mathlib.Core.List.{List, [], _∷_}
 use Prim.Native.Nat.{ℕ, suc, _+_, _≤_, _<_}
 use native.Mathlib.Omega.{arith}
+use native.Mathlib.Decide.{decLe}
 use lib.Dec.{eqb}
-use lib.ListN.{length, getD, take}
+use lib.ListN.{length, getD, take, List·getD-eq-default}
 use borrow.Author.Tests.{eqb-true, ne-eqb}
 use Rattle.laws.specs.Define.{tab, refusal}
 use Rattle.laws.specs.Every.{All}
 use Rattle.laws.specs.Tests.{refusal-none, test-none}
+use Rattle.laws.specs.Tables.{tab-at, tab-off}
+use Rattle.floor.specs.declared.Delivery.{Delivery}
 use Rattle.floor.specs.declared.Floor.{Floor}
+use Rattle.floor.specs.declared.Report.{Report}
 use Rattle.floor.specs.Model.{Model, tileOf, runsOf, withTile}
 use Rattle.floor.specs.Memory.{view, pack}
 use Rattle.floor.specs.Well.{wellFormed}
-use Rattle.floor.specs.Calls.{refusalOf, answer, bookTests, booked, bookAnswer, stopTests, stopped, stopAnswer, repairTests, repaired, repairAnswer, afterRound, delivered, reportOf, roundAnswer}
+use Rattle.floor.specs.Calls.{refusalOf, answer, bookTests, booked, bookAnswer, stopTests, stopped, stopAnswer, repairTests, repaired, repairAnswer, afterRound, delivered, deliveryOf, noDelivery, reportOf, roundAnswer}
+use Rattle.floor.specs.Reports.{listed, listedAt}
 use Rattle.floor.specs.Demand3.{Call, book, stop, repair, round, Typed, outcome, floorAfter, bookedIn, reportedIn, runsBy, latest, isRound, Quiet, roundsIn}
 use Rattle.floor.proofs.Sound.{Sound}
 use Rattle.floor.proofs.Pack.{well-sound}
 use Rattle.floor.proofs.Capacity.{sound-well, view-packed}
 use Rattle.floor.proofs.Deliveries.{delivered-few}
-use Rattle.floor.proofs.Fields.{round-runs}
+use Rattle.floor.proofs.Fields.{went, delivered-length, round-runs}
 use Rattle.floor.proofs.Clearing.{rounds}
-use Rattle.floor.proofs.Calls.{Keeps, Accepted, book-keeps, stop-keeps, repair-keeps, round-keeps, same-floor, keeps-join, book-runs, stop-runs, repair-runs}
+use Rattle.floor.proofs.Calls.{Keeps, none, Accepted, book-keeps, stop-keeps, repair-keeps, round-keeps, same-floor, keeps-join, book-runs, stop-runs, repair-runs}
 
 -- from f to g, with the numbers that came and went
-abbrev pub KeepsWell : Floor → Floor → List ℕ → List ℕ → Type 0
-KeepsWell f g came went = (wellFormed g ≡ true) × Keeps (view f) (view g) came went
+abbrev pub KeepsWell : Floor → Floor → List ℕ → (ℕ → List ℕ) → Type 0
+KeepsWell f g came gone = (wellFormed g ≡ true) × Keeps (view f) (view g) came gone
 
 -- the first `count` of the report's four numbers are all that were delivered
 pub listed-all : (l : List ℕ) → length l ≤ 4 → take (length l) (tab 4 (λ k. getD l k 0)) ≡ l
@@ -39,15 +44,30 @@ listed-all (a ∷ b ∷ c ∷ []) h = refl
 listed-all (a ∷ b ∷ c ∷ d ∷ []) h = refl
 listed-all (a ∷ b ∷ c ∷ d ∷ e ∷ l) h = absurd (omega arith)
 
+-- each hopper's part of the report, beyond the last one too
+pub report-at : (m : Model) → Sound m → (k : ℕ) → getD (reportOf m .deliveries) k noDelivery ≡ deliveryOf (went m k)
+unfolding reportOf deliveryOf tab
+report-at m S k = go (decLe (suc k) 4)
+  where
+    each : ℕ → Delivery
+    each k = deliveryOf (went m k)
+
+    go : Dec (k < 4) → getD (tab 4 each) k noDelivery ≡ each k
+    go (yes h) = tab-at 4 each k noDelivery h
+    go (no h) =
+        let q : 4 ≤ k = omega arith in
+        tab-off 4 each k noDelivery q
+        ∙ sym (ap deliveryOf (List·getD-eq-default (delivered m) [] (omega (arith, delivered-length m (S .len), S .measured .hoppers-few))))
+
 module _ (f : Floor) (w : wellFormed f ≡ true) where
   S : Sound (view f)
   S = well-sound f w
 
-  unchanged : KeepsWell f f [] []
+  unchanged : KeepsWell f f [] none
   unchanged = (w, same-floor (view f) S)
 
-  packed : (n : Model) (came went : List ℕ) → Keeps (view f) n came went → KeepsWell f (pack n) came went
-  packed n came went K = (sound-well n (K .well), subst (λ (x : Model). Keeps (view f) x came went) (sym (view-packed n (K .well))) K)
+  packed : (n : Model) (came : List ℕ) (gone : ℕ → List ℕ) → Keeps (view f) n came gone → KeepsWell f (pack n) came gone
+  packed n came gone K = (sound-well n (K .well), subst (λ (x : Model). Keeps (view f) x came gone) (sym (view-packed n (K .well))) K)
 
   -- the answer of a call with tests: accepted or not
   module _ (tests : List (Bool × ℕ)) (pos : All (λ x. 0 < x .1) tests) where
@@ -62,10 +82,10 @@ module _ (f : Floor) (w : wellFormed f ≡ true) where
         go true e = yes′ (passed e)
         go false e = no′
 
-    answer-keeps : (n : Model) (came : Bool → List ℕ) → came false ≡ [] → (Accepted tests → Keeps (view f) n (came true) [])
-        → KeepsWell f (cond (eqb (refusalOf f tests) 0) (pack n) f) (came (eqb (refusalOf f tests) 0)) []
+    answer-keeps : (n : Model) (came : Bool → List ℕ) → came false ≡ [] → (Accepted tests → Keeps (view f) n (came true) none)
+        → KeepsWell f (cond (eqb (refusalOf f tests) 0) (pack n) f) (came (eqb (refusalOf f tests) 0)) none
     answer-keeps n came e K =
-        by-answer (λ b. KeepsWell f (cond b (pack n) f) (came b) []) (λ T. packed n (came true) [] (K T)) (subst (λ (l : List ℕ). KeepsWell f f l []) (sym e) unchanged)
+        by-answer (λ b. KeepsWell f (cond b (pack n) f) (came b) none) (λ T. packed n (came true) none (K T)) (subst (λ (l : List ℕ). KeepsWell f f l none) (sym e) unchanged)
 
     -- how a tile runs after it; `same` tells whether the call named that tile
     answer-runs : (n : Model) (t : ℕ) (same r : Bool) → Sound (view f) → (Accepted tests → Sound n) → (Accepted tests → runsOf n t ≡ cond same r (runsOf (view f) t))
@@ -87,9 +107,12 @@ module _ (f : Floor) (w : wellFormed f ≡ true) where
   unfolding roundAnswer
   round-report = rw round-accepted
 
-  pub round-reported : outcome f round .reported ≡ delivered (view f)
-  unfolding outcome roundAnswer reportOf
-  round-reported = rw round-accepted (listed-all (delivered (view f)) (delivered-few (view f) S))
+  pub round-reported : outcome f round .reported ≡ went (view f)
+  unfolding outcome listedAt deliveryOf
+  round-reported = fun-ext reported
+    where
+      reported : (k : ℕ) → listedAt (roundAnswer f .report) k ≡ went (view f) k
+      reported k = ap (λ (r : Report). listedAt r k) round-report ∙ ap listed (report-at (view f) S k) ∙ listed-all (went (view f) k) (delivered-few (view f) S k)
 
   pub view-round : (c : Call) → isRound c ≡ true → view (outcome f c .floor) ≡ afterRound (view f)
   view-round (book t c) e = absurd (false≢true e)
@@ -106,7 +129,7 @@ module _ (f : Floor) (w : wellFormed f ≡ true) where
   call-keeps (repair t) h = answer-keeps (repairTests (view f) t) (omega arith) (withTile (view f) t (repaired (tileOf (view f) t))) (λ _. []) refl (repair-keeps (view f) S t)
   call-keeps round h =
       subst (λ (g : Floor). KeepsWell f g [] (outcome f round .reported)) (sym round-floor)
-      (subst (λ (l : List ℕ). KeepsWell f (pack (afterRound (view f))) [] l) (sym round-reported) (packed (afterRound (view f)) [] (delivered (view f)) (round-keeps (view f) S)))
+      (subst (λ (l : ℕ → List ℕ). KeepsWell f (pack (afterRound (view f))) [] l) (sym round-reported) (packed (afterRound (view f)) [] (went (view f)) (round-keeps (view f) S)))
 
   -- which tiles run after it
   pub call-runs : (c : Call) → Typed c → (t : ℕ) → runsOf (view (outcome f c .floor)) t ≡ runsBy f c t (runsOf (view f) t)

@@ -11,14 +11,15 @@ use borrow.Author.Tests.{ltb-true, ltb-false, lt-ltb, le-ltb, eqb-true, eq-eqb}
 use Rattle.laws.specs.Tables.{tab-length}
 use Rattle.laws.specs.Every.{All}
 use Rattle.laws.specs.Lists.{all-imp}
+use Rattle.laws.specs.SetBits.{bits-some}
 use Rattle.floor.specs.declared.Settings.{Settings}
 use Rattle.floor.specs.declared.Heading.{Heading}
 use Rattle.floor.specs.Sides.{bySide, sides}
-use Rattle.floor.specs.Settings.{total, isHopper}
+use Rattle.floor.specs.Settings.{total, isHopper, hoppersOf}
 use Rattle.floor.specs.Grid.{neighbour, around}
 use Rattle.floor.specs.Model.{TileState, Model, noTile, tileOf, runs, runsOf, distanceOf, nextOf, tokenOf, membersOf}
 use Rattle.floor.specs.Route.{nearer, nearest, liesAt, kept, onward, headingOf, routeTile, route}
-use Rattle.floor.proofs.Sound.{Sound}
+use Rattle.floor.proofs.Sound.{Measured, Sound}
 use Rattle.floor.proofs.Grid.{at1, at2, at3, at4, each-side, chosen-side, side-pos}
 use Rattle.floor.proofs.Tables.{Whole, off-floor, run-on, table-each}
 use Rattle.floor.proofs.Routing.{Graph, Laid, Formed, Choice, Routed}
@@ -345,9 +346,9 @@ module _ (m : Model) (w : Whole m) (t : ℕ) (off : isHopper (m .settings) t ≡
       let q : nextOf (route m) t ≡ first shows .side = next-is ∙ ap headingSide (kept-first shows (nextOf m t) not) in
       omega (arith, ap shows q, nearest-best shows .distance-is, nearest-first shows mj (omega (arith, q)))
 
-pub hopper-here : (s : Settings) → isHopper s (s .hopper) ≡ true
-unfolding isHopper
-hopper-here s = eq-eqb (s .hopper) (s .hopper) refl
+some-hopper : (s : Settings) → Measured s → (t : ℕ) × (isHopper s t ≡ true)
+unfolding isHopper hoppersOf
+some-hopper s M = bits-some (s .hoppers) (total s) (M .hoppers-some)
 
 -- ---- a sound floor is laid out for routing, its distances are formed
 pub laid : (m : Model) → Sound m → Laid (graphOf m)
@@ -355,7 +356,7 @@ laid m S = record {
   small = omega (arith, S .measured .few);
   hop-runs = S .hopper-runs;
   run-on = run-on m (S .len);
-  some = (m .settings .hopper, hopper-here (m .settings));
+  some = some-hopper (m .settings) (S .measured);
 }
 
 pub formed : (m : Model) → Sound m → Formed (graphOf m) (distanceOf m)

@@ -1,24 +1,31 @@
 -- Every round's report lists rising numbers, at most four, and zeros after them. The statement is specs/Reports.
-use mathlib.Core.Path.{_≡_, refl, sym, ap, subst}
+use mathlib.Core.Path.{_≡_, refl, sym, ap, _∙_, subst}
 use mathlib.Core.List.{List, [], _∷_, _++_, append-nil, Permᴰ·symm}
-use Prim.Native.Nat.{ℕ, _-_, _≤_, _<_}
+use Prim.Native.Nat.{ℕ, suc, _-_, _≤_, _<_}
 use native.Mathlib.Omega.{arith}
-use lib.ListN.{length, getD, drop, replicate}
-use Rattle.laws.specs.Define.{tab}
+use native.Mathlib.Decide.{decLe}
+use lib.ListN.{length, getD, drop, replicate, List·getD-eq-default}
+use Rattle.laws.specs.Define.{tab, cat}
 use Rattle.laws.specs.Every.{All, Pairs}
+use Rattle.laws.specs.Tables.{tab-length}
+use Rattle.floor.specs.declared.Delivery.{Delivery}
 use Rattle.floor.specs.declared.Floor.{Floor}
 use Rattle.floor.specs.declared.Report.{Report}
+use Rattle.floor.specs.declared.Settings.{Settings}
+use Rattle.floor.specs.Settings.{hoppersOf}
 use Rattle.floor.specs.Model.{Model, numbersOn}
 use Rattle.floor.specs.Memory.{view}
 use Rattle.floor.specs.Well.{wellFormed}
-use Rattle.floor.specs.Calls.{afterRound, delivered, reportOf, roundAnswer}
-use Rattle.floor.specs.Reports.{listed, Listing, Reports}
+use Rattle.floor.specs.Calls.{afterRound, delivered, deliveryOf, noDelivery, reportOf, roundAnswer}
+use Rattle.floor.specs.Reports.{listed, Listing, Lists, Reports}
 use Rattle.floor.proofs.Sound.{Sound}
 use Rattle.floor.proofs.Pack.{well-sound}
+use Rattle.floor.proofs.Rows.{view-settings}
+use Rattle.floor.proofs.Fields.{went, delivered-length}
 use Rattle.floor.proofs.Deliveries.{delivered-few, delivered-rising}
 use Rattle.floor.proofs.Calls.{round-keeps}
-use Rattle.floor.proofs.Lists.{round-accepted, round-report, listed-all}
-use Rattle.laws.specs.Lists.{all-append, all-perm}
+use Rattle.floor.proofs.Lists.{round-report, report-at, listed-all}
+use Rattle.laws.specs.Lists.{all-perm, cat-all}
 
 -- zeros after the numbers
 tail : (l : List ℕ) → length l ≤ 4 → drop (length l) (tab 4 (λ k. getD l k 0)) ≡ replicate (4 - length l) 0
@@ -34,22 +41,48 @@ all-after : (P : ℕ → Type 0) (l k : List ℕ) → All P (l ++ k) → All P k
 all-after P [] k h = h
 all-after P (x ∷ l) k h = all-after P l k (h .1)
 
+spare : deliveryOf [] ≡ noDelivery
+unfolding deliveryOf tab
+spare = refl
+
 module _ (m : Model) (S : Sound m) where
-  delivered-positive : All (λ n. 0 < n) (delivered m)
-  delivered-positive = all-after (λ n. 0 < n) (numbersOn (afterRound m)) (delivered m) (all-perm (λ n. 0 < n) (Permᴰ·symm (round-keeps m S .nums)) (subst (All (λ n. 0 < n)) (sym (append-nil (numbersOn m))) (S .positive)))
+  went-positive : (k : ℕ) → All (λ n. 0 < n) (went m k)
+  went-positive k = go (decLe (suc k) 4)
+    where
+      P : ℕ → Type 0
+      P n = 0 < n
 
-  whole : listed (reportOf m) ≡ delivered m
-  unfolding reportOf
-  whole = listed-all (delivered m) (delivered-few m S)
+      all : All P (cat 4 (went m))
+      all = all-after P (numbersOn (afterRound m)) (cat 4 (went m)) (all-perm P (Permᴰ·symm (round-keeps m S .nums)) (subst (All P) (sym (append-nil (numbersOn m))) (S .positive)))
 
-  listing : Listing (reportOf m)
+      go : Dec (k < 4) → All P (went m k)
+      go (yes h) = cat-all P 4 (went m) k h all
+      go (no h) = subst (All P) (sym (List·getD-eq-default (delivered m) [] (omega (arith, delivered-length m (S .len), S .measured .hoppers-few)))) tt
+
+  listing : (k : ℕ) → Listing (deliveryOf (went m k))
+  unfolding deliveryOf
+  listing k =
+      let l = went m k in
+      let few = delivered-few m S k in
+      record {
+        few = few;
+        rising = subst (Pairs (λ x y. x < y)) (sym (listed-all l few)) (delivered-rising m S k);
+        none-zero = subst (All (λ n. 0 < n)) (sym (listed-all l few)) (went-positive k);
+        zeros = tail l few;
+      }
+
+  four : length (reportOf m .deliveries) ≡ 4
   unfolding reportOf
-  listing = record {
-    few = delivered-few m S;
-    rising = subst (Pairs (λ x y. x < y)) (sym whole) (delivered-rising m S);
-    none-zero = subst (All (λ n. 0 < n)) (sym whole) delivered-positive;
-    zeros = tail (delivered m) (delivered-few m S);
+  four = tab-length 4 (λ k. deliveryOf (getD (delivered m) k []))
+
+  lists : Lists (length (hoppersOf (m .settings))) (reportOf m .deliveries)
+  lists = record {
+    four = four;
+    each = λ k. subst Listing (sym (report-at m S k)) (listing k);
+    beyond = λ k h. report-at m S k ∙ ap deliveryOf (List·getD-eq-default (delivered m) [] (omega (arith, delivered-length m (S .len)))) ∙ spare;
   }
 
 pub reports : Reports
-reports f w = subst Listing (sym (round-report f w)) (listing (view f) (well-sound f w))
+reports f w =
+    subst (λ (r : Report). Lists (length (hoppersOf (f .settings))) (r .deliveries)) (sym (round-report f w))
+    (subst (λ (s : Settings). Lists (length (hoppersOf s)) (reportOf (view f) .deliveries)) (view-settings f) (lists (view f) (well-sound f w)))

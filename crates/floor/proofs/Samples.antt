@@ -3,19 +3,19 @@ use mathlib.Core.Path.{_≡_, refl}
 use mathlib.Core.Bool.{true}
 use mathlib.Core.List.{List, [], _∷_, _++_}
 use Prim.Native.Nat.{ℕ, suc, _*_, _/_, _%_, _^_}
-use lib.ListN.{length, set, take}
+use lib.ListN.{length, set, take, replicate}
 use Rattle.laws.specs.Define.{tab}
 use Rattle.floor.specs.declared.Canister.{Canister}
 use Rattle.floor.specs.declared.Settings.{Settings}
 use Rattle.floor.specs.declared.Tile.{Tile}
 use Rattle.floor.specs.declared.Floor.{Floor}
 use Rattle.floor.specs.Memory.{zeroFloor}
-use Rattle.floor.specs.Calls.{freshAnswer, roundAnswer, readAnswer}
-use Rattle.floor.proofs.Calling.{got, settings, fresh, can, book, stop, repair, rounds, next, grant, liveCount, boundOf, refusedRound, Table, holds}
+use Rattle.floor.specs.Calls.{freshAnswer, stopAnswer, roundAnswer, readAnswer}
+use Rattle.floor.proofs.Calling.{got, several, settings, fresh, can, book, stop, repair, rounds, on, distances, next, reportedTo, grant, counted, liveCount, boundOf, refusedRound, Table, holds}
 
 -- W, H, hopper, fill set; l 21, r 0, v 10: four along each axis
 unfoldable dense : ℕ → ℕ → ℕ → ℕ → Settings
-dense W H hopper fill = record { columns = W; rows = H; hopper = hopper; sources = fill; width = 100; length = 21; gap = 0; travel = 10 }
+dense W H hopper fill = record { columns = W; rows = H; hoppers = 2 ^ hopper; sources = fill; width = 100; length = 21; gap = 0; travel = 10 }
 
 -- sixteen canisters from number 1 on, four along each axis
 unfoldable sixteen : List Canister
@@ -25,7 +25,15 @@ sixteen = tab 16 (λ n. can (suc n) (26 * (n % 4)) (26 * (n / 4)))
 unfoldable counting : ℕ → Floor → Floor
 counting n f =
     let h : Tile = record { running = 1; distance = 255; next = record { code = 0 }; token = record { code = 0 }; count = n } in
-    record { settings = f .settings; counters = record { last = 16; booked = 16; delivered = 0 }; tiles = set (f .tiles) 63 h; canisters = take 1008 (f .canisters) ++ sixteen }
+    record { settings = f .settings; counters = record { last = 16; booked = 16; delivered = replicate 4 0 }; tiles = set (f .tiles) 63 h; canisters = take 1008 (f .canisters) ++ sixteen }
+
+-- hoppers and fill set on W 4
+unfoldable sets : ℕ → ℕ → Settings
+sets hoppers fill = record { columns = 4; rows = 1; hoppers = hoppers; sources = fill; width = 100; length = 30; gap = 10; travel = 20 }
+
+-- W 4, hoppers 0 and 3; 5 on tile 1 and 6 on tile 2, equally far from the nearest
+unfoldable ends : Floor
+ends = book 6 10 0 2 (book 5 60 0 1 (got (freshAnswer (several 4 1 9 20))))
 
 unfoldable table : Table
 table =
@@ -76,8 +84,20 @@ table =
     ∷ (length (roundAnswer west .report .grants) ∷ [], 64 ∷ [])
     -- a count above sixteen is malformed, also where the places that it would reach don't exist
     ∷ (readAnswer (counting 16 full) 63 .refusal ∷ readAnswer (counting 200 full) 63 .refusal ∷ [], 0 ∷ 30 ∷ [])
+    -- [10] two hoppers: the distance to the nearest; a delivery at each in one round, listed and counted for each; 8 for each
+    ∷ (distances 4 (rounds 1 ends), 0 ∷ 0 ∷ 1 ∷ 1 ∷ 0 ∷ [])
+    ∷ (reportedTo 0 (rounds 3 ends), 0 ∷ 5 ∷ [])
+    ∷ (reportedTo 1 (rounds 3 ends), 0 ∷ 6 ∷ [])
+    ∷ (counted (rounds 4 ends), 0 ∷ 6 ∷ 2 ∷ 1 ∷ 1 ∷ 0 ∷ 0 ∷ [])
+    ∷ (stopAnswer ends 0 .refusal ∷ stopAnswer ends 3 .refusal ∷ stopAnswer ends 1 .refusal ∷ [], 8 ∷ 8 ∷ 0 ∷ [])
+    -- 4 delivered to hopper 3 alone, and its place holds nothing
+    ∷ (counted (rounds 1 (book 4 70 0 2 (got (freshAnswer (several 4 1 9 20))))), 0 ∷ 4 ∷ 1 ∷ 0 ∷ 1 ∷ 0 ∷ 0 ∷ [])
+    ∷ (on 3 (rounds 1 (book 4 70 0 2 (got (freshAnswer (several 4 1 9 20))))), 0 ∷ [])
+    -- "one to four, else 2": none, four, five, one of two off the floor; C equal to the number of hoppers; a fill bit for the second
+    ∷ (freshAnswer (sets 0 0) .refusal ∷ freshAnswer (several 5 1 15 20) .refusal ∷ freshAnswer (several 5 1 31 20) .refusal ∷ freshAnswer (sets 17 0) .refusal ∷ [], 2 ∷ 0 ∷ 2 ∷ 2 ∷ [])
+    ∷ (freshAnswer (several 2 2 15 20) .refusal ∷ freshAnswer (sets 9 6) .refusal ∷ freshAnswer (sets 9 14) .refusal ∷ [], 0 ∷ 0 ∷ 2 ∷ [])
     ∷ []
 
 samples : holds table ≡ true
-unfolding holds dense sixteen counting table
+unfolding holds dense sixteen counting sets ends table
 samples = refl

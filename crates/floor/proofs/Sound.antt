@@ -4,12 +4,12 @@ use mathlib.Core.Logic.{_⊎_, _↔_, _≢_}
 use mathlib.Core.Bool.{true, false}
 use mathlib.Core.List.{[]}
 use Prim.Native.Nat.{ℕ, _+_, _-_, _/_, _^_, _≤_, _<_}
-use lib.ListN.{length}
-use Rattle.laws.specs.Define.{bit}
+use lib.ListN.{length, getD}
+use Rattle.laws.specs.Define.{bit, sum}
 use Rattle.laws.specs.Every.{All, Pairs}
 use Rattle.floor.specs.declared.Canister.{Canister}
 use Rattle.floor.specs.declared.Settings.{Settings}
-use Rattle.floor.specs.Settings.{total, spacing, span, isHopper}
+use Rattle.floor.specs.Settings.{total, spacing, span, isHopper, hoppersOf}
 use Rattle.floor.specs.Grid.{neighbour}
 use Rattle.floor.specs.Model.{Model, tileOf, runsOf, distanceOf, nextOf, tokenOf, membersOf, numbersOn}
 
@@ -21,8 +21,10 @@ pub record Measured (s : Settings) : Type 0 where
   pub rows-few : s .rows ≤ 8
   pub two : 2 ≤ total s
   pub few : total s ≤ 64
-  pub hopper-on : s .hopper < total s
-  pub no-source : bit (s .sources) (s .hopper) ≡ false
+  pub hoppers-on : s .hoppers < 2 ^ total s
+  pub hoppers-some : 1 ≤ length (hoppersOf s)
+  pub hoppers-few : length (hoppersOf s) ≤ 4
+  pub no-source : All (λ t. bit (s .sources) t ≡ false) (hoppersOf s)
   pub sources-on : s .sources < 2 ^ total s
   pub wide : 2 ≤ s .width
   pub narrow : s .width ≤ 60000
@@ -71,6 +73,8 @@ pub record Sound (m : Model) : Type 0 where
   pub positive : All (λ n. 0 < n) (numbersOn m)
   pub below : All (λ n. n ≤ m .counters .last) (numbersOn m)
   pub unique : Pairs (λ x y. x ≢ y) (numbersOn m)
-  pub counted : m .counters .booked ≡ m .counters .delivered + length (numbersOn m)
+  pub four : length (m .counters .delivered) ≡ 4
+  pub spare : (k : ℕ) → length (hoppersOf (m .settings)) ≤ k → getD (m .counters .delivered) k 0 ≡ 0
+  pub counted : m .counters .booked ≡ sum (m .counters .delivered) + length (numbersOn m)
   pub booked-last : m .counters .booked ≤ m .counters .last
   pub last-fits : m .counters .last < 2 ^ 32

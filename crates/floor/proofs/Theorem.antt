@@ -18,7 +18,7 @@ use Rattle.floor.specs.Memory.{view}
 use Rattle.floor.specs.Well.{inside, apart, wellFormed}
 use Rattle.floor.specs.Bound.{bound}
 use Rattle.floor.specs.Live.{LivePath, connected, connectedCount}
-use Rattle.floor.specs.Demand3.{Call, Typed, floorAfter, bookedIn, reportedIn, runsAfter, roundsIn, Promises, Demand3}
+use Rattle.floor.specs.Demand3.{Call, Typed, floorAfter, bookedIn, reportedIn, reportedAll, runsAfter, roundsIn, Promises, Demand3}
 use Rattle.floor.proofs.Sound.{Sound, Inside, Apart}
 use Rattle.floor.proofs.Well.{inside-fact, apart-fact}
 use Rattle.floor.proofs.Pack.{well-sound}
@@ -66,7 +66,7 @@ module _ (f : Floor) (w : wellFormed f ≡ true) (cs : List Call) (typed : All T
       (all-cross (λ n. n ≤ last) (λ n. last < n) (λ x y. x ≢ y) (numbersOn (view f)) (bookedIn f cs) (λ x y p q. omega arith) (F .below) (K .above))
 
   promises : Promises f cs
-  unfolding view
+  unfolding view reportedAll
   promises = record {
     now = now;
     is-now = refl;
@@ -78,7 +78,7 @@ module _ (f : Floor) (w : wellFormed f ≡ true) (cs : List Call) (typed : All T
         (r-pairs (apart (spacing (view now .settings))) (Apart (spacing (view now .settings))) (apart-fact (spacing (view now .settings))) (membersOf (view now) t) .1 (S .spaced t));
     kept = Permᴰ·symm (K .nums);
     once-before = distinct (numbersOn (view f) ++ bookedIn f cs) all-once;
-    once-now = distinct (numbersOn (view now) ++ reportedIn f cs) (pairs-perm (λ x y. x ≢ y) (λ x y n e. n (sym e)) (Permᴰ·symm (K .nums)) all-once);
+    once-now = distinct (numbersOn (view now) ++ reportedAll f cs) (pairs-perm (λ x y. x ≢ y) (λ x y n e. n (sym e)) (Permᴰ·symm (K .nums)) all-once);
     booked = K .books;
     delivered = K .delivers;
     counts-live = λ t. carry (λ s r. LivePath s r t ↔ connected s r t ≡ true) (live-iff (view now .settings) (runsOf (view now)) (laid (view now) S) t);

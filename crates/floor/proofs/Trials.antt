@@ -32,8 +32,8 @@ table =
     ∷ (reported (rounds 3 one), 0 ∷ 5 ∷ [])
     ∷ (on 0 (rounds 4 one), 0 ∷ [])
     ∷ (on 1 (rounds 4 one), 0 ∷ [])
-    ∷ (counted (rounds 3 one), 0 ∷ 5 ∷ 1 ∷ 0 ∷ [])
-    ∷ (counted (rounds 4 one), 0 ∷ 5 ∷ 1 ∷ 1 ∷ [])
+    ∷ (counted (rounds 3 one), 0 ∷ 5 ∷ 1 ∷ 0 ∷ 0 ∷ 0 ∷ 0 ∷ [])
+    ∷ (counted (rounds 4 one), 0 ∷ 5 ∷ 1 ∷ 1 ∷ 0 ∷ 0 ∷ 0 ∷ [])
     ∷ (boundOf one ∷ [], 5 ∷ [])
     -- From a = 10: 30, 50, 70 (70 + 30 = 100 doesn't cross), delivered in round 4.
     ∷ (on 0 (rounds 1 ten), 0 ∷ 5 ∷ 30 ∷ 0 ∷ [])

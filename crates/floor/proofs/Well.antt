@@ -1,21 +1,26 @@
 -- The Bool tests of specs/Well, read as the facts of Sound.
-use mathlib.Core.Path.{_≡_, refl, sym, ap, subst}
+use mathlib.Core.Path.{_≡_, refl, sym, ap, _∙_, subst}
 use mathlib.Core.Logic.{_⊎_, inl, inr, _↔_, _≢_}
 use mathlib.Core.Bool.{Bool, true, false, cond, _&&_, false≢true}
 use mathlib.Core.List.{List, [], _∷_}
-use Prim.Native.Nat.{ℕ, suc, _+_, _^_, _≤_, _<_}
+use Prim.Native.Nat.{ℕ, suc, _+_, _-_, _^_, _≤_, _<_}
 use native.Mathlib.Omega.{arith}
 use native.Mathlib.Nat.{mul-le-mul}
 use native.Mathlib.Decide.{decLe}
-use lib.ListN.{length, List·getD-eq-default}
+use lib.Dec.{eqb}
+use lib.ListN.{length, getD, drop, length-drop, List·getD-eq-default}
+use lib.Seq.{getD-drop}
 use borrow.Author.Tests.{ltb-false, leb-false, eqb-true, eqb-false, le-ltb, lt-leb, eq-eqb}
+use Rattle.laws.specs.Define.{allOf, sum, bit}
 use Rattle.laws.specs.Every.{All, Pairs}
 use Rattle.laws.specs.Tests.{not-both, and-left, and-right, and-true, r-le, r-lt, r-eq, r-ne, r-and, r-or, r-all, r-pairs, r-below, refusal-none, refusal-all-false}
+use Rattle.laws.specs.Tables.{all-at, all-from-each}
 use Rattle.laws.specs.Lists.{all-mem, all-imp, all-both}
+use Rattle.laws.specs.SetBits.{bit-off, any-none, none-any}
 use Rattle.floor.specs.declared.Canister.{Canister}
 use Rattle.floor.specs.declared.Settings.{Settings}
 use Rattle.floor.specs.Sides.{sides}
-use Rattle.floor.specs.Settings.{total, spacing, span, isHopper, settingsTests, settingsRefusal, settingsPass}
+use Rattle.floor.specs.Settings.{total, spacing, span, isHopper, hoppersOf, settingsTests, settingsRefusal, settingsPass}
 use Rattle.floor.specs.Model.{TileState, Model, noTile, tileOf, runs, numbersOn}
 use Rattle.floor.specs.Memory.{head}
 use Rattle.floor.specs.Well.{hopperSound, runningSound, stoppedSound, faces, headSound, inside, apart, inOrder, membersSound, tileSound, numbersSound, countersSound, sound}
@@ -28,15 +33,17 @@ unfolding settingsPass settingsRefusal settingsTests
 settings-fact s = (λ h. into (refusal-none (settingsTests s) (omega arith) (eqb-true _ 0 h)), λ m. eq-eqb _ 0 (refusal-all-false (settingsTests s) (out m)))
   where
     into : All {A = Bool × ℕ} (λ x. x .0 ≡ false) (settingsTests s) → Measured s
-    into (p1, (p2, (p3, (p4, (p5, (p6, (p7, (p8, (p9, (p10, (p11, (p12, (p13, (p14, _)))))))))))))) = record {
+    into (p1, (p2, (p3, (p4, (p5, (h1, (h2, (h3, (h4, (p8, (p9, (p10, (p11, (p12, (p13, (p14, _)))))))))))))))) = record {
       columns-pos = ltb-false _ _ p1;
       columns-few = ltb-false _ _ p2;
       rows-pos = ltb-false _ _ p3;
       rows-few = ltb-false _ _ p4;
       two = ltb-false _ _ p5;
       few = mul-le-mul (ltb-false _ _ p2) (ltb-false _ _ p4);
-      hopper-on = leb-false _ _ p6;
-      no-source = p7;
+      hoppers-on = leb-false _ _ h1;
+      hoppers-some = ltb-false _ _ h2;
+      hoppers-few = ltb-false _ _ h3;
+      no-source = any-none (bit (s .sources)) (hoppersOf s) h4;
       sources-on = leb-false _ _ p8;
       wide = ltb-false _ _ p9;
       narrow = ltb-false _ _ p10;
@@ -47,7 +54,7 @@ settings-fact s = (λ h. into (refusal-none (settingsTests s) (omega arith) (eqb
     }
 
     out : Measured s → All {A = Bool × ℕ} (λ x. x .0 ≡ false) (settingsTests s)
-    out m = (le-ltb _ _ (m .columns-pos), (le-ltb _ _ (m .columns-few), (le-ltb _ _ (m .rows-pos), (le-ltb _ _ (m .rows-few), (le-ltb _ _ (m .two), (lt-leb _ _ (m .hopper-on), (m .no-source, (lt-leb _ _ (m .sources-on), (le-ltb _ _ (m .wide), (le-ltb _ _ (m .narrow), (le-ltb _ _ (m .moving), (lt-leb _ _ (m .slow), (lt-leb _ _ (m .short), (le-ltb _ _ (m .dense), tt))))))))))))))
+    out m = (le-ltb _ _ (m .columns-pos), (le-ltb _ _ (m .columns-few), (le-ltb _ _ (m .rows-pos), (le-ltb _ _ (m .rows-few), (le-ltb _ _ (m .two), (lt-leb _ _ (m .hoppers-on), (le-ltb _ _ (m .hoppers-some), (le-ltb _ _ (m .hoppers-few), (none-any (bit (s .sources)) (hoppersOf s) (m .no-source), (lt-leb _ _ (m .sources-on), (le-ltb _ _ (m .wide), (le-ltb _ _ (m .narrow), (le-ltb _ _ (m .moving), (lt-leb _ _ (m .slow), (lt-leb _ _ (m .short), (le-ltb _ _ (m .dense), tt))))))))))))))))
 
 -- ---- places and sides
 pub inside-fact : (s : Settings) (c : Canister) → inside s c ≡ true ↔ Inside s c
@@ -197,6 +204,20 @@ pub pairs-both : {A : Type 0} (P Q : A → A → Type 0) (l : List A) → Pairs 
 pairs-both P Q [] p q = tt
 pairs-both P Q (x ∷ l) p q = (all-both (P x) (Q x) l (p .0) (q .0), pairs-both P Q l (p .1) (q .1))
 
+-- from place h on a list has zeros
+r-spare : (h : ℕ) (l : List ℕ) → allOf (λ k. eqb k 0) (drop h l) ≡ true ↔ ((k : ℕ) → h ≤ k → getD l k 0 ≡ 0)
+r-spare h l = (λ t k q. into t k q (decLe (suc k) (length l)), out)
+  where
+    into : allOf (λ k. eqb k 0) (drop h l) ≡ true → (k : ℕ) → h ≤ k → Dec (k < length l) → getD l k 0 ≡ 0
+    into t k q (yes i) =
+        let j : k - h < length (drop h l) = rw length-drop (omega arith) in
+        let e : h + (k - h) ≡ k = omega arith in
+        ap (λ (x : ℕ). getD l x 0) (sym e) ∙ sym (getD-drop h l (k - h) 0) ∙ eqb-true _ 0 (all-at (λ k. eqb k 0) (drop h l) 0 t (k - h) j)
+    into t k q (no i) = List·getD-eq-default l 0 (omega arith)
+
+    out : ((k : ℕ) → h ≤ k → getD l k 0 ≡ 0) → allOf (λ k. eqb k 0) (drop h l) ≡ true
+    out f = all-from-each (λ k. eqb k 0) (drop h l) 0 (λ k q. eq-eqb _ 0 (getD-drop h l k 0 ∙ f (h + k) (omega arith)))
+
 module _ (m : Model) where
   abbrev S : Settings
   S = m .settings
@@ -208,7 +229,8 @@ module _ (m : Model) where
   abbrev pub Counted : Type 0
   Counted =
       (All (λ n. (0 < n) × (n ≤ m .counters .last)) N × Pairs (λ x y. x ≢ y) N)
-      × ((m .counters .booked ≡ m .counters .delivered + length N) × ((m .counters .booked ≤ m .counters .last) × (m .counters .last < 2 ^ 32)))
+      × ((length (m .counters .delivered) ≡ 4) × (((k : ℕ) → length (hoppersOf S) ≤ k → getD (m .counters .delivered) k 0 ≡ 0)
+      × ((m .counters .booked ≡ sum (m .counters .delivered) + length N) × ((m .counters .booked ≤ m .counters .last) × (m .counters .last < 2 ^ 32)))))
 
   abbrev Facts : Type 0
   Facts = Measured S × ((length (m .tiles) ≡ total S) × (((t : ℕ) → t < total S → SoundTile S t (tileOf m t)) × Counted))
@@ -220,7 +242,7 @@ module _ (m : Model) where
       (λ M. r-and (r-eq _ _)
       (r-and (r-below (λ t. tileSound S t (tileOf m t)) (λ t. SoundTile S t (tileOf m t)) (λ t. tile-fact S M t (tileOf m t)) (total S))
       (r-and (r-and (r-all _ _ (λ n. r-and (r-lt 0 n) (r-le n (m .counters .last))) N) (r-pairs _ _ r-ne N))
-      (r-and (r-eq _ _) (r-and (r-le _ _) (r-lt _ _))))))
+      (r-and (r-eq _ _) (r-and (r-spare (length (hoppersOf S)) (m .counters .delivered)) (r-and (r-eq _ _) (r-and (r-le _ _) (r-lt _ _))))))))
 
   -- where no tile is
   no-tile : Measured S → (t : ℕ) → total S ≤ t → SoundTile S t noTile
@@ -228,7 +250,7 @@ module _ (m : Model) where
   no-tile M t h = ((head, (inl refl, inl refl)), (tt, tt))
     where
       off : isHopper S t ≡ true → ⊥
-      off e = omega (arith, eqb-true t (S .hopper) e, M .hopper-on)
+      off e = not-both e (bit-off (S .hoppers) (total S) t (M .hoppers-on) h)
 
       head : SoundHead S t noTile
       head = record {
@@ -277,9 +299,11 @@ module _ (m : Model) where
         positive = all-imp (λ n. (0 < n) × (n ≤ m .counters .last)) (λ n. 0 < n) N (λ n p. p .0) (C .0 .0);
         below = all-imp (λ n. (0 < n) × (n ≤ m .counters .last)) (λ n. n ≤ m .counters .last) N (λ n p. p .1) (C .0 .0);
         unique = C .0 .1;
-        counted = C .1 .0;
-        booked-last = C .1 .1 .0;
-        last-fits = C .1 .1 .1;
+        four = C .1 .0;
+        spare = C .1 .1 .0;
+        counted = C .1 .1 .1 .0;
+        booked-last = C .1 .1 .1 .1 .0;
+        last-fits = C .1 .1 .1 .1 .1;
       }
 
   -- what Sound tells of one tile
@@ -302,7 +326,7 @@ module _ (m : Model) where
       }
 
   sound-facts : Sound m → Facts
-  sound-facts F = (F .measured, (F .len, (λ t _. sound-tile F t, ((all-both (λ n. 0 < n) (λ n. n ≤ m .counters .last) N (F .positive) (F .below), F .unique), (F .counted, (F .booked-last, F .last-fits))))))
+  sound-facts F = (F .measured, (F .len, (λ t _. sound-tile F t, ((all-both (λ n. 0 < n) (λ n. n ≤ m .counters .last) N (F .positive) (F .below), F .unique), (F .four, (F .spare, (F .counted, (F .booked-last, F .last-fits))))))))
 
   pub sound-fact : sound m ≡ true ↔ Sound m
   sound-fact = (λ h. let F = facts .0 h in sound-of (F .0) (F .1 .0) (F .1 .1 .0) (F .1 .1 .1), λ F. facts .1 (sound-facts F))

@@ -8,6 +8,7 @@ use Rattle.laws.specs.Define.{tab, allOf, bit, refusal}
 use Rattle.floor.specs.declared.Canister.{Canister}
 use Rattle.floor.specs.declared.Settings.{Settings}
 use Rattle.floor.specs.declared.Floor.{Floor}
+use Rattle.floor.specs.declared.Delivery.{Delivery}
 use Rattle.floor.specs.declared.Report.{Report}
 use Rattle.floor.specs.declared.Answer.{Answer}
 use Rattle.floor.specs.declared.Rounded.{Rounded}
@@ -29,12 +30,12 @@ unfoldable pub answer : Floor → List (Bool × ℕ) → Model → Answer
 answer f tests m = let n = refusalOf f tests in record { refusal = n; floor = cond (eqb n 0) (pack m) f }
 
 -- ---- fresh
--- "A fresh floor: all running, no canisters, every distance, arrow and turn none except the hopper's distance 0, counters 0."
+-- "A fresh floor: all running, no canisters, every distance, arrow and turn none except the hopper's distance 0, counters 0."; each hopper's
 unfoldable pub freshTile : Settings → ℕ → TileState
 freshTile s t = record { running = 1; distance = cond (isHopper s t) 0 255; next = 0; token = 0; members = [] }
 
 unfoldable pub freshFloor : Settings → Model
-freshFloor s = record { settings = s; counters = record { last = 0; booked = 0; delivered = 0 }; tiles = tab (total s) (freshTile s) }
+freshFloor s = record { settings = s; counters = record { last = 0; booked = 0; delivered = replicate 4 0 }; tiles = tab (total s) (freshTile s) }
 
 -- "Fresh: 1, 2, 3." "A refused … fresh floor gives the all-zero floor."
 unfoldable pub freshAnswer : Settings → Answer
@@ -85,16 +86,23 @@ repairAnswer f t = let m = view f in answer f (repairTests m t) (withTile m t (r
 unfoldable pub afterRound : Model → Model
 afterRound m = let r = route m in let s = signal r in move s (grantOf r)
 
-unfoldable pub delivered : Model → List ℕ
+unfoldable pub delivered : Model → List (List ℕ)
 delivered m = let r = route m in let s = signal r in deliveredBy s (grantOf r)
 
--- "The report gives every tile's grant and the delivered numbers, rising; never more than four."
+-- one hopper's: "the delivered numbers, rising; never more than four"
+unfoldable pub deliveryOf : List ℕ → Delivery
+deliveryOf l = record { numbers = tab 4 (λ k. getD l k 0); count = length l }
+
+-- "The report gives every tile's grant and the delivered numbers"; "Deliveries are listed for each hopper, at most four apiece"
 unfoldable pub reportOf : Model → Report
-reportOf m = record { grants = tab 64 (grantOf (route m)); count = length (delivered m); delivered = tab 4 (λ k. getD (delivered m) k 0) }
+reportOf m = let ds = delivered m in record { grants = tab 64 (grantOf (route m)); deliveries = tab 4 (λ k. deliveryOf (getD ds k [])) }
 
 -- "a report of zeros"
+abbrev pub noDelivery : Delivery
+noDelivery = record { numbers = replicate 4 0; count = 0 }
+
 unfoldable pub zeroReport : Report
-zeroReport = record { grants = replicate 64 0; count = 0; delivered = replicate 4 0 }
+zeroReport = record { grants = replicate 64 0; deliveries = replicate 4 noDelivery }
 
 -- "A round: 30."
 unfoldable pub roundAnswer : Floor → Rounded

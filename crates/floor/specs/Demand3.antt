@@ -5,8 +5,8 @@ use mathlib.Core.Bool.{Bool, true, false, cond, not, _&&_}
 use mathlib.Core.List.{List, [], _∷_, _++_, List·Permᴰ}
 use Prim.Native.Nat.{ℕ, _+_, _^_, _≤_, _<_}
 use lib.Dec.{eqb}
-use lib.ListN.{length}
-use Rattle.laws.specs.Define.{allOf, pairsOf}
+use lib.ListN.{length, getD}
+use Rattle.laws.specs.Define.{cat, allOf, pairsOf}
 use Rattle.laws.specs.Every.{All}
 use Rattle.floor.specs.declared.Canister.{Canister}
 use Rattle.floor.specs.declared.Floor.{Floor}
@@ -15,7 +15,7 @@ use Rattle.floor.specs.Model.{runsOf, membersOf, numbersOn}
 use Rattle.floor.specs.Memory.{view}
 use Rattle.floor.specs.Well.{inside, apart, wellFormed}
 use Rattle.floor.specs.Calls.{bookAnswer, stopAnswer, repairAnswer, roundAnswer}
-use Rattle.floor.specs.Reports.{listed}
+use Rattle.floor.specs.Reports.{listedAt}
 use Rattle.floor.specs.Bound.{bound}
 use Rattle.floor.specs.Live.{LivePath, connected, connectedCount}
 
@@ -33,19 +33,19 @@ Typed (stop t) = Unit {0}
 Typed (repair t) = Unit {0}
 Typed round = Unit {0}
 
--- a call's answer: its refusal number, 0 if accepted; its floor; the numbers that it booked; the numbers that it reported delivered
+-- a call's answer: its refusal number, 0 if accepted; its floor; the numbers that it booked; the numbers that it reported delivered to each hopper, the hoppers in tile order from 0 on
 pub record Outcome : Type 0 where
   pub refusal : ℕ
   pub floor : Floor
   pub booked : List ℕ
-  pub reported : List ℕ
+  pub reported : ℕ → List ℕ
 
 -- a booking's number counts if it is accepted; a round reports what its report lists
 unfoldable pub outcome : Floor → Call → Outcome
-outcome f (book t c) = let r = bookAnswer f t c in record { refusal = r .refusal; floor = r .floor; booked = cond (eqb (r .refusal) 0) (c .number ∷ []) []; reported = [] }
-outcome f (stop t) = let r = stopAnswer f t in record { refusal = r .refusal; floor = r .floor; booked = []; reported = [] }
-outcome f (repair t) = let r = repairAnswer f t in record { refusal = r .refusal; floor = r .floor; booked = []; reported = [] }
-outcome f round = let r = roundAnswer f in record { refusal = r .refusal; floor = r .floor; booked = []; reported = listed (r .report) }
+outcome f (book t c) = let r = bookAnswer f t c in record { refusal = r .refusal; floor = r .floor; booked = cond (eqb (r .refusal) 0) (c .number ∷ []) []; reported = λ _. [] }
+outcome f (stop t) = let r = stopAnswer f t in record { refusal = r .refusal; floor = r .floor; booked = []; reported = λ _. [] }
+outcome f (repair t) = let r = repairAnswer f t in record { refusal = r .refusal; floor = r .floor; booked = []; reported = λ _. [] }
+outcome f round = let r = roundAnswer f in record { refusal = r .refusal; floor = r .floor; booked = []; reported = listedAt (r .report) }
 
 -- "Each call gets its own arguments and the floor the last one gave; a refused call gives that floor back and stays in the list."
 unfoldable pub floorAfter : Floor → List Call → Floor
@@ -57,10 +57,14 @@ unfoldable pub bookedIn : Floor → List Call → List ℕ
 bookedIn f [] = []
 bookedIn f (c ∷ cs) = outcome f c .booked ++ bookedIn (outcome f c .floor) cs
 
--- "all that the rounds reported delivered"
-unfoldable pub reportedIn : Floor → List Call → List ℕ
-reportedIn f [] = []
-reportedIn f (c ∷ cs) = outcome f c .reported ++ reportedIn (outcome f c .floor) cs
+-- "all that the rounds reported delivered", to hopper k
+unfoldable pub reportedIn : Floor → List Call → ℕ → List ℕ
+reportedIn f [] k = []
+reportedIn f (c ∷ cs) k = outcome f c .reported k ++ reportedIn (outcome f c .floor) cs k
+
+-- to all hoppers together: "the total that nothing is lost from is over all"
+unfoldable pub reportedAll : Floor → List Call → List ℕ
+reportedAll f cs = cat 4 (reportedIn f cs)
 
 -- "A tile runs if the latest accepted stop or repair of it since the first floor was a repair or, without one, if it ran on the first floor."
 unfoldable pub runsBy : Floor → Call → ℕ → Bool → Bool
@@ -101,15 +105,16 @@ pub record Promises (f : Floor) (cs : List Call) : Type 0 where
   pub within : (t : ℕ) → allOf (inside (f .settings)) (membersOf (view now) t) ≡ true
   pub spaced : (t : ℕ) → pairsOf (apart (spacing (f .settings))) (membersOf (view now) t) ≡ true
   -- "the first floor's numbers with that of each accepted booking are, in some order, those on the floor now with all that the rounds reported delivered, and no number stands twice on either side"
-  pub kept : List·Permᴰ (numbersOn (view f) ++ bookedIn f cs) (numbersOn (view now) ++ reportedIn f cs)
+  pub kept : List·Permᴰ (numbersOn (view f) ++ bookedIn f cs) (numbersOn (view now) ++ reportedAll f cs)
   pub once-before : pairsOf (λ x y. not (eqb x y)) (numbersOn (view f) ++ bookedIn f cs) ≡ true
-  pub once-now : pairsOf (λ x y. not (eqb x y)) (numbersOn (view now) ++ reportedIn f cs) ≡ true
+  pub once-now : pairsOf (λ x y. not (eqb x y)) (numbersOn (view now) ++ reportedAll f cs) ≡ true
   -- "Booked now = booked on the first floor + accepted bookings. Delivered now = delivered on the first floor + numbers reported."
   pub booked : now .counters .booked ≡ f .counters .booked + length (bookedIn f cs)
-  pub delivered : now .counters .delivered ≡ f .counters .delivered + length (reportedIn f cs)
+  -- for each hopper
+  pub delivered : (k : ℕ) → getD (now .counters .delivered) k 0 ≡ getD (f .counters .delivered) k 0 + length (reportedIn f cs k)
   -- K, `connectedCount`, counts the canisters on tiles with a live path
   pub counts-live : (t : ℕ) → LivePath (f .settings) (runsAfter f cs) t ↔ connected (f .settings) (runsAfter f cs) t ≡ true
-  -- "after any further list with at least (C - 1) × (1 + K × M) rounds and no accepted booking, stop or repair, no canister is on a tile with a live path to the hopper"
+  -- "after any further list with at least (C - 1) × (1 + K × M) rounds and no accepted booking, stop or repair, no canister is on a tile with a live path" to a hopper
   pub emptied : (ds : List Call) → All Typed ds → Quiet now ds → bound (f .settings) (connectedCount (view now) (runsAfter f cs)) ≤ roundsIn ds
       → (t : ℕ) → LivePath (f .settings) (runsAfter f cs) t → membersOf (view (floorAfter now ds)) t ≡ []
 

@@ -11,12 +11,12 @@ use Rattle.floor.specs.Settings.{total, isHopper}
 use Rattle.floor.specs.Grid.{neighbour}
 use Rattle.floor.specs.Model.{Model, membersOf}
 
--- "A live path goes from a tile, neighbour by neighbour, to the hopper; all its tiles run, both ends included."
+-- "A live path goes from a tile, neighbour by neighbour, to the hopper; all its tiles run, both ends included."; it "may end at any hopper"
 pub data LivePath (s : Settings) (run : ℕ → Bool) : ℕ → Type 0 where
   here : {t : ℕ} → isHopper s t ≡ true → t < total s → run t ≡ true → LivePath s run t
   step : {t : ℕ} (k : ℕ) → List·Memᴰ k sides → t < total s → run t ≡ true → LivePath s run (neighbour s k t) → LivePath s run t
 
--- for each tile, whether a path of at most n steps leads from it to the hopper
+-- for each tile, whether a path of at most n steps leads from it to a hopper
 unfoldable pub reached : Settings → (ℕ → Bool) → ℕ → List Bool
 reached s run zero = tab (total s) (λ t. isHopper s t && run t)
 reached s run (suc n) =

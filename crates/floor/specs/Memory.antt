@@ -22,8 +22,8 @@ zeroCanister = record { number = 0; a = 0; b = 0 }
 -- "the all-zero floor"
 unfoldable pub zeroFloor : Floor
 zeroFloor =
-    let s : Settings = record { columns = 0; rows = 0; hopper = 0; sources = 0; width = 0; length = 0; gap = 0; travel = 0 } in
-    record { settings = s; counters = record { last = 0; booked = 0; delivered = 0 }; tiles = replicate 64 zeroTile; canisters = replicate 1024 zeroCanister }
+    let s : Settings = record { columns = 0; rows = 0; hoppers = 0; sources = 0; width = 0; length = 0; gap = 0; travel = 0 } in
+    record { settings = s; counters = record { last = 0; booked = 0; delivered = replicate 4 0 }; tiles = replicate 64 zeroTile; canisters = replicate 1024 zeroCanister }
 
 -- ---- what memory shows: tile t, its canisters the first `count` of the sixteen places from 16 × t on
 abbrev pub headOf : Floor → ℕ → Tile

@@ -18,7 +18,7 @@ pub record TileState : Type 0 where
   pub token : ℕ
   pub members : List Canister
 
--- the settings, "three counters of 32 bits: last number booked, booked, delivered", and the C tiles by their number
+-- the settings, the counters of 32 bits: "last number booked, booked", and delivered "for each hopper in tile order", and the C tiles by their number
 pub record Model : Type 0 where
   pub settings : Settings
   pub counters : Counters

@@ -3,12 +3,13 @@ use mathlib.Core.Bool.{Bool, false, cond, not, _&&_}
 use mathlib.Core.List.{List, [], _∷_, map}
 use Prim.Native.Nat.{ℕ, _+_, _-_}
 use lib.Dec.{leb, ltb, eqb}
-use lib.ListN.{length}
+use lib.ListN.{length, getD}
 use Rattle.laws.specs.Define.{tab, keep}
 use Rattle.floor.specs.declared.Canister.{Canister}
 use Rattle.floor.specs.declared.Settings.{Settings}
+use Rattle.floor.specs.declared.Counters.{Counters}
 use Rattle.floor.specs.Sides.{bySide}
-use Rattle.floor.specs.Settings.{total, span, isHopper}
+use Rattle.floor.specs.Settings.{total, span, isHopper, hoppersOf}
 use Rattle.floor.specs.Grid.{neighbour}
 use Rattle.floor.specs.Model.{TileState, Model, tileOf, nextOf, membersOf, withMembers, numbers}
 
@@ -51,7 +52,7 @@ insertEach (c ∷ cs) l = insertEach cs (insert c l)
 abbrev pub arriving : Settings → ℕ → ℕ → List Canister → List Canister
 arriving s grant next members = leaving s (wayOf next grant) members
 
--- one tile's canisters: its own along its way, and those from the neighbour that it granted; "into the hopper, it leaves the floor"
+-- one tile's canisters: its own along its way, and those from the neighbour that it granted; into a hopper, "it leaves the floor"
 unfoldable pub membersNext : Settings → ℕ → List Canister → List Canister → List Canister
 membersNext s t own come = cond (isHopper s t) [] (insertEach come own)
 
@@ -65,14 +66,14 @@ moveTile m g t =
     let way = wayOf (x .next) (g (neighbour (m .settings) (x .next) t)) in
     withMembers x (membersNext (m .settings) t (staying (m .settings) way (x .members)) (arrivals m g t))
 
--- "its number is reported"
-unfoldable pub deliveredBy : Model → (ℕ → ℕ) → List ℕ
-deliveredBy m g = numbers (arrivals m g (m .settings .hopper))
+-- "its number is reported"; "Deliveries are listed for each hopper", the hoppers in tile order
+unfoldable pub deliveredBy : Model → (ℕ → ℕ) → List (List ℕ)
+deliveredBy m g = map (λ h. numbers (arrivals m g h)) (hoppersOf (m .settings))
 
--- "for all tiles together"; "the delivered counter rises by one" for each
+-- "the delivered counter rises by one" for each, "and counted for each"
+unfoldable pub raised : Counters → List (List ℕ) → Counters
+raised c ds = record { last = c .last; booked = c .booked; delivered = tab 4 (λ k. getD (c .delivered) k 0 + length (getD ds k [])) }
+
+-- "for all tiles together"
 unfoldable pub move : Model → (ℕ → ℕ) → Model
-move m g = record {
-  settings = m .settings;
-  counters = record { last = m .counters .last; booked = m .counters .booked; delivered = m .counters .delivered + length (deliveredBy m g) };
-  tiles = tab (total (m .settings)) (moveTile m g);
-}
+move m g = record { settings = m .settings; counters = raised (m .counters) (deliveredBy m g); tiles = tab (total (m .settings)) (moveTile m g) }

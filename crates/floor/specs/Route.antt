@@ -32,7 +32,7 @@ kept own west south north east =
 unfoldable pub onward : ℕ → Heading → Heading
 onward C b = cond (ltb (b .distance + 1) C) (record { distance = b .distance + 1; side = b .side }) (record { distance = 255; side = 0 })
 
--- one tile's, from its own old arrow and its neighbours' old distances; the hopper and a stopped tile keep what they have
+-- one tile's, from its own old arrow and its neighbours' old distances; a hopper and a stopped tile keep what they have
 unfoldable pub headingOf : Settings → ℕ → Bool → Heading → ℕ → ℕ → ℕ → ℕ → Heading
 headingOf s t running own west south north east = cond (isHopper s t || not running) own (onward (total s) (kept (own .side) west south north east))
 

@@ -3,7 +3,8 @@ use mathlib.Core.Bool.{Bool}
 use mathlib.Core.List.{List, [], _∷_}
 use Prim.Native.Nat.{ℕ, _+_, _-_, _*_, _/_, _^_}
 use lib.Dec.{leb, ltb, eqb}
-use Rattle.laws.specs.Define.{bit, refusal}
+use lib.ListN.{length}
+use Rattle.laws.specs.Define.{bit, bitsBelow, anyOf, refusal}
 use Rattle.floor.specs.declared.Settings.{Settings}
 
 -- "W columns, H rows; C = W × H"
@@ -18,17 +19,32 @@ spacing s = s .length + s .gap
 abbrev pub span : Settings → ℕ
 span s = s .width - s .length
 
--- "One hopper tile."
+-- "Up to four hoppers": the set of them is 64 bits, bit t for tile t
 unfoldable pub isHopper : Settings → ℕ → Bool
-isHopper s t = eqb t (s .hopper)
+isHopper s t = bit (s .hoppers) t
 
--- "1. W, H or C outside its range." "2. Hopper not on the floor, or a fill bit for the hopper or for no tile." "3. A measure breaks the rules above."
-unfoldable pub settingsTests : Settings → List (Bool × ℕ)
-settingsTests s =
-    (ltb (s .columns) 1, 1) ∷ (ltb 8 (s .columns), 1) ∷ (ltb (s .rows) 1, 1) ∷ (ltb 8 (s .rows), 1) ∷ (ltb (total s) 2, 1)
-    ∷ (leb (total s) (s .hopper), 2) ∷ (bit (s .sources) (s .hopper), 2) ∷ (leb (2 ^ total s) (s .sources), 2)
-    ∷ (ltb (s .width) 2, 3) ∷ (ltb 60000 (s .width), 3) ∷ (ltb (s .travel) 1, 3) ∷ (leb (s .length) (s .travel), 3)
+-- the hoppers "in tile order"
+unfoldable pub hoppersOf : Settings → List ℕ
+hoppersOf s = bitsBelow (s .hoppers) (total s)
+
+-- "1. W, H or C outside its range."
+abbrev pub sizeTests : Settings → List (Bool × ℕ) → List (Bool × ℕ)
+sizeTests s rest = (ltb (s .columns) 1, 1) ∷ (ltb 8 (s .columns), 1) ∷ (ltb (s .rows) 1, 1) ∷ (ltb 8 (s .rows), 1) ∷ (ltb (total s) 2, 1) ∷ rest
+
+-- "2. Hopper not on the floor, or a fill bit for the hopper or for no tile."; "rules 2 and 8 … cover all of them. A fresh floor takes one to four, else 2."
+abbrev pub setTests : Settings → List (Bool × ℕ) → List (Bool × ℕ)
+setTests s rest =
+    (leb (2 ^ total s) (s .hoppers), 2) ∷ (ltb (length (hoppersOf s)) 1, 2) ∷ (ltb 4 (length (hoppersOf s)), 2)
+    ∷ (anyOf (bit (s .sources)) (hoppersOf s), 2) ∷ (leb (2 ^ total s) (s .sources), 2) ∷ rest
+
+-- "3. A measure breaks the rules above."
+abbrev pub measureTests : Settings → List (Bool × ℕ)
+measureTests s =
+    (ltb (s .width) 2, 3) ∷ (ltb 60000 (s .width), 3) ∷ (ltb (s .travel) 1, 3) ∷ (leb (s .length) (s .travel), 3)
     ∷ (leb (s .width) (spacing s), 3) ∷ (ltb 3 (span s / spacing s), 3) ∷ []
+
+unfoldable pub settingsTests : Settings → List (Bool × ℕ)
+settingsTests s = sizeTests s (setTests s (measureTests s))
 
 -- "Fresh: 1, 2, 3."
 unfoldable pub settingsRefusal : Settings → ℕ

@@ -3,19 +3,19 @@ use mathlib.Core.Bool.{Bool, cond, not, _&&_, _||_}
 use mathlib.Core.List.{List}
 use Prim.Native.Nat.{ℕ, _+_, _^_}
 use lib.Dec.{leb, ltb, eqb}
-use lib.ListN.{length}
-use Rattle.laws.specs.Define.{allOf, pairsOf, allBelow}
+use lib.ListN.{length, drop}
+use Rattle.laws.specs.Define.{allOf, pairsOf, allBelow, sum}
 use Rattle.floor.specs.declared.Canister.{Canister}
 use Rattle.floor.specs.declared.Settings.{Settings}
 use Rattle.floor.specs.declared.Counters.{Counters}
 use Rattle.floor.specs.declared.Tile.{Tile}
 use Rattle.floor.specs.declared.Floor.{Floor}
-use Rattle.floor.specs.Settings.{total, spacing, span, isHopper, settingsPass}
+use Rattle.floor.specs.Settings.{total, spacing, span, isHopper, hoppersOf, settingsPass}
 use Rattle.floor.specs.Grid.{neighbour}
 use Rattle.floor.specs.Model.{TileState, Model, tileOf, numbersOn}
 use Rattle.floor.specs.Memory.{view, head, fits}
 
--- "The hopper runs, has distance 0, arrow none and no canisters."
+-- each hopper: "The hopper runs, has distance 0, arrow none and no canisters."
 unfoldable pub hopperSound : Tile → Bool
 hopperSound h = eqb (h .running) 1 && (eqb (h .distance) 0 && (eqb (h .next .code) 0 && eqb (h .count) 0))
 
@@ -58,9 +58,11 @@ tileSound s t x = headSound s t (head x) && membersSound s (x .members)
 unfoldable pub numbersSound : ℕ → List ℕ → Bool
 numbersSound last l = allOf (λ n. ltb 0 n && leb n last) l && pairsOf (λ x y. not (eqb x y)) l
 
--- "Booked = delivered + those on the floor, and booked is at most the last number"; "counters of 32 bits"
-unfoldable pub countersSound : Counters → ℕ → Bool
-countersSound c n = eqb (c .booked) (c .delivered + n) && (leb (c .booked) (c .last) && ltb (c .last) (2 ^ 32))
+-- h hoppers, n canisters on the floor. One delivered counter for each hopper, unused ones zero; "Booked = delivered + those on the floor", "over all", "and booked is at most the last number"; "counters of 32 bits"
+unfoldable pub countersSound : ℕ → Counters → ℕ → Bool
+countersSound h c n =
+    eqb (length (c .delivered)) 4 && (allOf (λ k. eqb k 0) (drop h (c .delivered))
+    && (eqb (c .booked) (sum (c .delivered) + n) && (leb (c .booked) (c .last) && ltb (c .last) (2 ^ 32))))
 
 -- the value: its settings, C tiles, each tile, the numbers, the counters
 unfoldable pub sound : Model → Bool
@@ -68,7 +70,7 @@ sound m =
     settingsPass (m .settings)
     && (eqb (length (m .tiles)) (total (m .settings))
     && (allBelow (λ t. tileSound (m .settings) t (tileOf m t)) (total (m .settings))
-    && (numbersSound (m .counters .last) (numbersOn m) && countersSound (m .counters) (length (numbersOn m)))))
+    && (numbersSound (m .counters .last) (numbersOn m) && countersSound (length (hoppersOf (m .settings))) (m .counters) (length (numbersOn m)))))
 
 -- "Well formed": the value is, and "unused places in memory are zero"
 unfoldable pub wellFormed : Floor → Bool

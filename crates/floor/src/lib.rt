@@ -102,12 +102,12 @@ pub struct Tile {
     pub count: u8,
 }
 
-// W, H, the hopper's tile, the fill set, U, l, r and v.
+// W, H, the hopper set, the fill set, U, l, r and v. A set has bit t for tile t.
 #[repr(C)]
 pub struct Settings {
     pub columns: u8,
     pub rows: u8,
-    pub hopper: u8,
+    pub hoppers: u64,
     pub sources: u64,
     pub width: u16,
     pub length: u16,
@@ -115,12 +115,12 @@ pub struct Settings {
     pub travel: u16,
 }
 
-// The last number booked, how many were booked, how many were delivered.
+// The last number booked, how many were booked, and how many were delivered to each hopper, the hoppers in tile order, then zeros.
 #[repr(C)]
 pub struct Counters {
     pub last: u32,
     pub booked: u32,
-    pub delivered: u32,
+    pub delivered: [u32; 4],
 }
 
 // A floor. The canisters of tile t stand from place 16 * t on, by rising number; unused places are zero.
@@ -132,12 +132,18 @@ pub struct Floor {
     pub canisters: [Canister; 1024],
 }
 
-// What a round reports: the side that each tile granted, and the numbers delivered, rising, then zeros.
+// What a round delivered to one hopper: how many, and their numbers, rising, then zeros.
+#[repr(C)]
+pub struct Delivery {
+    pub numbers: [u32; 4],
+    pub count: u8,
+}
+
+// What a round reports: the side that each tile granted, and what came to each hopper, the hoppers in tile order, then zeros.
 #[repr(C)]
 pub struct Report {
     pub grants: [u8; 64],
-    pub count: u8,
-    pub delivered: [u32; 4],
+    pub deliveries: [Delivery; 4],
 }
 
 // The answer of fresh, book, stop, repair and load: document 01's refusal number, 0 where the call was accepted.
@@ -204,7 +210,7 @@ pub fn zero_floor() -> Floor
         settings: Settings {
             columns: 0,
             rows: 0,
-            hopper: 0,
+            hoppers: 0,
             sources: 0,
             width: 0,
             length: 0,
@@ -214,7 +220,7 @@ pub fn zero_floor() -> Floor
         counters: Counters {
             last: 0,
             booked: 0,
-            delivered: 0,
+            delivered: [0; 4],
         },
         tiles: [tile; 64],
         canisters: [canister; 1024],

@@ -8,6 +8,7 @@ ghost use Rattle.heads.specs.Head.{Sized, stateSound};
 use floor::Settings;
 use floor::Side;
 use floor::Tile;
+use sets::holds;
 use settings::tiles_of;
 
 // Whether a tile is one that the floor doesn't have.
@@ -18,7 +19,7 @@ pub fn zero_tile(h: Tile) -> bool
         & ((h.distance == 0) & ((h.next.code == 0) & ((h.token.code == 0) & (h.count == 0))))
 }
 
-// The hopper.
+// A hopper.
 pub fn hopper_ok(h: Tile) -> bool
     ensures { λ r. ⌜ r ≡ hopperSound h ⌝ }
 {
@@ -56,8 +57,7 @@ pub fn faces_ok(s: Settings, t: usize, side: Side) -> bool
 pub fn state_ok(s: Settings, t: usize, h: Tile) -> bool
     ensures { λ r. ⌜ r ≡ stateSound s t h ⌝ }
 {
-    let hopper = s.hopper as usize;
-    if t == hopper {
+    if holds(s.hoppers, t) {
         return hopper_ok(h);
     }
     if h.running == 1 {

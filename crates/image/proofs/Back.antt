@@ -1,15 +1,16 @@
 -- What was written is read back: with nothing after it without a fault, with bytes after it or with its end cut off as 9.
-use mathlib.Core.Path.{_≡_, refl, sym, ap, _∙_}
-use mathlib.Core.Bool.{cond}
+use mathlib.Core.Path.{_≡_, refl, sym, ap, _∙_, subst}
+use mathlib.Core.Bool.{Bool, true, false, cond, not, _&&_, _||_}
 use mathlib.Core.List.{List, [], _∷_, _++_, append-assoc, append-nil}
 use Prim.Native.Nat.{ℕ, suc, _+_, _-_, _*_, _≤_, _<_}
 use native.Mathlib.Omega.{arith}
 use native.Mathlib.Decide.{decLe}
-use lib.Dec.{ltb}
-use borrow.Author.Tests.{le-ltb, lt-ltb, eq-eqb}
-use lib.ListN.{length, take, drop, length-append}
+use lib.Dec.{ltb, eqb}
+use borrow.Author.Tests.{le-ltb, lt-ltb, ltb-true, eq-eqb}
+use lib.ListN.{length, getD, take, drop, length-append}
 use lib.Seq.{drop-at}
-use Rattle.laws.specs.Define.{refusal}
+use Rattle.laws.specs.Define.{tab, refusal}
+use Rattle.laws.specs.Tables.{tab-at, tab-off, filled}
 use Rattle.laws.specs.Every.{All}
 use Rattle.wire.specs.Bytes.{fieldsOf, bytesOf, field, Fit, row-length, fields-bytes}
 use Rattle.floor.specs.declared.Canister.{Canister}
@@ -17,7 +18,8 @@ use Rattle.floor.specs.declared.Settings.{Settings}
 use Rattle.floor.specs.declared.Counters.{Counters}
 use Rattle.floor.specs.Settings.{total, settingsRefusal}
 use Rattle.floor.specs.Model.{TileState, Model}
-use Rattle.image.specs.Image.{settingsWidths, settingsValues, countersWidths, countersValues, tileWidths, tileValues, canisterWidths, canisterValues, recordOf, settingsBody, countersBody, canistersBody, tileBody, tilesBytes, encode, bodyIn, restIn, settingsIn, countersIn, canisterIn, canistersIn, tileIn, tilesIn, modelIn, settingsFaults, countersFaults, tileFaults, endFaults, ownFaults, recordFault, orElse, endFault, tilesFault, fault}
+use Rattle.image.specs.Image.{lowest, oneTile, hopperCount, several, byteWrong, lengthIn, settingsWidths, settingsValues, countersWidths, countersValues, tileWidths, tileValues, canisterWidths, canisterValues, recordOf, settingsBody, countersBody, canistersBody, tileBody, tilesBytes, encode, bodyIn, restIn, settingsIn, countersIn, canisterIn, canistersIn, tileIn, tilesIn, modelIn, settingsFaults, countersFaults, tileFaults, endFaults, ownFaults, recordFault, orElse, endFault, tilesFault, fault}
+use Rattle.image.proofs.Hoppers.{none-spliced}
 use Rattle.image.proofs.Records.{record-length, length-in, body-in, rest-in, fault-in, cut-off, cut-after}
 use Rattle.image.proofs.Sizes.{settings-size, counters-size, canister-size, tile-size}
 
@@ -29,25 +31,83 @@ pub record TileFits (x : TileState) : Type 0 where
 
 -- and the settings pass 1 to 3, and there are C tiles
 pub record Fits (m : Model) : Type 0 where
-  pub settings : Fit settingsWidths (settingsValues (m .settings))
-  pub counters : Fit countersWidths (countersValues (m .counters))
+  pub settings : Fit (settingsWidths (several (m .settings))) (settingsValues (m .settings))
+  pub single : several (m .settings) ≡ false → oneTile (lowest (m .settings .hoppers)) ≡ m .settings .hoppers
+  pub counters : Fit (countersWidths (hopperCount (m .settings))) (countersValues (hopperCount (m .settings)) (m .counters))
+  pub four : length (m .counters .delivered) ≡ 4
+  pub spare : (k : ℕ) → hopperCount (m .settings) ≤ k → getD (m .counters .delivered) k 0 ≡ 0
   pub each : All TileFits (m .tiles)
   pub many : length (m .tiles) ≡ total (m .settings)
   pub few : length (m .tiles) ≤ 64
   pub passed : settingsRefusal (m .settings) ≡ 0
+  pub hoppers-few : hopperCount (m .settings) ≤ 4
 
 -- ---- a body that is read after it was written
-settings-back : (s : Settings) (ys : List ℕ) → Fit settingsWidths (settingsValues s) → settingsIn (settingsBody s ++ ys) ≡ s
-unfolding settingsIn settingsBody
-settings-back s ys h = rw (fields-bytes settingsWidths (settingsValues s) ys h)
+module _ (s : Settings) (ys : List ℕ) (h : Fit (settingsWidths (several s)) (settingsValues s)) where
+  by-length : eqb (length (settingsBody s)) 28 ≡ several s
+  by-length = ap (λ (n : ℕ). eqb n 28) (settings-size s) ∙ go (several s)
+    where
+      go : (b : Bool) → eqb (cond b 28 20) 28 ≡ b
+      go true = refl
+      go false = refl
 
-zero-back : (s : Settings) (ys : List ℕ) → Fit settingsWidths (settingsValues s) → field settingsWidths 3 (settingsBody s ++ ys) ≡ 0
-unfolding settingsBody
-zero-back s ys h = rw (fields-bytes settingsWidths (settingsValues s) ys h)
+  right-length : (eqb (length (settingsBody s)) 20 || eqb (length (settingsBody s)) 28) ≡ true
+  right-length = ap (λ (n : ℕ). eqb n 20 || eqb n 28) (settings-size s) ∙ go (several s)
+    where
+      go : (b : Bool) → (eqb (cond b 28 20) 20 || eqb (cond b 28 20) 28) ≡ true
+      go true = refl
+      go false = refl
 
-counters-back : (c : Counters) (ys : List ℕ) → Fit countersWidths (countersValues c) → countersIn (countersBody c ++ ys) ≡ c
+  settings-fields : fieldsOf (settingsWidths (several s)) (settingsBody s ++ ys) ≡ settingsValues s
+  unfolding settingsBody
+  settings-fields = fields-bytes (settingsWidths (several s)) (settingsValues s) ys h
+
+  settings-back : (several s ≡ false → oneTile (lowest (s .hoppers)) ≡ s .hoppers) → settingsIn (length (settingsBody s)) (settingsBody s ++ ys) ≡ s
+  unfolding settingsIn
+  settings-back one =
+      rw (by-length, settings-fields)
+      (ap (λ (x : ℕ). record { columns = s .columns; rows = s .rows; hoppers = x; sources = s .sources; width = s .width; length = s .length; gap = s .gap; travel = s .travel }) (pick (several s) refl))
+    where
+      pick : (b : Bool) → several s ≡ b → cond b (getD (cond b (s .hoppers ∷ []) []) 0 0) (oneTile (lowest (s .hoppers))) ≡ s .hoppers
+      pick true e = refl
+      pick false e = one e
+
+  zero-back : field (settingsWidths (eqb (length (settingsBody s)) 28)) 3 (settingsBody s ++ ys) ≡ 0
+  zero-back = rw (by-length, settings-fields)
+
+  byte-back : byteWrong (length (settingsBody s)) (settingsBody s ++ ys) ≡ false
+  unfolding byteWrong
+  byte-back = rw by-length (go (several s) refl settings-fields)
+    where
+      go : (b : Bool) → several s ≡ b → fieldsOf (settingsWidths b) (settingsBody s ++ ys) ≡ s .columns ∷ s .rows ∷ lowest (s .hoppers) ∷ 0 ∷ s .width ∷ s .length ∷ s .gap ∷ s .travel ∷ s .sources ∷ cond b (s .hoppers ∷ []) []
+          → (b && (not (eqb (field (settingsWidths true) 9 (settingsBody s ++ ys)) 0) && not (eqb (field (settingsWidths true) 2 (settingsBody s ++ ys)) (lowest (field (settingsWidths true) 9 (settingsBody s ++ ys)))))) ≡ false
+      go true e f = rw (f, eq-eqb (lowest (s .hoppers)) (lowest (s .hoppers)) refl) (none (eqb (s .hoppers) 0))
+        where
+          none : (b : Bool) → (not b && false) ≡ false
+          none true = refl
+          none false = refl
+      go false e f = refl
+
+  two-back : (eqb (length (settingsBody s)) 28 && ltb (hopperCount s) 2) ≡ false
+  unfolding several
+  two-back = rw by-length (go (ltb 1 (hopperCount s)) refl)
+    where
+      go : (b : Bool) → ltb 1 (hopperCount s) ≡ b → (b && ltb (hopperCount s) 2) ≡ false
+      go true e = le-ltb (hopperCount s) 2 (ltb-true 1 (hopperCount s) e)
+      go false e = refl
+
+counters-back : (h : ℕ) (c : Counters) (ys : List ℕ) → Fit (countersWidths h) (countersValues h c) → length (c .delivered) ≡ 4 → ((k : ℕ) → h ≤ k → getD (c .delivered) k 0 ≡ 0) → countersIn h (countersBody h c ++ ys) ≡ c
 unfolding countersIn countersBody
-counters-back c ys h = rw (fields-bytes countersWidths (countersValues c) ys h)
+counters-back h c ys f four spare =
+    rw (fields-bytes (countersWidths h) (countersValues h c) ys f)
+    (ap (λ (l : List ℕ). record { last = c .last; booked = c .booked; delivered = l }) (sym (filled 4 (λ k. getD (c .last ∷ c .booked ∷ tab h (λ k. getD (c .delivered) k 0)) (2 + k) 0) 0 (c .delivered) four (λ k _. sym (at k (decLe (suc k) h))))))
+  where
+    two : (k : ℕ) → getD (c .last ∷ c .booked ∷ tab h (λ k. getD (c .delivered) k 0)) (2 + k) 0 ≡ getD (tab h (λ k. getD (c .delivered) k 0)) k 0
+    two k = let e : 2 + k ≡ suc (suc k) = omega arith in ap (λ (n : ℕ). getD (c .last ∷ c .booked ∷ tab h (λ k. getD (c .delivered) k 0)) n 0) e
+
+    at : (k : ℕ) → Dec (k < h) → getD (c .last ∷ c .booked ∷ tab h (λ k. getD (c .delivered) k 0)) (2 + k) 0 ≡ getD (c .delivered) k 0
+    at k (yes l) = two k ∙ tab-at h (λ k. getD (c .delivered) k 0) k 0 l
+    at k (no l) = let q : h ≤ k = omega arith in two k ∙ tab-off h (λ k. getD (c .delivered) k 0) k 0 q ∙ sym (spare k q)
 
 canister-back : (c : Canister) (ys : List ℕ) → Fit canisterWidths (canisterValues c) → canisterIn (bytesOf canisterWidths (canisterValues c) ++ ys) ≡ c
 unfolding canisterIn
@@ -149,13 +209,27 @@ tiles-cut t n (x ∷ l) h k q = go (decLe (4 + length (tileBody t x)) n) (tiles-
         rw (cut-after 3 n (tileBody t x) (tilesBytes (suc t) l) p, tile-right t x ys s (h .0), tile-rest t x ys s (h .0)) (ih (omega arith))
     go (no p) ih = rw (cut-off 3 t n (tileBody t x) (tilesBytes (suc t) l) (tile-short t x [] (omega arith) (h .0)) (omega arith))
 
+three-none : {a b : Bool} {z : ℕ} (l : List (Bool × ℕ)) → a ≡ true → z ≡ 0 → b ≡ false → refusal l ≡ 0 → refusal ((not a, 11) ∷ (not (eqb z 0), 11) ∷ (b, 11) ∷ l) ≡ 0
+unfolding refusal
+three-none l p q r h = rw (p, q, r) h
+
 -- ---- the whole: record 1 with any bytes after it, then record 2
+size-short : (m : Model) → length (settingsBody (m .settings)) ≤ 28
+size-short m = subst (λ (n : ℕ). n ≤ 28) (sym (settings-size (m .settings))) (go (several (m .settings)))
+  where
+    go : (b : Bool) → cond {A = ℕ} b 28 20 ≤ 28
+    go true = omega arith
+    go false = omega arith
+
 module _ (m : Model) (g : Fits m) (ys : List ℕ) where
   short-1 : length (settingsBody (m .settings)) < 65536
-  short-1 = omega (arith, settings-size (m .settings))
+  short-1 = omega (arith, size-short m)
 
-  settings-read : settingsIn ((settingsBody (m .settings)) ++ ys) ≡ m .settings
-  settings-read = settings-back (m .settings) ys (g .settings)
+  settings-read : settingsIn (length (settingsBody (m .settings))) ((settingsBody (m .settings)) ++ ys) ≡ m .settings
+  settings-read = settings-back (m .settings) ys (g .settings) (g .single)
+
+  long-1 : lengthIn (recordOf 1 (settingsBody (m .settings)) ++ ys) ≡ length (settingsBody (m .settings))
+  long-1 = length-in 1 (settingsBody (m .settings)) ys short-1
 
   rest-1 : restIn (recordOf 1 (settingsBody (m .settings)) ++ ys) ≡ ys
   rest-1 = rest-in 1 (settingsBody (m .settings)) ys short-1
@@ -164,47 +238,50 @@ module _ (m : Model) (g : Fits m) (ys : List ℕ) where
   inner-1 = body-in 1 (settingsBody (m .settings)) ys short-1
 
   own-1 : refusal (settingsFaults (length (settingsBody (m .settings))) ((settingsBody (m .settings)) ++ ys)) ≡ 0
-  unfolding settingsFaults settingsRefusal refusal
-  own-1 = rw (eq-eqb (length (settingsBody (m .settings))) 20 (settings-size (m .settings)), zero-back (m .settings) ys (g .settings), settings-read) (g .passed)
+  unfolding settingsFaults
+  own-1 =
+      let s = m .settings in
+      three-none _ (right-length s ys (g .settings)) (zero-back s ys (g .settings)) (byte-back s ys (g .settings))
+      (rw settings-read (none-spliced s (eqb (length (settingsBody s)) 28 && ltb (hopperCount s) 2) (two-back s ys (g .settings)) (g .passed)))
 
   fault-1 : recordFault 1 0 (recordOf 1 (settingsBody (m .settings)) ++ ys) ≡ 0
   unfolding ownFaults
   fault-1 = rw (fault-in 1 (settingsBody (m .settings)) ys short-1 (omega arith)) own-1
 
-  fault-first : fault (recordOf 1 (settingsBody (m .settings)) ++ ys) ≡ orElse (recordFault 2 0 ys) (tilesFault (total (m .settings)) 0 (restIn ys))
+  fault-first : fault (recordOf 1 (settingsBody (m .settings)) ++ ys) ≡ orElse (recordFault 2 (hopperCount (m .settings)) ys) (tilesFault (total (m .settings)) 0 (restIn ys))
   unfolding fault
-  fault-first = rw (fault-1, rest-1, inner-1, settings-read)
+  fault-first = rw (fault-1, rest-1, long-1, inner-1, settings-read)
 
-  model-first : modelIn (recordOf 1 (settingsBody (m .settings)) ++ ys) ≡ record { settings = m .settings; counters = countersIn (bodyIn ys); tiles = tilesIn (total (m .settings)) (restIn ys) }
+  model-first : modelIn (recordOf 1 (settingsBody (m .settings)) ++ ys) ≡ record { settings = m .settings; counters = countersIn (hopperCount (m .settings)) (bodyIn ys); tiles = tilesIn (total (m .settings)) (restIn ys) }
   unfolding modelIn
-  model-first = rw (inner-1, rest-1, settings-read)
+  model-first = rw (rest-1, long-1, inner-1, settings-read)
 
-  short-2 : length (countersBody (m .counters)) < 65536
-  short-2 = omega (arith, counters-size (m .counters))
+  short-2 : length (countersBody (hopperCount (m .settings)) (m .counters)) < 65536
+  short-2 = omega (arith, counters-size (hopperCount (m .settings)) (m .counters), g .hoppers-few)
 
-  rest-2 : restIn (recordOf 2 (countersBody (m .counters)) ++ ys) ≡ ys
-  rest-2 = rest-in 2 (countersBody (m .counters)) ys short-2
+  rest-2 : restIn (recordOf 2 (countersBody (hopperCount (m .settings)) (m .counters)) ++ ys) ≡ ys
+  rest-2 = rest-in 2 (countersBody (hopperCount (m .settings)) (m .counters)) ys short-2
 
-  inner-2 : bodyIn (recordOf 2 (countersBody (m .counters)) ++ ys) ≡ (countersBody (m .counters)) ++ ys
-  inner-2 = body-in 2 (countersBody (m .counters)) ys short-2
+  inner-2 : bodyIn (recordOf 2 (countersBody (hopperCount (m .settings)) (m .counters)) ++ ys) ≡ (countersBody (hopperCount (m .settings)) (m .counters)) ++ ys
+  inner-2 = body-in 2 (countersBody (hopperCount (m .settings)) (m .counters)) ys short-2
 
-  fault-2 : recordFault 2 0 (recordOf 2 (countersBody (m .counters)) ++ ys) ≡ 0
+  fault-2 : recordFault 2 (hopperCount (m .settings)) (recordOf 2 (countersBody (hopperCount (m .settings)) (m .counters)) ++ ys) ≡ 0
   unfolding ownFaults countersFaults refusal
-  fault-2 = rw (fault-in 2 (countersBody (m .counters)) ys short-2 (omega arith), eq-eqb (length (countersBody (m .counters))) 12 (counters-size (m .counters)))
+  fault-2 = rw (fault-in 2 (countersBody (hopperCount (m .settings)) (m .counters)) ys short-2 (omega arith), eq-eqb (length (countersBody (hopperCount (m .settings)) (m .counters))) (8 + 4 * hopperCount (m .settings)) (counters-size (hopperCount (m .settings)) (m .counters)))
 
-  counters-read : countersIn ((countersBody (m .counters)) ++ ys) ≡ m .counters
-  counters-read = counters-back (m .counters) ys (g .counters)
+  counters-read : countersIn (hopperCount (m .settings)) ((countersBody (hopperCount (m .settings)) (m .counters)) ++ ys) ≡ m .counters
+  counters-read = counters-back (hopperCount (m .settings)) (m .counters) ys (g .counters) (g .four) (g .spare)
 
 -- ---- the whole: what is read where the tiles are due is ys
 module _ (m : Model) (g : Fits m) (ys : List ℕ) where
-  fault-second : fault (recordOf 1 (settingsBody (m .settings)) ++ (recordOf 2 (countersBody (m .counters)) ++ ys)) ≡ tilesFault (total (m .settings)) 0 ys
-  fault-second = fault-first m g (recordOf 2 (countersBody (m .counters)) ++ ys) ∙ rw (fault-2 m g ys, rest-2 m g ys)
+  fault-second : fault (recordOf 1 (settingsBody (m .settings)) ++ (recordOf 2 (countersBody (hopperCount (m .settings)) (m .counters)) ++ ys)) ≡ tilesFault (total (m .settings)) 0 ys
+  fault-second = fault-first m g (recordOf 2 (countersBody (hopperCount (m .settings)) (m .counters)) ++ ys) ∙ rw (fault-2 m g ys, rest-2 m g ys)
 
-  model-second : modelIn (recordOf 1 (settingsBody (m .settings)) ++ (recordOf 2 (countersBody (m .counters)) ++ ys)) ≡ record { settings = m .settings; counters = m .counters; tiles = tilesIn (total (m .settings)) ys }
-  model-second = model-first m g (recordOf 2 (countersBody (m .counters)) ++ ys) ∙ rw (inner-2 m g ys, counters-read m g ys, rest-2 m g ys)
+  model-second : modelIn (recordOf 1 (settingsBody (m .settings)) ++ (recordOf 2 (countersBody (hopperCount (m .settings)) (m .counters)) ++ ys)) ≡ record { settings = m .settings; counters = m .counters; tiles = tilesIn (total (m .settings)) ys }
+  model-second = model-first m g (recordOf 2 (countersBody (hopperCount (m .settings)) (m .counters)) ++ ys) ∙ rw (inner-2 m g ys, counters-read m g ys, rest-2 m g ys)
 
 module _ (m : Model) (g : Fits m) where
-  encode-append : (ys : List ℕ) → encode m ++ ys ≡ recordOf 1 (settingsBody (m .settings)) ++ (recordOf 2 (countersBody (m .counters)) ++ (tilesBytes 0 (m .tiles) ++ ys))
+  encode-append : (ys : List ℕ) → encode m ++ ys ≡ recordOf 1 (settingsBody (m .settings)) ++ (recordOf 2 (countersBody (hopperCount (m .settings)) (m .counters)) ++ (tilesBytes 0 (m .tiles) ++ ys))
   unfolding encode
   encode-append ys = simp append-assoc
 
@@ -224,50 +301,40 @@ module _ (m : Model) (g : Fits m) where
       let e : tilesIn (total (m .settings)) (tilesBytes 0 (m .tiles) ++ []) ≡ m .tiles = tiles-read [] .1 in
       ap modelIn (sym (append-nil (encode m)) ∙ encode-append []) ∙ model-second m g (tilesBytes 0 (m .tiles) ++ []) ∙ rw e
 
-  cut-first : (n : ℕ) (ys : List ℕ) → n < 24 → fault (take n (recordOf 1 (settingsBody (m .settings)) ++ ys)) ≡ 9
+  abbrev first : List ℕ
+  first = settingsBody (m .settings)
+
+  abbrev second : List ℕ
+  second = countersBody (hopperCount (m .settings)) (m .counters)
+
+  cut-first : (n : ℕ) (ys : List ℕ) → n < 4 + length first → fault (take n (recordOf 1 first ++ ys)) ≡ 9
   unfolding fault
-  cut-first n ys h =
-      let s : length (settingsBody (m .settings)) ≡ 20 = settings-size (m .settings) in
-      rw (cut-off 1 0 n (settingsBody (m .settings)) ys (omega arith) (omega arith))
+  cut-first n ys h = rw (cut-off 1 0 n first ys (omega (arith, size-short m)) h)
 
-  cut-second : (n : ℕ) (ys : List ℕ) → n < 16 → recordFault 2 0 (take n (recordOf 2 (countersBody (m .counters)) ++ ys)) ≡ 9
-  cut-second n ys h =
-      let s : length (countersBody (m .counters)) ≡ 12 = counters-size (m .counters) in
-      cut-off 2 0 n (countersBody (m .counters)) ys (omega arith) (omega arith)
-
-  cut-later : (n : ℕ) (ys : List ℕ) → 16 ≤ n → take n (recordOf 2 (countersBody (m .counters)) ++ ys) ≡ recordOf 2 (countersBody (m .counters)) ++ take (n - 16) ys
-  cut-later n ys h =
-      let s : length (countersBody (m .counters)) ≡ 12 = counters-size (m .counters) in
-      let e : n - (4 + length (countersBody (m .counters))) ≡ n - 16 = omega arith in
-      cut-after 2 n (countersBody (m .counters)) ys (omega arith) ∙ rw e
-
-  cut-early : (n : ℕ) (ys : List ℕ) → 24 ≤ n → take n (recordOf 1 (settingsBody (m .settings)) ++ ys) ≡ recordOf 1 (settingsBody (m .settings)) ++ take (n - 24) ys
-  cut-early n ys h =
-      let s : length (settingsBody (m .settings)) ≡ 20 = settings-size (m .settings) in
-      let e : n - (4 + length (settingsBody (m .settings))) ≡ n - 24 = omega arith in
-      cut-after 1 n (settingsBody (m .settings)) ys (omega arith) ∙ rw e
+  cut-second : (n : ℕ) (ys : List ℕ) → n < 4 + length second → recordFault 2 (hopperCount (m .settings)) (take n (recordOf 2 second ++ ys)) ≡ 9
+  cut-second n ys h = cut-off 2 (hopperCount (m .settings)) n second ys (omega (arith, counters-size (hopperCount (m .settings)) (m .counters), g .hoppers-few)) h
 
   -- a proper prefix is 9
   pub fault-cut : (n : ℕ) → n < length (encode m) → fault (take n (encode m)) ≡ 9
   unfolding encode
-  fault-cut n h = go (decLe 24 n) (decLe 40 n)
+  fault-cut n h = go (decLe (4 + length first) n) (decLe (4 + length second) (n - (4 + length first)))
     where
-      go : Dec (24 ≤ n) → Dec (40 ≤ n) → fault (take n (recordOf 1 (settingsBody (m .settings)) ++ (recordOf 2 (countersBody (m .counters)) ++ tilesBytes 0 (m .tiles)))) ≡ 9
-      go (no p) q = cut-first n (recordOf 2 (countersBody (m .counters)) ++ tilesBytes 0 (m .tiles)) (omega arith)
+      go : Dec (4 + length first ≤ n) → Dec (4 + length second ≤ n - (4 + length first)) → fault (take n (recordOf 1 first ++ (recordOf 2 second ++ tilesBytes 0 (m .tiles)))) ≡ 9
+      go (no p) q = cut-first n (recordOf 2 second ++ tilesBytes 0 (m .tiles)) (omega arith)
       go (yes p) (no q) =
           rw (
-            cut-early n (recordOf 2 (countersBody (m .counters)) ++ tilesBytes 0 (m .tiles)) p,
-            fault-first m g (take (n - 24) (recordOf 2 (countersBody (m .counters)) ++ tilesBytes 0 (m .tiles))),
-            cut-second (n - 24) (tilesBytes 0 (m .tiles)) (omega arith),
+            cut-after 1 n first (recordOf 2 second ++ tilesBytes 0 (m .tiles)) p,
+            fault-first m g (take (n - (4 + length first)) (recordOf 2 second ++ tilesBytes 0 (m .tiles))),
+            cut-second (n - (4 + length first)) (tilesBytes 0 (m .tiles)) (omega arith),
           )
       go (yes p) (yes q) =
-          let e : length (recordOf 1 (settingsBody (m .settings)) ++ (recordOf 2 (countersBody (m .counters)) ++ tilesBytes 0 (m .tiles))) ≡ 40 + length (tilesBytes 0 (m .tiles)) =
-          rw (length-append, record-length 1 (settingsBody (m .settings)), settings-size (m .settings), length-append, record-length 2 (countersBody (m .counters)), counters-size (m .counters)) (omega arith) in
-          let k : n - 24 - 16 < length (tilesBytes 0 (m .tiles)) = omega arith in
+          let e : length (recordOf 1 first ++ (recordOf 2 second ++ tilesBytes 0 (m .tiles))) ≡ 4 + length first + (4 + length second + length (tilesBytes 0 (m .tiles))) =
+          rw (length-append, record-length 1 first, length-append, record-length 2 second) in
+          let k : n - (4 + length first) - (4 + length second) < length (tilesBytes 0 (m .tiles)) = omega arith in
           rw (
-            cut-early n (recordOf 2 (countersBody (m .counters)) ++ tilesBytes 0 (m .tiles)) p,
-            cut-later (n - 24) (tilesBytes 0 (m .tiles)) (omega arith),
-            fault-second m g (take (n - 24 - 16) (tilesBytes 0 (m .tiles))),
+            cut-after 1 n first (recordOf 2 second ++ tilesBytes 0 (m .tiles)) p,
+            cut-after 2 (n - (4 + length first)) second (tilesBytes 0 (m .tiles)) q,
+            fault-second m g (take (n - (4 + length first) - (4 + length second)) (tilesBytes 0 (m .tiles))),
             ← g .many,
           )
-          (tiles-cut 0 (n - 24 - 16) (m .tiles) (g .each) (omega (arith, g .few)) k)
+          (tiles-cut 0 (n - (4 + length first) - (4 + length second)) (m .tiles) (g .each) (omega (arith, g .few)) k)

@@ -1,13 +1,15 @@
 -- A sound floor fits the image: every value its bytes.
-use mathlib.Core.Path.{_≡_, refl}
+use mathlib.Core.Path.{_≡_}
+use mathlib.Core.Bool.{Bool, true, false, cond}
 use mathlib.Core.Logic.{_⊎_, inl, inr}
 use mathlib.Core.List.{List, [], _∷_}
-use Prim.Native.Nat.{ℕ, suc, _^_, _≤_, _<_}
+use Prim.Native.Nat.{ℕ, zero, suc, _^_, _≤_, _<_}
 use native.Mathlib.Omega.{arith}
 use native.Mathlib.Nat.{lt-of-lt-of-le}
 use lib.Pow.{pow-mono}
-use lib.ListN.{length, getD}
-use borrow.Author.Tests.{eq-eqb, eqb-true}
+use lib.ListN.{length, getD, replicate}
+use borrow.Author.Tests.{eqb-true}
+use Rattle.laws.specs.Define.{tab}
 use Rattle.laws.specs.Every.{All}
 use Rattle.laws.specs.Lists.{all-imp, all-both, all-unmap, cat-all}
 use Rattle.wire.specs.Bytes.{Fit}
@@ -15,8 +17,10 @@ use Rattle.floor.specs.Settings.{total, isHopper, settingsPass, settingsRefusal
 use Rattle.floor.specs.Model.{Model, noTile, tileOf, membersOf, numbers, numbersOn}
 use Rattle.floor.proofs.Sound.{Sound, Inside}
 use Rattle.floor.proofs.Well.{settings-fact, faces-le}
+use Rattle.floor.proofs.First.{part-le}
 use Rattle.floor.proofs.Capacity.{sound-small}
-use Rattle.image.specs.Image.{settingsWidths, settingsValues, countersWidths, countersValues, canisterWidths, canisterValues, encode}
+use Rattle.image.specs.Image.{hopperCount, several, settingsWidths, settingsValues, countersWidths, countersValues, canisterWidths, canisterValues, encode}
+use Rattle.image.proofs.Hoppers.{single, lowest-small}
 use Rattle.image.proofs.Sizes.{encode-most}
 use Rattle.image.proofs.Back.{TileFits, Fits}
 
@@ -33,8 +37,13 @@ distance-small : (x n : ℕ) → n ≤ 64 → (x < n) ⊎ (x ≡ 255) → x < 25
 distance-small x n h (inl e) = omega arith
 distance-small x n h (inr e) = omega arith
 
+row : (h : ℕ) (f : ℕ → ℕ) → ((k : ℕ) → f k < 2 ^ 32) → Fit (replicate h 4) (tab h f)
+unfolding tab
+row zero f p = tt
+row (suc h) f p = (p 0, row h (λ k. f (suc k)) (λ k. p (suc k)))
+
 module _ (m : Model) (S : Sound m) where
-  settings-fit : Fit settingsWidths (settingsValues (m .settings))
+  settings-fit : Fit (settingsWidths (several (m .settings))) (settingsValues (m .settings))
   settings-fit =
       let M = S .measured in
       let sources : m .settings .sources < 2 ^ 64 = lt-of-lt-of-le (M .sources-on) (pow-mono (M .few)) in (
@@ -42,17 +51,24 @@ module _ (m : Model) (S : Sound m) where
         (
           omega (arith, M .rows-few),
           (
-            omega (arith, M .hopper-on, M .few),
+            omega (arith, lowest-small (m .settings) M),
             (
               omega arith,
-              (omega (arith, M .narrow), (omega (arith, M .short, M .narrow), (omega (arith, M .short, M .narrow), (omega (arith, M .slow, M .short, M .narrow), (sources, tt))))),
+              (omega (arith, M .narrow), (omega (arith, M .short, M .narrow), (omega (arith, M .short, M .narrow), (omega (arith, M .slow, M .short, M .narrow), (sources, set (several (m .settings))))))),
             ),
           ),
         ),
       )
+    where
+      set : (b : Bool) → Fit (cond b (8 ∷ []) []) (cond b (m .settings .hoppers ∷ []) [])
+      set true = (lt-of-lt-of-le (S .measured .hoppers-on) (pow-mono (S .measured .few)), tt)
+      set false = tt
 
-  counters-fit : Fit countersWidths (countersValues (m .counters))
-  counters-fit = (S .last-fits, (omega (arith, S .booked-last, S .last-fits), (omega (arith, S .counted, S .booked-last, S .last-fits), tt)))
+  each-fits : (k : ℕ) → getD (m .counters .delivered) k 0 < 2 ^ 32
+  each-fits k = omega (arith, part-le (m .counters .delivered) k, S .counted, S .booked-last, S .last-fits)
+
+  counters-fit : Fit (countersWidths (hopperCount (m .settings))) (countersValues (hopperCount (m .settings)) (m .counters))
+  counters-fit = (S .last-fits, (omega (arith, S .booked-last, S .last-fits), row (hopperCount (m .settings)) (λ k. getD (m .counters .delivered) k 0) each-fits))
 
   canisters-fit : (t : ℕ) → t < total (m .settings) → All (λ c. Fit canisterWidths (canisterValues c)) (membersOf m t)
   unfolding numbersOn
@@ -97,14 +113,14 @@ module _ (m : Model) (S : Sound m) where
     many = S .len;
     few = omega (arith, S .len, S .measured .few);
     passed = passed;
+    hoppers-few = S .measured .hoppers-few;
+    single = single (m .settings) (S .measured);
+    four = S .four;
+    spare = S .spare;
   }
-
-  hopper-empty : membersOf m (m .settings .hopper) ≡ []
-  unfolding isHopper
-  hopper-empty = S .hopper-empty (m .settings .hopper) (eq-eqb (m .settings .hopper) (m .settings .hopper) refl)
 
   -- "The longest image is 8,748 bytes."
   pub sound-most : length (encode m) ≤ 8748
+  unfolding isHopper
   sound-most =
-      encode-most m (m .settings .hopper) (omega (arith, S .len, S .measured .few)) (omega (arith, S .len, S .measured .hopper-on))
-      (all-places (λ x. length (x .members) ≤ 16) (m .tiles) noTile (λ t l. sound-small m S t)) hopper-empty
+      encode-most m (omega (arith, S .len, S .measured .few)) (S .len) (S .measured .hoppers-some) (sound-small m S) (S .hopper-empty)

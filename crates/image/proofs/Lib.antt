@@ -1,3 +1,4 @@
+pub mod Hoppers
 pub mod Records
 pub mod Sizes
 pub mod Again
@@ -5,4 +6,5 @@ pub mod Back
 pub mod Fitting
 pub mod Read
 pub mod Promises
+pub mod Before
 pub mod Trials

@@ -1,36 +1,25 @@
 -- What holds of the floor that is read from an image without a fault, before 12 is asked.
 use mathlib.Core.Path.{_≡_, refl, ap}
-use mathlib.Core.Bool.{true, not}
+use mathlib.Core.Bool.{true}
 use mathlib.Core.List.{List}
 use Prim.Native.Nat.{ℕ, zero, suc, _≤_}
 use native.Mathlib.Omega.{arith}
-use lib.Dec.{eqb}
-use borrow.Author.Tests.{eq-eqb}
 use lib.ListN.{length, drop, getD}
-use Rattle.laws.specs.Define.{refusal}
-use Rattle.laws.specs.Tests.{test-none, and-yes}
+use Rattle.laws.specs.Tests.{and-yes}
 use Rattle.wire.specs.Bytes.{field}
-use Rattle.floor.specs.Settings.{total, settingsTests, settingsRefusal, settingsPass}
+use Rattle.floor.specs.Settings.{total}
 use Rattle.floor.specs.Model.{noTile, membersOf}
 use Rattle.floor.specs.Memory.{view, pack, fits}
 use Rattle.floor.specs.Well.{sound, wellFormed}
 use Rattle.floor.proofs.Sound.{Measured}
-use Rattle.floor.proofs.Well.{settings-fact}
 use Rattle.floor.proofs.Pack.{view-pack, fits-pack}
-use Rattle.image.specs.Image.{settingsWidths, tileWidths, lengthIn, bodyIn, restIn, settingsIn, tileIn, tilesIn, modelIn, settingsFaults, ownFaults, recordFault, tilesFault, fault}
+use Rattle.image.specs.Image.{hopperCount, tileWidths, lengthIn, bodyIn, restIn, settingsIn, tileIn, tilesIn, modelIn, recordFault, tilesFault, fault}
 use Rattle.image.proofs.Records.{orElse-none, Whole, whole}
-use Rattle.image.proofs.Again.{canisters-length, tile-good}
+use Rattle.image.proofs.Again.{canisters-length, tile-good, settings-good}
 
 -- ---- the settings pass 1 to 3
-settings-passed : (xs : List ℕ) → Whole 1 0 xs → settingsPass (settingsIn (bodyIn xs)) ≡ true
-unfolding ownFaults settingsFaults settingsPass settingsRefusal
-settings-passed xs w =
-    let o1 = test-none (not (eqb (lengthIn xs) 20)) 11 _ (omega arith) (w .own-none) in
-    let o2 = test-none (not (eqb (field settingsWidths 3 (bodyIn xs)) 0)) 11 _ (omega arith) (o1 .1) in
-    eq-eqb (refusal (settingsTests (settingsIn (bodyIn xs)))) 0 (o2 .1)
-
-pub first-measured : (xs : List ℕ) → recordFault 1 0 xs ≡ 0 → Measured (settingsIn (bodyIn xs))
-first-measured xs h = settings-fact (settingsIn (bodyIn xs)) .0 (settings-passed xs (whole 1 0 xs h))
+pub first-measured : (xs : List ℕ) → recordFault 1 0 xs ≡ 0 → Measured (settingsIn (lengthIn xs) (bodyIn xs))
+first-measured xs h = settings-good xs (whole 1 0 xs h) .measured
 
 -- ---- the tiles
 pub tiles-length : (n : ℕ) (xs : List ℕ) → length (tilesIn n xs) ≡ n
@@ -52,13 +41,13 @@ tiles-small (suc n) t xs h (suc k) = tiles-small n (suc t) (restIn xs) (orElse-n
 
 -- ---- the whole
 module _ (xs : List ℕ) (z : fault xs ≡ 0) where
-  parts : (recordFault 1 0 xs ≡ 0) × ((recordFault 2 0 (restIn xs) ≡ 0) × (tilesFault (total (settingsIn (bodyIn xs))) 0 (restIn (restIn xs)) ≡ 0))
+  parts : (recordFault 1 0 xs ≡ 0) × ((recordFault 2 (hopperCount (settingsIn (lengthIn xs) (bodyIn xs))) (restIn xs) ≡ 0) × (tilesFault (total (settingsIn (lengthIn xs) (bodyIn xs))) 0 (restIn (restIn xs)) ≡ 0))
   unfolding fault
-  parts = let o = orElse-none (recordFault 1 0 xs) _ z in (o .0, orElse-none (recordFault 2 0 (restIn xs)) _ (o .1))
+  parts = let o = orElse-none (recordFault 1 0 xs) _ z in (o .0, orElse-none (recordFault 2 (hopperCount (settingsIn (lengthIn xs) (bodyIn xs))) (restIn xs)) _ (o .1))
 
   read-length : length (modelIn xs .tiles) ≡ total (modelIn xs .settings)
   unfolding modelIn
-  read-length = tiles-length (total (settingsIn (bodyIn xs))) (restIn (restIn xs))
+  read-length = tiles-length (total (settingsIn (lengthIn xs) (bodyIn xs))) (restIn (restIn xs))
 
   read-few : total (modelIn xs .settings) ≤ 64
   unfolding modelIn
@@ -66,7 +55,7 @@ module _ (xs : List ℕ) (z : fault xs ≡ 0) where
 
   read-small : (t : ℕ) → length (membersOf (modelIn xs) t) ≤ 16
   unfolding modelIn
-  read-small t = tiles-small (total (settingsIn (bodyIn xs))) 0 (restIn (restIn xs)) (parts .1 .1) t
+  read-small t = tiles-small (total (settingsIn (lengthIn xs) (bodyIn xs))) 0 (restIn (restIn xs)) (parts .1 .1) t
 
   pub view-read : view (pack (modelIn xs)) ≡ modelIn xs
   view-read = view-pack (modelIn xs) read-length read-few (λ t _. read-small t)

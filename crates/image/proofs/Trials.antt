@@ -2,15 +2,16 @@
 use mathlib.Core.Path.{_≡_, refl}
 use mathlib.Core.Bool.{Bool, true}
 use mathlib.Core.List.{List, [], _∷_, _++_}
-use Prim.Native.Nat.{ℕ}
+use Prim.Native.Nat.{ℕ, _+_}
 use lib.Dec.{eqb}
 use lib.ListN.{length, set, take, drop, replicate}
 use Rattle.laws.specs.Define.{allOf}
 use Rattle.wire.specs.Bytes.{le, bytes, fieldsOf, bytesOf}
 use Rattle.floor.specs.declared.Floor.{Floor}
 use Rattle.floor.specs.Memory.{zeroFloor, view}
-use Rattle.floor.proofs.Calling.{fresh, book, rounds, same, sameFloor, holds}
-use Rattle.image.specs.Image.{recordOf, settingsBody, countersBody, canistersBody, tileBody, tilesBytes, encode, settingsIn, countersIn, canisterIn, canistersIn, tileIn, tilesIn, modelIn, settingsFaults, countersFaults, tileFaults, endFaults, ownFaults, recordFault, endFault, tilesFault, fault, answerBy, recordsAnswer, loadRefusal, loadAnswer, writeRefusal, writeAnswer, written}
+use Rattle.floor.specs.Calls.{freshAnswer}
+use Rattle.floor.proofs.Calling.{got, several, fresh, book, rounds, same, sameFloor, holds}
+use Rattle.image.specs.Image.{lowest, oneTile, several as isSeveral, byteWrong, recordOf, settingsBody, countersBody, canistersBody, tileBody, tilesBytes, encode, settingsIn, countersIn, canisterIn, canistersIn, tileIn, tilesIn, modelIn, settingsFaults, countersFaults, tileFaults, endFaults, ownFaults, recordFault, endFault, tilesFault, fault, answerBy, recordsAnswer, loadRefusal, loadAnswer, writeRefusal, writeAnswer, written}
 
 -- ---- the floors
 -- "a fresh floor, H 1, U 100, l 30, r 10, v 20, every tile but the hopper a fill tile"; W 2, hopper 1
@@ -24,6 +25,10 @@ one = book 5 70 7 0 blank
 -- W 3, hopper 0, after a round in which tile 1 delivered 4 and took in 9: last 9, booked 2, delivered 1; tile 1 has arrow west, turn east, canister 9 at (70, 5)
 unfoldable moved : Floor
 moved = rounds 1 (book 9 13 5 2 (book 4 0 7 1 (rounds 2 (fresh 3 1 0))))
+
+-- W 4, hoppers 0 and 3, after a round: 4 and 8 delivered to hopper 0, 10 to hopper 3, and 9 on tile 2 at (33, 5)
+unfoldable pair : Floor
+pair = rounds 1 (book 10 70 50 2 (book 9 13 5 2 (book 8 0 40 1 (book 4 0 0 1 (got (freshAnswer (several 4 1 9 20)))))))
 
 -- ---- the bytes
 unfoldable good : List ℕ
@@ -46,6 +51,29 @@ movedBytes =
     ∷ 14 ∷ 0 ∷ 3 ∷ 0 ∷ 1 ∷ 1 ∷ 1 ∷ 1 ∷ 4 ∷ 1 ∷ 9 ∷ 0 ∷ 0 ∷ 0 ∷ 70 ∷ 0 ∷ 5 ∷ 0
     ∷ 6 ∷ 0 ∷ 3 ∷ 0 ∷ 2 ∷ 1 ∷ 2 ∷ 1 ∷ 0 ∷ 0
     ∷ 0 ∷ 0 ∷ 4 ∷ 0 ∷ []
+
+unfoldable pairBytes : List ℕ
+pairBytes =
+    28 ∷ 0 ∷ 1 ∷ 0
+    ∷ 4 ∷ 1 ∷ 0 ∷ 0 ∷ 100 ∷ 0 ∷ 30 ∷ 0 ∷ 10 ∷ 0 ∷ 20 ∷ 0 ∷ 6 ∷ 0 ∷ 0 ∷ 0 ∷ 0 ∷ 0 ∷ 0 ∷ 0 ∷ 9 ∷ 0 ∷ 0 ∷ 0 ∷ 0 ∷ 0 ∷ 0 ∷ 0
+    ∷ 16 ∷ 0 ∷ 2 ∷ 0
+    ∷ 10 ∷ 0 ∷ 0 ∷ 0 ∷ 4 ∷ 0 ∷ 0 ∷ 0 ∷ 2 ∷ 0 ∷ 0 ∷ 0 ∷ 1 ∷ 0 ∷ 0 ∷ 0
+    ∷ 6 ∷ 0 ∷ 3 ∷ 0 ∷ 0 ∷ 1 ∷ 0 ∷ 0 ∷ 4 ∷ 0
+    ∷ 6 ∷ 0 ∷ 3 ∷ 0 ∷ 1 ∷ 1 ∷ 1 ∷ 1 ∷ 0 ∷ 0
+    ∷ 14 ∷ 0 ∷ 3 ∷ 0 ∷ 2 ∷ 1 ∷ 1 ∷ 4 ∷ 0 ∷ 1 ∷ 9 ∷ 0 ∷ 0 ∷ 0 ∷ 33 ∷ 0 ∷ 5 ∷ 0
+    ∷ 6 ∷ 0 ∷ 3 ∷ 0 ∷ 3 ∷ 1 ∷ 0 ∷ 0 ∷ 1 ∷ 0
+    ∷ 0 ∷ 0 ∷ 4 ∷ 0 ∷ []
+
+-- with hopper byte h, and byte k of the hopper set made x; on 4 × 4 too, without fill tiles
+unfoldable hoppers : ℕ → ℕ → ℕ → List ℕ
+hoppers h k x = set (set pairBytes 6 h) (24 + k) x
+
+unfoldable larger : ℕ → ℕ → ℕ → List ℕ
+larger h k x = set (set (hoppers h k x) 5 4) 16 0
+
+-- with a second record of n bytes, zeros
+unfoldable counters : ℕ → List ℕ
+counters n = take 32 pairBytes ++ (n ∷ 0 ∷ 2 ∷ 0 ∷ replicate n 0) ++ drop 52 pairBytes
 
 -- byte k made x
 unfoldable with : ℕ → ℕ → List ℕ
@@ -70,6 +98,36 @@ table =
     ∷ same (encode (view moved)) movedBytes
     ∷ shows movedBytes 0
     ∷ sameFloor (loadAnswer movedBytes .floor) moved
+    -- the same with two hoppers
+    ∷ same (encode (view pair)) pairBytes
+    ∷ shows pairBytes 0
+    ∷ sameFloor (loadAnswer pairBytes .floor) pair
+    ∷ shows (take 31 pairBytes) 9
+    ∷ shows (take 103 pairBytes) 9
+    ∷ shows (pairBytes ++ (0 ∷ [])) 9
+    -- 11: a length between the two, the zero byte, the hopper byte not the lowest of the set, on the floor or not
+    ∷ shows (set pairBytes 0 24) 11
+    ∷ shows (set pairBytes 7 1) 11
+    ∷ shows (hoppers 3 0 9) 11
+    ∷ shows (set (hoppers 3 0 9) 4 9) 11
+    ∷ shows (hoppers 0 0 8) 11
+    ∷ shows (set (larger 7 0 0) 29 1) 11
+    -- 2: no hopper, whatever the byte; one; one and another off the floor; five
+    ∷ shows (hoppers 77 0 0) 2
+    ∷ shows (set (hoppers 77 0 0) 4 9) 1
+    ∷ shows (hoppers 3 0 8) 2
+    ∷ shows (hoppers 0 0 17) 2
+    ∷ shows (set (larger 40 0 0) 29 1) 2
+    ∷ shows (larger 0 0 31) 2
+    -- 2: a fill bit for the second hopper; 1 before 2, 2 before 3
+    ∷ shows (set pairBytes 16 14) 2
+    ∷ shows (set (hoppers 3 0 8) 4 9) 1
+    ∷ shows (set (hoppers 3 0 8) 8 1) 2
+    ∷ shows (set pairBytes 8 1) 3
+    -- 11: a counter too few or too many, with two hoppers and with one
+    ∷ shows (counters 12) 11
+    ∷ shows (counters 20) 11
+    ∷ shows (take 24 good ++ (16 ∷ 0 ∷ 2 ∷ 0 ∷ replicate 16 0) ++ drop 40 good) 11
     -- 9: the end within a record, the end record missing, a byte left over, a length beyond the end
     ∷ shows (take 3 good) 9
     ∷ shows (take 63 good) 9
@@ -120,7 +178,7 @@ table =
     ∷ []
 
 trials : allOf (λ b. b) table ≡ true
-unfolding holds blank one moved good movedBytes with shows table le bytes fieldsOf bytesOf
-    recordOf settingsBody countersBody canistersBody tileBody tilesBytes encode settingsIn countersIn canisterIn canistersIn tileIn tilesIn modelIn
+unfolding holds blank one moved pair good movedBytes pairBytes hoppers larger counters with shows table le bytes fieldsOf bytesOf
+    lowest oneTile isSeveral byteWrong recordOf settingsBody countersBody canistersBody tileBody tilesBytes encode settingsIn countersIn canisterIn canistersIn tileIn tilesIn modelIn
     settingsFaults countersFaults tileFaults endFaults ownFaults recordFault endFault tilesFault fault answerBy recordsAnswer loadRefusal loadAnswer writeRefusal writeAnswer written
 trials = refl

@@ -1,17 +1,17 @@
 -- The image of a floor: what is written, what is read, and the refusals of loading and of writing.
-use mathlib.Core.Bool.{Bool, cond, not}
+use mathlib.Core.Bool.{Bool, true, cond, not, _&&_, _||_}
 use mathlib.Core.List.{List, [], _∷_, _++_}
-use Prim.Native.Nat.{ℕ, zero, suc, _+_, _*_}
+use Prim.Native.Nat.{ℕ, zero, suc, _+_, _*_, _^_}
 use lib.Dec.{ltb, eqb}
-use lib.ListN.{length, drop}
-use Rattle.laws.specs.Define.{refusal}
+use lib.ListN.{length, getD, drop, replicate}
+use Rattle.laws.specs.Define.{tab, bitsBelow, refusal}
 use Rattle.wire.specs.Bytes.{le, bytes, bytesOf, field}
 use Rattle.floor.specs.declared.Canister.{Canister}
 use Rattle.floor.specs.declared.Settings.{Settings}
 use Rattle.floor.specs.declared.Counters.{Counters}
 use Rattle.floor.specs.declared.Floor.{Floor}
 use Rattle.floor.specs.declared.Answer.{Answer}
-use Rattle.floor.specs.Settings.{total, settingsTests}
+use Rattle.floor.specs.Settings.{total, hoppersOf, sizeTests, setTests, measureTests}
 use Rattle.floor.specs.Model.{TileState, Model}
 use Rattle.floor.specs.Memory.{view, pack, zeroFloor}
 use Rattle.floor.specs.Well.{sound}
@@ -19,19 +19,37 @@ use Rattle.floor.specs.Calls.{refusalOf}
 use Rattle.image.specs.declared.Written.{Written}
 
 -- ---- the fields of each record: the bytes of each, and its value
--- "Kind 1, 20 bytes: W, H, hopper, a zero byte; U, l, r, v (2 each); fill set (8)."
-abbrev pub settingsWidths : List ℕ
-settingsWidths = 1 ∷ 1 ∷ 1 ∷ 1 ∷ 2 ∷ 2 ∷ 2 ∷ 2 ∷ 8 ∷ []
+-- "Kind 1, 20 bytes: W, H, hopper, a zero byte; U, l, r, v (2 each); fill set (8)." "With more, kind 1 has 28 bytes, the hopper set last"
+abbrev pub settingsWidths : Bool → List ℕ
+settingsWidths more = 1 ∷ 1 ∷ 1 ∷ 1 ∷ 2 ∷ 2 ∷ 2 ∷ 2 ∷ 8 ∷ cond more (8 ∷ []) []
 
+-- the lowest tile of a set, 64 where it is empty
+unfoldable pub lowest : ℕ → ℕ
+lowest x = getD (bitsBelow x 64) 0 64
+
+-- the set of one tile; a byte that is no tile's number gives the empty set
+unfoldable pub oneTile : ℕ → ℕ
+oneTile h = cond (ltb h 64) (2 ^ h) 0
+
+-- how many hoppers, and whether there are several
+abbrev pub hopperCount : Settings → ℕ
+hopperCount s = length (hoppersOf s)
+
+unfoldable pub several : Settings → Bool
+several s = ltb 1 (hopperCount s)
+
+-- "the hopper byte the lowest of them"
 abbrev pub settingsValues : Settings → List ℕ
-settingsValues s = s .columns ∷ s .rows ∷ s .hopper ∷ 0 ∷ s .width ∷ s .length ∷ s .gap ∷ s .travel ∷ s .sources ∷ []
+settingsValues s =
+    s .columns ∷ s .rows ∷ lowest (s .hoppers) ∷ 0 ∷ s .width ∷ s .length ∷ s .gap ∷ s .travel ∷ s .sources
+    ∷ cond (several s) (s .hoppers ∷ []) []
 
--- "Kind 2, 12 bytes: last, booked, delivered."
-abbrev pub countersWidths : List ℕ
-countersWidths = 4 ∷ 4 ∷ 4 ∷ []
+-- "Kind 2, 12 bytes: last, booked, delivered."; "one delivered counter for each hopper in tile order": h hoppers
+abbrev pub countersWidths : ℕ → List ℕ
+countersWidths h = 4 ∷ 4 ∷ replicate h 4
 
-abbrev pub countersValues : Counters → List ℕ
-countersValues c = c .last ∷ c .booked ∷ c .delivered ∷ []
+abbrev pub countersValues : ℕ → Counters → List ℕ
+countersValues h c = c .last ∷ c .booked ∷ tab h (λ k. getD (c .delivered) k 0)
 
 -- "Kind 3 …: tile, running (1 or 0), distance (255 none), arrow, turn, n (at most 16)"
 abbrev pub tileWidths : List ℕ
@@ -53,10 +71,10 @@ unfoldable pub recordOf : ℕ → List ℕ → List ℕ
 recordOf kind body = bytes 2 (length body) ++ (bytes 2 kind ++ body)
 
 unfoldable pub settingsBody : Settings → List ℕ
-settingsBody s = bytesOf settingsWidths (settingsValues s)
+settingsBody s = bytesOf (settingsWidths (several s)) (settingsValues s)
 
-unfoldable pub countersBody : Counters → List ℕ
-countersBody c = bytesOf countersWidths (countersValues c)
+unfoldable pub countersBody : ℕ → Counters → List ℕ
+countersBody h c = bytesOf (countersWidths h) (countersValues h c)
 
 unfoldable pub canistersBody : List Canister → List ℕ
 canistersBody [] = []
@@ -72,7 +90,7 @@ tilesBytes t [] = recordOf 4 []
 tilesBytes t (x ∷ l) = recordOf 3 (tileBody t x) ++ tilesBytes (suc t) l
 
 unfoldable pub encode : Model → List ℕ
-encode m = recordOf 1 (settingsBody (m .settings)) ++ (recordOf 2 (countersBody (m .counters)) ++ tilesBytes 0 (m .tiles))
+encode m = recordOf 1 (settingsBody (m .settings)) ++ (recordOf 2 (countersBody (hopperCount (m .settings)) (m .counters)) ++ tilesBytes 0 (m .tiles))
 
 -- ---- reading: the record at the front of the bytes that are left, and what is left after it
 abbrev pub lengthIn : List ℕ → ℕ
@@ -87,14 +105,17 @@ bodyIn xs = drop 4 xs
 abbrev pub restIn : List ℕ → List ℕ
 restIn xs = drop (4 + lengthIn xs) xs
 
--- the values of a body b; each byte is kept as it stands, whatever it means
-unfoldable pub settingsIn : List ℕ → Settings
-settingsIn b =
-    let at : ℕ → ℕ = λ k. field settingsWidths k b in
-    record { columns = at 0; rows = at 1; hopper = at 2; sources = at 8; width = at 4; length = at 5; gap = at 6; travel = at 7 }
+-- the values of a body b of n bytes; each byte is kept as it stands, whatever it means
+unfoldable pub settingsIn : ℕ → List ℕ → Settings
+settingsIn n b =
+    let at : ℕ → ℕ = λ k. field (settingsWidths (eqb n 28)) k b in
+    record { columns = at 0; rows = at 1; hoppers = cond (eqb n 28) (at 9) (oneTile (at 2)); sources = at 8; width = at 4; length = at 5; gap = at 6; travel = at 7 }
 
-unfoldable pub countersIn : List ℕ → Counters
-countersIn b = record { last = field countersWidths 0 b; booked = field countersWidths 1 b; delivered = field countersWidths 2 b }
+-- of h counters; those beyond are zero
+unfoldable pub countersIn : ℕ → List ℕ → Counters
+countersIn h b =
+    let at : ℕ → ℕ = λ k. field (countersWidths h) k b in
+    record { last = at 0; booked = at 1; delivered = tab 4 (λ k. at (2 + k)) }
 
 unfoldable pub canisterIn : List ℕ → Canister
 canisterIn b = record { number = field canisterWidths 0 b; a = field canisterWidths 1 b; b = field canisterWidths 2 b }
@@ -115,16 +136,26 @@ tilesIn (suc n) xs = tileIn (bodyIn xs) ∷ tilesIn n (restIn xs)
 -- the floor that the bytes hold
 unfoldable pub modelIn : List ℕ → Model
 modelIn xs =
-    let s = settingsIn (bodyIn xs) in
-    record { settings = s; counters = countersIn (bodyIn (restIn xs)); tiles = tilesIn (total s) (restIn (restIn xs)) }
+    let s = settingsIn (lengthIn xs) (bodyIn xs) in
+    record { settings = s; counters = countersIn (hopperCount s) (bodyIn (restIn xs)); tiles = tilesIn (total s) (restIn (restIn xs)) }
 
 -- ---- the refusals of a record's own: n is the length of its body b, t the tile that is due
--- "11. Wrong record length, or a fixed byte wrong", "then 1 to 3"
-unfoldable pub settingsFaults : ℕ → List ℕ → List (Bool × ℕ)
-settingsFaults n b = (not (eqb n 20), 11) ∷ (not (eqb (field settingsWidths 3 b) 0), 11) ∷ settingsTests (settingsIn b)
+-- "the hopper byte the lowest of them (else 11; not tested for an empty set)"
+unfoldable pub byteWrong : ℕ → List ℕ → Bool
+byteWrong n b =
+    let x = field (settingsWidths true) 9 b in
+    eqb n 28 && (not (eqb x 0) && not (eqb (field (settingsWidths true) 2 b) (lowest x)))
 
-unfoldable pub countersFaults : ℕ → List (Bool × ℕ)
-countersFaults n = (not (eqb n 12), 11) ∷ []
+-- "11. Wrong record length, or a fixed byte wrong", "then 1 to 3"; among 2: the hopper set "(2 unless it has two to four tiles of the floor)"
+unfoldable pub settingsFaults : ℕ → List ℕ → List (Bool × ℕ)
+settingsFaults n b =
+    let s = settingsIn n b in
+    (not (eqb n 20 || eqb n 28), 11) ∷ (not (eqb (field (settingsWidths (eqb n 28)) 3 b) 0), 11) ∷ (byteWrong n b, 11)
+    ∷ sizeTests s ((eqb n 28 && ltb (hopperCount s) 2, 2) ∷ setTests s (measureTests s))
+
+-- h hoppers
+unfoldable pub countersFaults : ℕ → ℕ → List (Bool × ℕ)
+countersFaults h n = (not (eqb n (8 + 4 * h)), 11) ∷ []
 
 -- "11 (n above 16 and a wrong tile byte included)"
 unfoldable pub tileFaults : ℕ → ℕ → List ℕ → List (Bool × ℕ)
@@ -135,9 +166,9 @@ tileFaults t n b =
 unfoldable pub endFaults : ℕ → List (Bool × ℕ)
 endFaults n = (not (eqb n 0), 11) ∷ []
 
--- the kind that is due decides which tests are a record's own
+-- the kind that is due decides which tests are a record's own; t is the tile that is due and, for kind 2, the number of hoppers
 unfoldable pub ownFaults : ℕ → ℕ → ℕ → List ℕ → List (Bool × ℕ)
-ownFaults due t n b = cond (eqb due 1) (settingsFaults n b) (cond (eqb due 2) (countersFaults n) (cond (eqb due 3) (tileFaults t n b) (endFaults n)))
+ownFaults due t n b = cond (eqb due 1) (settingsFaults n b) (cond (eqb due 2) (countersFaults t n) (cond (eqb due 3) (tileFaults t n b) (endFaults n)))
 
 -- "within a record 9, 10, 11 …, then 1 to 3"; "9. Image ends within a record"; "10. Record of another kind than the one due."
 unfoldable pub recordFault : ℕ → ℕ → List ℕ → ℕ
@@ -159,9 +190,10 @@ tilesFault (suc n) t xs = orElse (recordFault 3 t xs) (tilesFault n (suc t) (res
 
 unfoldable pub fault : List ℕ → ℕ
 fault xs =
+    let s = settingsIn (lengthIn xs) (bodyIn xs) in
     orElse (recordFault 1 0 xs)
-    (orElse (recordFault 2 0 (restIn xs))
-    (tilesFault (total (settingsIn (bodyIn xs))) 0 (restIn (restIn xs))))
+    (orElse (recordFault 2 (hopperCount s) (restIn xs))
+    (tilesFault (total s) 0 (restIn (restIn xs))))
 
 -- the number n, and a floor where it is 0: "A refused load … gives the all-zero floor"
 unfoldable pub answerBy : ℕ → Model → Answer

@@ -53,6 +53,16 @@ sum (x ∷ l) = x + sum l
 unfoldable pub bit : ℕ → ℕ → Bool
 bit x k = eqb (x / 2 ^ k % 2) 1
 
+-- the numbers below n whose bit in x is set, rising
+unfoldable pub bitsBelow : ℕ → ℕ → List ℕ
+bitsBelow x zero = []
+bitsBelow x (suc n) = bitsBelow x n ++ cond (bit x n) (n ∷ []) []
+
+-- the lists one after another
+unfoldable pub join : {A : Type 0} → List (List A) → List A
+join [] = []
+join (l ∷ ls) = l ++ join ls
+
 -- refusals in their order, each with the test that makes it; the first that holds decides, 0 where none does
 unfoldable pub refusal : List (Bool × ℕ) → ℕ
 refusal [] = 0

@@ -5,4 +5,5 @@ pub mod Tables
 pub mod Lists
 pub mod Search
 pub mod Count
+pub mod SetBits
 pub mod Bits

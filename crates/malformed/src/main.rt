@@ -1,6 +1,7 @@
 // Floors that aren't well formed: every call that takes a floor answers 30 and gives the same floor, zeros for a reading, the same
 // bytes for a writing.
 use floor::Canister;
+use floor::Delivery;
 use floor::Floor;
 use floor::Report;
 use floor::Settings;
@@ -12,7 +13,7 @@ use tally::floors;
 fn same_settings(x: Settings, y: Settings) -> bool {
     (x.columns == y.columns)
         & (x.rows == y.rows)
-        & (x.hopper == y.hopper)
+        & (x.hoppers == y.hoppers)
         & (x.sources == y.sources)
         & (x.width == y.width)
         & (x.length == y.length)
@@ -58,6 +59,8 @@ fn same_floor(x: Floor, y: Floor) -> bool {
     let r = y.settings;
     let c = x.counters;
     let d = y.counters;
+    let cd = c.delivered;
+    let dd = d.delivered;
     let xt = x.tiles;
     let yt = y.tiles;
     let xc = x.canisters;
@@ -65,15 +68,26 @@ fn same_floor(x: Floor, y: Floor) -> bool {
     same_settings(s, r)
         & (c.last == d.last)
         & (c.booked == d.booked)
-        & (c.delivered == d.delivered)
+        & (cd[0] == dd[0])
+        & (cd[1] == dd[1])
+        & (cd[2] == dd[2])
+        & (cd[3] == dd[3])
         & same_tiles(xt, yt)
         & same_canisters(xc, yc)
 }
 
+fn empty_delivery(d: Delivery) -> bool {
+    let n = d.numbers;
+    (d.count == 0) & (n[0] == 0) & (n[1] == 0) & (n[2] == 0) & (n[3] == 0)
+}
+
 fn empty_report(r: Report) -> bool {
     let grants = r.grants;
-    let d = r.delivered;
-    let mut all = (r.count == 0) & (d[0] == 0) & (d[1] == 0) & (d[2] == 0) & (d[3] == 0);
+    let d = r.deliveries;
+    let mut all = empty_delivery(d[0])
+        & empty_delivery(d[1])
+        & empty_delivery(d[2])
+        & empty_delivery(d[3]);
     let mut k: usize = 0;
     while k < 64 {
         all = all & (grants[k] == 0);
@@ -191,7 +205,11 @@ fn damaged_canister(f: Floor, kind: u8) -> Floor {
         15 => g.canisters[2].b = 1,
         16 => g.canisters[1023].number = 1,
         17 => g.counters.booked = 4,
-        18 => g.counters.delivered = 1,
+        18 => {
+            let mut c = g.counters;
+            c.delivered[0] = 1;
+            g.counters = c;
+        }
         19 => g.counters.last = 6,
         20 => g.settings.rows = 200,
         21 => g.settings.sources = 63,

@@ -132,7 +132,17 @@ fn tile_list(word: &[u8]) -> Sources
     }
 }
 
-// The fill tiles that the line's word with k words before it names.
+// The tiles that the line's word with k words before it names.
+pub fn tiles_at(line: &[u8], k: usize) -> Sources
+    ensures { λ r. ⌜ TilesIn (nthWord k (now (line .entry))) r ⌝ }
+{
+    let w = words::nth(line, k);
+    let from = w.from;
+    let to = w.to;
+    tile_list(&line[from..to])
+}
+
+// The fill tiles that the word with k words before it names: all, none, or tiles.
 pub fn sources_at(line: &[u8], k: usize) -> Sources
     ensures { λ r. ⌜ SourcesIn (nthWord k (now (line .entry))) r ⌝ }
 {
@@ -142,10 +152,7 @@ pub fn sources_at(line: &[u8], k: usize) -> Sources
     if is(line, k, b"none") {
         return Sources::Set(0);
     }
-    let w = words::nth(line, k);
-    let from = w.from;
-    let to = w.to;
-    tile_list(&line[from..to])
+    tiles_at(line, k)
 }
 
 // The nearest number that fits. What is cut off here is refused by the library with the same number as what was typed.

@@ -1,6 +1,6 @@
 -- The parts joined: the two arrays are those of the floor that was read, and each return of read_image is the definition's answer.
 use mathlib.Core.Path.{_≡_, refl, sym, ap, _∙_}
-use mathlib.Core.Logic.{_≢_}
+use mathlib.Core.Logic.{_⊎_, _≢_}
 use mathlib.Core.Bool.{cond, _&&_}
 use mathlib.Core.List.{List}
 use Prim.Native.Nat.{ℕ, zero, suc, _+_, _*_, _/_, _%_, _≤_, _<_}
@@ -10,20 +10,22 @@ use lib.Dec.{ltb}
 use borrow.Author.Tests.{lt-ltb, le-ltb, ne-eqb}
 use lib.ListN.{length, drop, getD, List·getD-eq-default}
 use lib.Seq.{drop-drop}
-use Rattle.laws.specs.Define.{tab}
+use Rattle.laws.specs.Define.{tab, bitsBelow}
+use Rattle.laws.specs.SetBits.{bits-within}
 use Rattle.laws.specs.Tables.{tab-length, tab-at, tab-same}
 use Rattle.wire.specs.Bytes.{le, field}
 use Rattle.floor.specs.declared.Canister.{Canister}
 use Rattle.floor.specs.declared.Settings.{Settings}
 use Rattle.floor.specs.declared.Counters.{Counters}
 use Rattle.floor.specs.declared.Tile.{Tile}
-use Rattle.floor.specs.Settings.{total}
+use Rattle.floor.specs.Settings.{total, hoppersOf}
 use Rattle.floor.specs.Model.{TileState}
 use Rattle.floor.specs.Memory.{zeroTile, zeroCanister, zeroFloor, unused, head, rows, build, pack}
 use Rattle.floor.proofs.Rows.{rows-filled}
-use Rattle.image.specs.Image.{tileWidths, lengthIn, bodyIn, restIn, settingsIn, countersIn, canisterIn, canistersIn, tileIn, tilesIn, modelIn, recordFault, tilesFault, fault, answerBy, recordsAnswer}
+use Rattle.image.specs.Image.{hopperCount, tileWidths, lengthIn, bodyIn, restIn, settingsIn, countersIn, canisterIn, canistersIn, tileIn, tilesIn, modelIn, recordFault, tilesFault, fault, answerBy, recordsAnswer}
 use Rattle.image.proofs.Records.{whole}
 use Rattle.image.proofs.Again.{canisters-length, settings-good, counters-good}
+use Rattle.faults.proofs.Refusals.{room-20}
 use Rattle.image.proofs.Read.{first-measured, tiles-length}
 use Rattle.faults.specs.Scan.{after, Starts}
 use Rattle.faults.proofs.Walk.{rest-at, record-room}
@@ -113,11 +115,11 @@ module _ (xs : List ℕ) where
   unfolding fault
   fault-1 h = rw (ne-eqb (recordFault 1 0 xs) 0 h)
 
-  fault-2 : recordFault 1 0 xs ≡ 0 → recordFault 2 0 (restIn xs) ≢ 0 → fault xs ≡ recordFault 2 0 (restIn xs)
+  fault-2 : recordFault 1 0 xs ≡ 0 → recordFault 2 (hopperCount (settingsIn (lengthIn xs) (bodyIn xs))) (restIn xs) ≢ 0 → fault xs ≡ recordFault 2 (hopperCount (settingsIn (lengthIn xs) (bodyIn xs))) (restIn xs)
   unfolding fault
-  fault-2 z h = rw (z, ne-eqb (recordFault 2 0 (restIn xs)) 0 h)
+  fault-2 z h = rw (z, ne-eqb (recordFault 2 (hopperCount (settingsIn (lengthIn xs) (bodyIn xs))) (restIn xs)) 0 h)
 
-  fault-3 : recordFault 1 0 xs ≡ 0 → recordFault 2 0 (restIn xs) ≡ 0 → fault xs ≡ tilesFault (total (settingsIn (bodyIn xs))) 0 (restIn (restIn xs))
+  fault-3 : recordFault 1 0 xs ≡ 0 → recordFault 2 (hopperCount (settingsIn (lengthIn xs) (bodyIn xs))) (restIn xs) ≡ 0 → fault xs ≡ tilesFault (total (settingsIn (lengthIn xs) (bodyIn xs))) 0 (restIn (restIn xs))
   unfolding fault
   fault-3 z y = rw (z, y)
 
@@ -131,10 +133,10 @@ module _ (xs : List ℕ) where
 
   -- the parts of the floor in memory
   pack-is : pack (modelIn xs) ≡ record {
-    settings = settingsIn (bodyIn xs);
-    counters = countersIn (bodyIn (restIn xs));
-    tiles = tab 64 (λ t. head (getD (tilesIn (total (settingsIn (bodyIn xs))) (restIn (restIn xs))) t unused));
-    canisters = rows 64 0 (λ t. getD (tilesIn (total (settingsIn (bodyIn xs))) (restIn (restIn xs))) t unused);
+    settings = settingsIn (lengthIn xs) (bodyIn xs);
+    counters = countersIn (hopperCount (settingsIn (lengthIn xs) (bodyIn xs))) (bodyIn (restIn xs));
+    tiles = tab 64 (λ t. head (getD (tilesIn (total (settingsIn (lengthIn xs) (bodyIn xs))) (restIn (restIn xs))) t unused));
+    canisters = rows 64 0 (λ t. getD (tilesIn (total (settingsIn (lengthIn xs) (bodyIn xs))) (restIn (restIn xs))) t unused);
   }
   unfolding pack build modelIn
   pack-is = refl
@@ -144,52 +146,67 @@ pub no-fault : (k n : ℕ) → k ≡ n → k ≡ 0 → n ≡ 0
 no-fault k n e z = sym e ∙ z
 
 pub record First (xs : List ℕ) : Type 0 where
-  pub long : lengthIn xs ≡ 20
-  pub enough : 24 ≤ length xs
+  pub long : (lengthIn xs ≡ 20) ⊎ (lengthIn xs ≡ 28)
+  pub enough : 4 + lengthIn xs ≤ length xs
+  pub room : 24 ≤ length xs
 
 pub first-ok : (xs : List ℕ) → recordFault 1 0 xs ≡ 0 → First xs
 first-ok xs h =
     let w = whole 1 0 xs h in
-    let e = settings-good xs w .0 in
+    let e = settings-good xs w .long in
+    record { long = e; enough = w .enough; room = omega (arith, room-20 4 (lengthIn xs) (length xs) (w .enough) e) }
+
+pub record Second (h : ℕ) (xs : List ℕ) : Type 0 where
+  pub long : lengthIn xs ≡ 8 + 4 * h
+  pub enough : 12 + 4 * h ≤ length xs
+
+pub second-ok : (h : ℕ) (xs : List ℕ) → recordFault 2 h xs ≡ 0 → Second h xs
+second-ok h xs z =
+    let w = whole 2 h xs z in
+    let e = counters-good h xs w in
     record { long = e; enough = omega (arith, w .enough) }
 
-pub record Second (xs : List ℕ) : Type 0 where
-  pub long : lengthIn xs ≡ 12
-  pub enough : 16 ≤ length xs
+-- how many hoppers the code counts
+pub hoppers-are : (x : List ℕ) → recordFault 1 0 x ≡ 0 → (u : ℕ) → u ≡ le 2 x → (st : Settings) → st ≡ settingsIn u (drop 4 x) → (h : ℕ) → h ≡ length (bitsBelow (st .hoppers) 64) → h ≡ hopperCount (settingsIn (lengthIn x) (bodyIn x))
+unfolding hoppersOf
+hoppers-are x z u n1 st se h e =
+    let M = first-measured x z in
+    let s = settingsIn (lengthIn x) (bodyIn x) in
+    let q : st ≡ s = se ∙ ap (λ (n : ℕ). settingsIn n (drop 4 x)) n1 in
+    e ∙ ap (λ (y : Settings). length (bitsBelow (y .hoppers) 64)) q ∙ ap (λ (l : List ℕ). length l) (bits-within (s .hoppers) (total s) 64 (M .few) (M .hoppers-on))
 
-pub second-ok : (xs : List ℕ) → recordFault 2 0 xs ≡ 0 → Second xs
-second-ok xs h =
-    let w = whole 2 0 xs h in
-    let e = counters-good xs w in
-    record { long = e; enough = omega (arith, w .enough) }
+pub hoppers-few : (x : List ℕ) → recordFault 1 0 x ≡ 0 → (h : ℕ) → h ≡ hopperCount (settingsIn (lengthIn x) (bodyIn x)) → h ≤ 4
+hoppers-few x z h e = omega (arith, first-measured x z .hoppers-few)
 
 -- ---- the returns of read_image; u and w are the lengths of the bodies of records 1 and 2
 pub answer-1 : (x : List ℕ) (k : ℕ) → k ≡ recordFault 1 0 x → k ≢ 0 → record { refusal = k; floor = zeroFloor } ≡ recordsAnswer x
 answer-1 x k e h = answer-refused x k (fault-1 x (λ q. h (e ∙ q)) ∙ sym e) h
 
-module _ (x : List ℕ) (z1 : recordFault 1 0 x ≡ 0) (u : ℕ) (n1 : u ≡ le 2 x) where
+module _ (x : List ℕ) (z1 : recordFault 1 0 x ≡ 0) (u : ℕ) (n1 : u ≡ le 2 x) (h : ℕ) (he : h ≡ hopperCount (settingsIn (lengthIn x) (bodyIn x))) where
   rest-1 : drop (4 + u) x ≡ restIn x
   rest-1 = rw n1
 
-  pub answer-2 : (k : ℕ) → k ≡ recordFault 2 0 (drop (4 + u) x) → k ≢ 0 → record { refusal = k; floor = zeroFloor } ≡ recordsAnswer x
-  answer-2 k e h =
-      let f : recordFault 2 0 (restIn x) ≡ k = rw (← rest-1) (sym e) in
-      answer-refused x k (fault-2 x z1 (λ q. h (sym f ∙ q)) ∙ f) h
+  pub answer-2 : (k : ℕ) → k ≡ recordFault 2 h (drop (4 + u) x) → k ≢ 0 → record { refusal = k; floor = zeroFloor } ≡ recordsAnswer x
+  answer-2 k e ne =
+      let f : recordFault 2 (hopperCount (settingsIn (lengthIn x) (bodyIn x))) (restIn x) ≡ k = ap (λ (n : ℕ). recordFault 2 n (restIn x)) (sym he) ∙ ap (recordFault 2 h) (sym rest-1) ∙ sym e in
+      answer-refused x k (fault-2 x z1 (λ q. ne (sym f ∙ q)) ∙ f) ne
 
-  module _ (z2 : recordFault 2 0 (drop (4 + u) x) ≡ 0) (w : ℕ) (n2 : w ≡ le 2 (drop (4 + u) x)) (st : Settings) (se : st ≡ settingsIn (drop 4 x)) where
+  module _ (z2 : recordFault 2 h (drop (4 + u) x) ≡ 0) (w : ℕ) (n2 : w ≡ le 2 (drop (4 + u) x)) (st : Settings) (se : st ≡ settingsIn u (drop 4 x)) where
     rest-2 : drop (4 + u + 4 + w) x ≡ restIn (restIn x)
     rest-2 = sym (rest-at x (4 + u) w n2) ∙ ap (λ (l : List ℕ). restIn l) rest-1
 
-    count-is : st .columns * st .rows ≡ total (settingsIn (bodyIn x))
-    count-is = rw se
+    count-is : st .columns * st .rows ≡ total (settingsIn (lengthIn x) (bodyIn x))
+    count-is = rw (se, n1)
 
     fault-is : fault x ≡ tilesFault (st .columns * st .rows) 0 (drop (4 + u + 4 + w) x)
-    fault-is = let z : recordFault 2 0 (restIn x) ≡ 0 = rw rest-1 at z2 in fault-3 x z1 z ∙ rw (count-is, rest-2)
+    fault-is =
+        let z : recordFault 2 (hopperCount (settingsIn (lengthIn x) (bodyIn x))) (restIn x) ≡ 0 = ap (λ (n : ℕ). recordFault 2 n (restIn x)) (sym he) ∙ ap (recordFault 2 h) (sym rest-1) ∙ z2 in
+        fault-3 x z1 z ∙ rw (count-is, rest-2)
 
     pub third-fits : 4 + u + 4 + w ≤ length x
     third-fits =
         let k = first-ok x z1 in
-        let r : 4 + u + 4 + le 2 (drop (4 + u) x) ≤ length x = record-room x (4 + u) 2 0 (omega (arith, k .enough, k .long)) z2 in
+        let r : 4 + u + 4 + le 2 (drop (4 + u) x) ≤ length x = record-room x (4 + u) 2 h (omega (arith, k .enough, n1)) z2 in
         omega (arith, n2)
 
     pub few-code : st .columns * st .rows ≤ 64
@@ -198,14 +215,15 @@ module _ (x : List ℕ) (z1 : recordFault 1 0 x ≡ 0) (u : ℕ) (n1 : u ≡ le 
     pub answer-3 : (k : ℕ) → k ≡ tilesFault (st .columns * st .rows) 0 (drop (4 + u + 4 + w) x) → k ≢ 0 → record { refusal = k; floor = zeroFloor } ≡ recordsAnswer x
     answer-3 k e h = answer-refused x k (fault-is ∙ sym e) h
 
-    pub answer-4 : (ct : Counters) (ts : List Tile) (cs : List Canister) (starts : List ℕ) → ct ≡ countersIn (drop (4 + u + 4) x) → 0 ≡ tilesFault (st .columns * st .rows) 0 (drop (4 + u + 4 + w) x)
+    pub answer-4 : (ct : Counters) (ts : List Tile) (cs : List Canister) (starts : List ℕ) → ct ≡ countersIn h (drop (4 + u + 4) x) → 0 ≡ tilesFault (st .columns * st .rows) 0 (drop (4 + u + 4 + w) x)
         → Starts x (drop (4 + u + 4 + w) x) starts (st .columns * st .rows) → ts ≡ tab 64 (tileFrom x starts (st .columns * st .rows)) → cs ≡ tab 1024 (canisterFrom x starts (st .columns * st .rows))
         → record { refusal = 0; floor = record { settings = st; counters = ct; tiles = ts; canisters = cs } } ≡ recordsAnswer x
     answer-4 ct ts cs starts ce fe ss te ke =
         let n : ℕ = st .columns * st .rows in
         let ys : List ℕ = drop (4 + u + 4 + w) x in
-        let t1 : ts ≡ tab 64 (λ t. head (getD (tilesIn (total (settingsIn (bodyIn x))) (restIn (restIn x))) t unused)) = te ∙ tiles-are x ys starts n ss ∙ rw (count-is, rest-2) in
-        let c1 : cs ≡ rows 64 0 (λ t. getD (tilesIn (total (settingsIn (bodyIn x))) (restIn (restIn x))) t unused) = ke ∙ canisters-are x ys starts n ss ∙ rw (count-is, rest-2) in
+        let t1 : ts ≡ tab 64 (λ t. head (getD (tilesIn (total (settingsIn (lengthIn x) (bodyIn x))) (restIn (restIn x))) t unused)) = te ∙ tiles-are x ys starts n ss ∙ rw (count-is, rest-2) in
+        let c1 : cs ≡ rows 64 0 (λ t. getD (tilesIn (total (settingsIn (lengthIn x) (bodyIn x))) (restIn (restIn x))) t unused) = ke ∙ canisters-are x ys starts n ss ∙ rw (count-is, rest-2) in
         let d : drop (4 + u + 4) x ≡ bodyIn (restIn x) = sym (drop-drop 4 (4 + u) x) ∙ ap (λ (l : List ℕ). bodyIn l) rest-1 in
-        let c2 : ct ≡ countersIn (bodyIn (restIn x)) = ce ∙ ap (λ (l : List ℕ). countersIn l) d in
-        rw (t1, c1, c2, se, ← pack-is x) (answer-good x (fault-is ∙ sym fe))
+        let c2 : ct ≡ countersIn (hopperCount (settingsIn (lengthIn x) (bodyIn x))) (bodyIn (restIn x)) = ce ∙ ap (countersIn h) d ∙ ap (λ (n : ℕ). countersIn n (bodyIn (restIn x))) he in
+        let s1 : st ≡ settingsIn (lengthIn x) (bodyIn x) = se ∙ ap (λ (n : ℕ). settingsIn n (drop 4 x)) n1 in
+        rw (t1, c1, c2, s1, ← pack-is x) (answer-good x (fault-is ∙ sym fe))

@@ -17,17 +17,22 @@ use floor::Floor;
 use floor::Side;
 use floor::Tile;
 use floor::zero_floor;
+use sets::size;
 use wire::u16_at;
 use wire::u32_at;
 
-// The counters whose record's body starts at `at`.
-fn counters_at(s: &[u8], at: usize) -> Counters
-    requires { ⌜ at + 12 ≤ length (now s) ⌝ }
-    ensures { λ r. ⌜ r ≡ countersIn (drop at (now (s .entry))) ⌝ }
+// The counters whose record's body starts at `at`, where there are h hoppers; those beyond are zero.
+fn counters_at(s: &[u8], at: usize, h: u8) -> Counters
+    requires { ⌜ (at + 8 + 4 * h ≤ length (now s)) × (h ≤ 4) ⌝ }
+    ensures { λ r. ⌜ r ≡ countersIn h (drop at (now (s .entry))) ⌝ }
 {
     let last = u32_at(s, at);
     let booked = u32_at(s, at + 4);
-    let delivered = u32_at(s, at + 8);
+    let n = h as usize;
+    let mut delivered = [0u32; 4];
+    for k in 0usize..n {
+        delivered[k] = u32_at(s, at + 8 + 4 * k);
+    }
     Counters {
         last: last,
         booked: booked,
@@ -127,14 +132,15 @@ pub fn read_image(s: &[u8]) -> Answer
     if f1 != 0 {
         return refused(f1);
     }
-    let settings = settings_at(s, 4);
     let n1 = u16_at(s, 0);
+    let settings = settings_at(s, 4, n1);
     let second = 4 + n1 as usize;
-    let f2 = record_fault(s, second, 2, 0);
+    let hoppers = size(settings.hoppers);
+    let f2 = record_fault(s, second, 2, hoppers);
     if f2 != 0 {
         return refused(f2);
     }
-    let counters = counters_at(s, second + 4);
+    let counters = counters_at(s, second + 4, hoppers);
     let n2 = u16_at(s, second);
     let third = second + 4 + n2 as usize;
     let c = (settings.columns as usize) * (settings.rows as usize);

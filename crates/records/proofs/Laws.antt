@@ -1,21 +1,24 @@
 -- Laws of the records: how long their parts are, each as it is put, and the turn of the loop over a tile's canisters.
-use mathlib.Core.Path.{_≡_, refl, sym, _∙_}
+use mathlib.Core.Path.{_≡_, refl, sym, ap, _∙_}
+use mathlib.Core.Bool.{true, false}
 use mathlib.Core.List.{List, [], _∷_, _++_, append-assoc, append-nil}
-use Prim.Native.Nat.{ℕ, _+_, _*_, _≤_, _<_}
+use Prim.Native.Nat.{ℕ, zero, suc, _+_, _*_, _≤_, _<_}
 use native.Mathlib.Omega.{arith}
 use native.Mathlib.Numerals.{add-one}
-use lib.ListN.{length, take, getD, length-append}
+use lib.ListN.{length, take, getD, replicate, length-append, length-replicate}
 use lib.Seq.{length-take-le, take-suc}
-use Rattle.wire.specs.Bytes.{bytes, bytesOf, bytes-length}
+use Rattle.wire.specs.Bytes.{bytes, bytesOf, bytes-length, row-length}
+use Rattle.laws.specs.Define.{tab}
+use Rattle.laws.specs.Tables.{tab-length}
 use Rattle.wire.specs.Put.{put, put-two, put-three}
 use Rattle.floor.specs.declared.Canister.{Canister}
 use Rattle.floor.specs.declared.Settings.{Settings}
 use Rattle.floor.specs.declared.Counters.{Counters}
 use Rattle.floor.specs.declared.Tile.{Tile}
 use Rattle.floor.specs.Memory.{stateFrom}
-use Rattle.image.specs.Image.{recordOf, settingsBody, countersBody, canistersBody, tileBody}
-use Rattle.image.proofs.Sizes.{settings-size, counters-size, canister-size, canisters-size, tile-size}
-use Rattle.records.specs.Parts.{canisterBytes, frontBytes}
+use Rattle.image.specs.Image.{lowest, several, recordOf, settingsBody, countersBody, canistersBody, tileBody}
+use Rattle.image.proofs.Sizes.{fours, settings-size, counters-size, canister-size, canisters-size, tile-size}
+use Rattle.records.specs.Parts.{canisterBytes, measuresBytes, headBytes, frontBytes}
 
 -- ---- lengths
 pub pair-length : (x y : ℕ) → length (bytes 2 x ++ bytes 2 y) ≡ 4
@@ -29,27 +32,45 @@ unfolding frontBytes
 front-length t h = rw (length-append, pair-length (6 + 8 * h .count) 3, length-append, three-length 1 t (h .running) (h .distance), three-length 1 (h .next .code) (h .token .code) (h .count))
 
 -- ---- records 1 and 2, and a canister, as they are put
-abbrev pub measuresBytes : Settings → List ℕ
-measuresBytes x = (bytes 2 (x .width) ++ bytes 2 (x .length)) ++ ((bytes 2 (x .gap) ++ bytes 2 (x .travel)) ++ bytes 8 (x .sources))
-
 pub measures-length : (x : Settings) → length (measuresBytes x) ≡ 16
 measures-length x = rw (length-append, pair-length (x .width) (x .length), length-append, pair-length (x .gap) (x .travel), bytes-length 8 (x .sources))
 
-settings-row : (x : Settings) → settingsBody x ≡ bytes 1 (x .columns) ++ (bytes 1 (x .rows) ++ (bytes 1 (x .hopper) ++ (bytes 1 0 ++ measuresBytes x)))
-unfolding settingsBody bytesOf
-settings-row x = simp (append-assoc, append-nil)
+pub head-length : (x : Settings) (n : ℕ) → length (headBytes x n) ≡ 24
+unfolding headBytes
+head-length x n = rw (length-append, pair-length n 1, length-append, three-length 1 (x .columns) (x .rows) (lowest (x .hoppers)), length-append, bytes-length 1 0, measures-length x)
 
-pub settings-record : (x : Settings) → (bytes 2 20 ++ bytes 2 1) ++ ((bytes 1 (x .columns) ++ (bytes 1 (x .rows) ++ bytes 1 (x .hopper))) ++ (bytes 1 0 ++ measuresBytes x)) ≡ recordOf 1 (settingsBody x)
-unfolding recordOf
-settings-record x = rw (settings-size x, settings-row x) (simp append-assoc)
+pub settings-more : (x : Settings) → several x ≡ true → headBytes x 28 ++ bytes 8 (x .hoppers) ≡ recordOf 1 (settingsBody x)
+unfolding recordOf headBytes settingsBody bytesOf
+settings-more x e = rw (settings-size x, e) (simp (append-assoc, append-nil))
 
-counters-row : (x : Counters) → countersBody x ≡ bytes 4 (x .last) ++ (bytes 4 (x .booked) ++ bytes 4 (x .delivered))
-unfolding countersBody bytesOf
-counters-row x = simp append-nil
+pub settings-one : (x : Settings) → several x ≡ false → headBytes x 20 ≡ recordOf 1 (settingsBody x)
+unfolding recordOf headBytes settingsBody bytesOf
+settings-one x e = rw (settings-size x, e) (simp (append-assoc, append-nil))
 
-pub counters-record : (x : Counters) → (bytes 2 12 ++ bytes 2 2) ++ (bytes 4 (x .last) ++ (bytes 4 (x .booked) ++ bytes 4 (x .delivered))) ≡ recordOf 2 (countersBody x)
-unfolding recordOf
-counters-record x = rw (counters-size x, counters-row x) (simp append-assoc)
+-- the counters of the first k hoppers
+abbrev pub countBytes : ℕ → List ℕ → List ℕ
+countBytes k ds = bytesOf (replicate k 4) (tab k (λ j. getD ds j 0))
+
+row-more : (k : ℕ) (f : ℕ → ℕ) → bytesOf (replicate (suc k) 4) (tab (suc k) f) ≡ bytesOf (replicate k 4) (tab k f) ++ bytes 4 (f k)
+unfolding bytesOf tab
+row-more zero f = append-nil (bytes 4 (f 0))
+row-more (suc k) f = ap (λ (l : List ℕ). bytes 4 (f 0) ++ l) (row-more k (λ j. f (suc j))) ∙ sym (append-assoc (bytes 4 (f 0)) (bytesOf (replicate k 4) (tab k (λ j. f (suc j)))) (bytes 4 (f (suc k))))
+
+pub count-length : (k : ℕ) (ds : List ℕ) → length (countBytes k ds) ≡ 4 * k
+count-length k ds = row-length (replicate k 4) (tab k (λ j. getD ds j 0)) (tab-length k (λ j. getD ds j 0) ∙ sym (length-replicate {A = ℕ} k 4)) ∙ fours k
+
+pub count-turn : (s₀ s s′ : List ℕ) (at k : ℕ) (ds : List ℕ) → at + 4 * k + 4 ≤ length s₀ → s ≡ put s₀ at (countBytes k ds) → s′ ≡ put s (at + 4 * k) (bytes 4 (getD ds k 0)) → s′ ≡ put s₀ at (countBytes (k + 1) ds)
+count-turn s₀ s s′ at k ds r p q =
+    let n = count-length k ds in
+    let b = bytes-length 4 (getD ds k 0) in
+    rw (add-one, row-more k (λ j. getD ds j 0)) (put-two s₀ s s′ at (at + 4 * k) (countBytes k ds) (bytes 4 (getD ds k 0)) (omega arith) (omega arith) p q)
+
+pub top-length : (n x y : ℕ) → length ((bytes 2 n ++ bytes 2 2) ++ (bytes 4 x ++ bytes 4 y)) ≡ 12
+top-length n x y = rw (length-append, pair-length n 2, length-append, bytes-length 4 x, bytes-length 4 y)
+
+pub counters-record : (h : ℕ) (x : Counters) → ((bytes 2 (8 + 4 * h) ++ bytes 2 2) ++ (bytes 4 (x .last) ++ bytes 4 (x .booked))) ++ countBytes h (x .delivered) ≡ recordOf 2 (countersBody h x)
+unfolding recordOf countersBody bytesOf
+counters-record h x = rw (counters-size h x) (simp append-assoc)
 
 pub canister-bytes : (c : Canister) → canisterBytes c ≡ bytes 4 (c .number) ++ (bytes 2 (c .a) ++ bytes 2 (c .b))
 unfolding bytesOf

@@ -6,12 +6,13 @@ ghost use lib.ListN.{length, take};
 ghost use Rattle.wire.specs.Bytes.{bytes};
 ghost use Rattle.wire.specs.Put.{put};
 ghost use Rattle.floor.specs.Memory.{stateFrom};
-ghost use Rattle.image.specs.Image.{recordOf, settingsBody, countersBody, tileBody};
-ghost use Rattle.records.specs.Parts.{canisterBytes, frontBytes};
+ghost use Rattle.image.specs.Image.{several, recordOf, settingsBody, countersBody, tileBody};
+ghost use Rattle.records.specs.Parts.{canisterBytes, headBytes, frontBytes};
 use floor::Canister;
 use floor::Counters;
 use floor::Settings;
 use floor::Tile;
+use sets::lowest;
 use wire::put_byte;
 use wire::put_u16;
 use wire::put_u32;
@@ -36,16 +37,6 @@ fn put_three(s: &mut [u8], at: usize, x: u8, y: u8, z: u8)
     put_byte(s, at + 2, z);
 }
 
-// Three numbers of four bytes.
-fn put_numbers(s: &mut [u8], at: usize, x: u32, y: u32, z: u32)
-    requires { ⌜ at + 12 ≤ length (now s) ⌝ }
-    ensures { λ r. ⌜ now (s .exit) ≡ put (now (s .entry)) at (bytes 4 x ++ (bytes 4 y ++ bytes 4 z)) ⌝ }
-{
-    put_u32(s, at, x);
-    put_u32(s, at + 4, y);
-    put_u32(s, at + 8, z);
-}
-
 // U, l, r and v, two bytes each, then the fill set.
 fn put_measures(s: &mut [u8], at: usize, x: Settings)
     requires { ⌜ at + 16 ≤ length (now s) ⌝ }
@@ -56,24 +47,54 @@ fn put_measures(s: &mut [u8], at: usize, x: Settings)
     put_u64(s, at + 8, x.sources);
 }
 
-// Record 1.
-pub fn put_settings(s: &mut [u8], at: usize, x: Settings)
+// The first 24 bytes of record 1, whose body has n bytes.
+fn put_head(s: &mut [u8], at: usize, x: Settings, n: u16)
     requires { ⌜ at + 24 ≤ length (now s) ⌝ }
-    ensures { λ r. ⌜ now (s .exit) ≡ put (now (s .entry)) at (recordOf 1 (settingsBody x)) ⌝ }
+    ensures { λ r. ⌜ now (s .exit) ≡ put (now (s .entry)) at (headBytes x n) ⌝ }
 {
-    put_pair(s, at, 20, 1);
-    put_three(s, at + 4, x.columns, x.rows, x.hopper);
+    let low = lowest(x.hoppers);
+    put_pair(s, at, n, 1);
+    put_three(s, at + 4, x.columns, x.rows, low);
     put_byte(s, at + 7, 0);
     put_measures(s, at + 8, x);
 }
 
-// Record 2.
-pub fn put_counters(s: &mut [u8], at: usize, x: Counters)
-    requires { ⌜ at + 16 ≤ length (now s) ⌝ }
-    ensures { λ r. ⌜ now (s .exit) ≡ put (now (s .entry)) at (recordOf 2 (countersBody x)) ⌝ }
+// Record 1; `more` where there are several hoppers.
+pub fn put_settings(s: &mut [u8], at: usize, x: Settings, more: bool)
+    requires { ⌜ (at + 4 + length (settingsBody x) ≤ length (now s)) × (more ≡ several x) ⌝ }
+    ensures { λ r. ⌜ now (s .exit) ≡ put (now (s .entry)) at (recordOf 1 (settingsBody x)) ⌝ }
 {
-    put_pair(s, at, 12, 2);
-    put_numbers(s, at + 4, x.last, x.booked, x.delivered);
+    if more {
+        put_head(s, at, x, 28);
+        put_u64(s, at + 24, x.hoppers);
+    } else {
+        put_head(s, at, x, 20);
+    }
+}
+
+// The first twelve bytes of record 2, whose body has n bytes.
+fn put_top(s: &mut [u8], at: usize, n: u16, x: u32, y: u32)
+    requires { ⌜ at + 12 ≤ length (now s) ⌝ }
+    ensures { λ r. ⌜ now (s .exit) ≡ put (now (s .entry)) at ((bytes 2 n ++ bytes 2 2) ++ (bytes 4 x ++ bytes 4 y)) ⌝ }
+{
+    put_pair(s, at, n, 2);
+    put_u32(s, at + 4, x);
+    put_u32(s, at + 8, y);
+}
+
+// Record 2, with the counters of h hoppers.
+pub fn put_counters(s: &mut [u8], at: usize, x: Counters, h: u8)
+    requires { ⌜ (at + 12 + 4 * h ≤ length (now s)) × (h ≤ 4) ⌝ }
+    ensures { λ r. ⌜ now (s .exit) ≡ put (now (s .entry)) at (recordOf 2 (countersBody h x)) ⌝ }
+{
+    put_top(s, at, 8 + 4 * (h as u16), x.last, x.booked);
+    let d = x.delivered;
+    let n = h as usize;
+    let mut k = 0usize;
+    while k < n {
+        put_u32(s, at + 12 + 4 * k, d[k]);
+        k = k + 1;
+    }
 }
 
 // A canister.

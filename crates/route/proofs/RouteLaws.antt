@@ -53,12 +53,12 @@ module _ (own w s n e : ℕ) {b : Heading} {r : Bool} (is : b ≡ nearest w s n 
 
 -- ---- one tile: it keeps its own, or takes the heading onward
 module _ (s : Settings) (t : ℕ) (h : Tile) (w so n e : ℕ) where
-  pub tile-still : (eqb t (s .hopper) || not (eqb (h .running) 1)) ≡ true → h ≡ routedTile s t h w so n e
-  unfolding routedTile headingOf isHopper
+  pub tile-still : (isHopper s t || not (eqb (h .running) 1)) ≡ true → h ≡ routedTile s t h w so n e
+  unfolding routedTile headingOf
   tile-still p = rw p
 
-  pub tile-on : (eqb t (s .hopper) || not (eqb (h .running) 1)) ≡ false → headed h (onward (total s) (kept (h .next .code) w so n e)) ≡ routedTile s t h w so n e
-  unfolding routedTile headingOf isHopper
+  pub tile-on : (isHopper s t || not (eqb (h .running) 1)) ≡ false → headed h (onward (total s) (kept (h .next .code) w so n e)) ≡ routedTile s t h w so n e
+  unfolding routedTile headingOf
   tile-on p = rw p
 
 -- ---- the pass: the tile from what was read of its neighbours

@@ -10,6 +10,7 @@ use floor::Heading;
 use floor::Settings;
 use floor::Side;
 use floor::Tile;
+use sets::holds;
 
 // The nearer of two; the earlier one where they are as near.
 pub fn nearer(b: Heading, distance: u8, side: u8) -> Heading
@@ -83,7 +84,7 @@ fn onward(all: u8, b: Heading) -> Heading
     }
 }
 
-// One tile, from its own old arrow and its four neighbours' old distances. The hopper and a stopped tile stay as they are.
+// One tile, from its own old arrow and its four neighbours' old distances. A hopper and a stopped tile stay as they are.
 pub fn route_tile(
     s: Settings,
     t: usize,
@@ -96,8 +97,8 @@ pub fn route_tile(
     requires { ⌜ total s ≤ 64 ⌝ }
     ensures { λ r. ⌜ r ≡ routedTile s t tile west south north east ⌝ }
 {
-    let hopper = s.hopper as usize;
-    let still = (t == hopper) | (tile.running != 1);
+    let hopper = holds(s.hoppers, t);
+    let still = hopper | (tile.running != 1);
     if still {
         return tile;
     }

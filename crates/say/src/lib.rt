@@ -2,6 +2,7 @@
 ghost use Prim.Native.Nat.{_≤_};
 use floor::Canister;
 use floor::Counters;
+use floor::Delivery;
 use floor::Tile;
 use libc::STDOUT_FILENO;
 
@@ -45,13 +46,15 @@ pub fn side(code: u8) {
 fn meaning(n: u8) {
     match n {
         1 => text(b"W or H outside 1 to 8, or a single tile"),
-        2 => text(b"hopper not on the floor, or a fill tile that is the hopper or no tile"),
+        2 => text(
+            b"not one to four hoppers, all on the floor, or a fill tile that is a hopper or no tile",
+        ),
         3 => text(b"a measure breaks the rules"),
         4 => text(b"tile not on the floor"),
         5 => text(b"not a fill tile"),
         6 => text(b"canister number 0"),
         7 => text(b"a or b above U - l"),
-        8 => text(b"the hopper can't be stopped"),
+        8 => text(b"a hopper can't be stopped"),
         30 => text(b"the floor isn't well formed"),
         31 => text(b"the tile is stopped"),
         32 => text(b"the tile is running"),
@@ -77,8 +80,8 @@ pub fn no_floor(name: &[u8]) {
 }
 
 // How many canisters.
-fn amount(n: u32) {
-    small(n);
+fn amount(n: u64) {
+    number(n);
     if n == 1 {
         text(b" canister");
     } else {
@@ -87,7 +90,7 @@ fn amount(n: u32) {
 }
 
 // A fresh on a floor with n canisters.
-pub fn holds(n: u32) {
+pub fn holds(n: u64) {
     text(b"fresh: the floor holds ");
     amount(n);
     text(b"; fresh! gives it up\n");
@@ -120,15 +123,17 @@ pub fn too_long(at: u64) {
     text(b": cannot read: over 400 bytes\n");
 }
 
-// The numbers that a round delivered.
-pub fn delivered(at: u64, count: u8, numbers: [u32; 4]) {
+// The beginning of what round `at` delivered.
+fn round(at: u64) {
     text(b"round ");
     number(at);
     text(b": delivered");
-    if count == 0 {
-        text(b" none");
-    }
-    let n = at_most(count as usize, 4);
+}
+
+// The numbers that one hopper took, and the line's end.
+fn taken(d: Delivery) {
+    let numbers = d.numbers;
+    let n = at_most(d.count as usize, 4);
     let mut k: usize = 0;
     while k < n {
         text(b" ");
@@ -136,6 +141,58 @@ pub fn delivered(at: u64, count: u8, numbers: [u32; 4]) {
         k += 1;
     }
     text(b"\n");
+}
+
+// Whether some hopper took something.
+pub fn some(all: [Delivery; 4]) -> bool {
+    let first = all[0];
+    let second = all[1];
+    let third = all[2];
+    let fourth = all[3];
+    (first.count != 0) | (second.count != 0) | (third.count != 0) | (fourth.count != 0)
+}
+
+// The set without its lowest tile.
+fn others(hoppers: u64) -> u64 {
+    let t = sets::lowest(hoppers);
+    if t < 64 {
+        sets::without(hoppers, t)
+    } else {
+        hoppers
+    }
+}
+
+// For each of several hoppers, in tile order, what it took.
+fn by_hopper(at: u64, hoppers: u64, all: [Delivery; 4]) {
+    let mut rest = hoppers;
+    let mut k: usize = 0;
+    while k < 4 {
+        let d = all[k];
+        if d.count != 0 {
+            round(at);
+            text(b" at ");
+            number(sets::lowest(rest) as u64);
+            text(b":");
+            taken(d);
+        }
+        rest = others(rest);
+        k += 1;
+    }
+}
+
+// What a round delivered: one line for the only hopper, or for each of several that took something.
+pub fn delivered(at: u64, hoppers: u64, all: [Delivery; 4]) {
+    if !some(all) {
+        round(at);
+        text(b" none\n");
+        return;
+    }
+    if 1 < sets::size(hoppers) {
+        by_hopper(at, hoppers, all);
+        return;
+    }
+    round(at);
+    taken(all[0]);
 }
 
 fn distance(n: u8) {
@@ -180,7 +237,7 @@ pub fn tile(t: Tile) {
         side(t.token.code);
         text(b", ");
     }
-    amount(t.count as u32);
+    amount(t.count as u64);
 }
 
 // A tile with its canisters.
@@ -193,14 +250,33 @@ pub fn reading(at: u32, t: Tile, members: [Canister; 16]) {
     text(b"\n");
 }
 
+// The tiles of a set of at most four.
+fn tiles(set: u64) {
+    let n = at_most(sets::size(set) as usize, 4);
+    let mut rest = set;
+    let mut k: usize = 0;
+    while k < n {
+        if 0 < k {
+            text(b", ");
+        }
+        number(sets::lowest(rest) as u64);
+        rest = others(rest);
+        k += 1;
+    }
+}
+
 // A fresh floor.
-pub fn made(columns: u32, rows: u32, hopper: u32) {
+pub fn made(columns: u32, rows: u32, hoppers: u64) {
     text(b"fresh: ");
     small(columns);
     text(b" x ");
     small(rows);
-    text(b" tiles, hopper ");
-    small(hopper);
+    if 1 < sets::size(hoppers) {
+        text(b" tiles, hoppers ");
+    } else {
+        text(b" tiles, hopper ");
+    }
+    tiles(hoppers);
     text(b"\n");
 }
 
@@ -233,14 +309,34 @@ pub fn rounds(n: u32, at: u64) {
     text(b"\n");
 }
 
+// How many each hopper took; of several, each with its tile.
+fn counted(hoppers: u64, delivered: [u32; 4]) {
+    let n = at_most(sets::size(hoppers) as usize, 4);
+    let mut rest = hoppers;
+    let mut k: usize = 0;
+    while k < n {
+        if 0 < k {
+            text(b", ");
+        }
+        small(delivered[k]);
+        if 1 < n {
+            text(b" at ");
+            number(sets::lowest(rest) as u64);
+        }
+        rest = others(rest);
+        k += 1;
+    }
+}
+
 // The first line of a shown floor.
-pub fn counters(c: Counters, round: u64) {
+pub fn counters(c: Counters, hoppers: u64, round: u64) {
     text(b"show: last ");
     small(c.last);
     text(b", booked ");
     small(c.booked);
     text(b", delivered ");
-    small(c.delivered);
+    let delivered = c.delivered;
+    counted(hoppers, delivered);
     text(b", round ");
     number(round);
     text(b"\n");
@@ -264,7 +360,8 @@ pub fn cell(at: u8, t: Tile) {
 }
 
 pub fn help() {
-    text(b"help: fresh W H HOPPER FILL U l r v   (FILL: all, none, or tiles as 0,2,3)\n");
+    text(b"help: fresh W H HOPPERS FILL U l r v   (FILL: all, none, or tiles as 0,2,3)\n");
+    text(b"      HOPPER: a tile, or up to four as 0,3\n");
     text(b"      fresh! with the same words: also where the floor holds canisters\n");
     text(b"      book TILE NUMBER A B | stop TILE | repair TILE | round | rounds N | read TILE\n");
     text(b"      show | help | quit | # a remark\n");

@@ -5,16 +5,20 @@ use Prim.Native.Nat.{ℕ, _-_, _/_, _^_, _≤_, _<_}
 use native.Mathlib.Omega.{arith}
 use native.Mathlib.Nat.{mul-le-mul}
 use lib.Dec.{leb, ltb}
+use lib.ListN.{length}
 use borrow.Author.Tests.{leb-false, ltb-true, ltb-false, le-leb, lt-leb}
-use Rattle.laws.specs.Define.{bit, refusal}
+use Rattle.laws.specs.Define.{anyOf, bit, bitsBelow, refusal}
+use Rattle.laws.specs.SetBits.{bits-within}
 use Rattle.floor.specs.declared.Settings.{Settings}
-use Rattle.floor.specs.Settings.{total, spacing, span, settingsTests, settingsRefusal}
+use Rattle.floor.specs.Settings.{total, spacing, span, hoppersOf, settingsTests, settingsRefusal}
 
 unfoldable pub sizesWrong : Settings → Bool
 sizesWrong s = ltb (s .columns) 1 || (ltb 8 (s .columns) || (ltb (s .rows) 1 || (ltb 8 (s .rows) || ltb (total s) 2)))
 
 unfoldable pub hopperWrong : Settings → Bool
-hopperWrong s = leb (total s) (s .hopper) || (bit (s .sources) (s .hopper) || leb (2 ^ total s) (s .sources))
+hopperWrong s =
+    leb (2 ^ total s) (s .hoppers)
+    || (ltb (length (hoppersOf s)) 1 || (ltb 4 (length (hoppersOf s)) || (anyOf (bit (s .sources)) (hoppersOf s) || leb (2 ^ total s) (s .sources))))
 
 unfoldable pub rulesWrong : Settings → Bool
 rulesWrong s = ltb (s .width) 2 || (ltb 60000 (s .width) || (ltb (s .travel) 1 || (leb (s .length) (s .travel) || leb (s .width) (spacing s))))
@@ -66,10 +70,6 @@ rules-length s h =
     (omega arith, omega arith)
 
 -- ---- refusal 2, branch by branch
-pub hopper-off : (s : Settings) → total s ≤ s .hopper → true ≡ hopperWrong s
-unfolding hopperWrong
-hopper-off s h = rw (le-leb (total s) (s .hopper) h)
-
 not-ltb : (m n : ℕ) → not (ltb m n) ≡ leb n m
 not-ltb m n = go (ltb m n) refl
   where
@@ -77,6 +77,13 @@ not-ltb m n = go (ltb m n) refl
     go true e = sym (lt-leb n m (ltb-true m n e))
     go false e = sym (le-leb n m (ltb-false m n e))
 
-pub hopper-on : (s : Settings) {own on : Bool} → s .hopper < total s → own ≡ bit (s .sources) (s .hopper) → on ≡ ltb (s .sources) (2 ^ total s) → (own || not on) ≡ hopperWrong s
+pub hopper-off : (s : Settings) → ltb (s .hoppers) (2 ^ total s) ≡ false → true ≡ hopperWrong s
 unfolding hopperWrong
-hopper-on s h e q = rw (e, q, lt-leb (total s) (s .hopper) h, not-ltb (s .sources) (2 ^ total s))
+hopper-off s h = rw (le-leb (2 ^ total s) (s .hoppers) (ltb-false (s .hoppers) (2 ^ total s) h))
+
+pub hopper-on : (s : Settings) {n : ℕ} {own on : Bool} → total s ≤ 64 → ltb (s .hoppers) (2 ^ total s) ≡ true → n ≡ length (bitsBelow (s .hoppers) 64) → own ≡ anyOf (bit (s .sources)) (bitsBelow (s .hoppers) 64)
+    → on ≡ ltb (s .sources) (2 ^ total s) → (ltb n 1 || (ltb 4 n || (own || not on))) ≡ hopperWrong s
+unfolding hopperWrong hoppersOf
+hopper-on s few h e p q =
+    let l : s .hoppers < 2 ^ total s = ltb-true (s .hoppers) (2 ^ total s) h in
+    rw (e, p, q, bits-within (s .hoppers) (total s) 64 few l, lt-leb (2 ^ total s) (s .hoppers) l, not-ltb (s .sources) (2 ^ total s))

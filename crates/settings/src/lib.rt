@@ -5,7 +5,8 @@ ghost use Prim.Native.Nat.{_<_};
 ghost use Rattle.floor.specs.Settings.{total, settingsRefusal};
 ghost use Rattle.settings.specs.Groups.{sizesWrong, hopperWrong, rulesWrong, measuresWrong};
 use floor::Settings;
-use sets::has;
+use sets::meets;
+use sets::size;
 use sets::within;
 
 // The number of tiles.
@@ -25,18 +26,19 @@ pub fn sizes_wrong(s: Settings) -> bool
     (columns < 1) | ((8 < columns) | ((rows < 1) | ((8 < rows) | (all < 2))))
 }
 
-// Refusal 2. The sets of bits are looked at only where the hopper is on the floor.
+// Refusal 2. The hoppers are counted only where all of them are on the floor.
 pub fn hopper_wrong(s: Settings) -> bool
     requires { ⌜ sizesWrong s ≡ false ⌝ }
     ensures { λ r. ⌜ r ≡ hopperWrong s ⌝ }
 {
     let all = s.columns * s.rows;
-    if all <= s.hopper {
+    if !within(s.hoppers, all) {
         return true;
     }
-    let own = has(s.sources, s.hopper);
+    let n = size(s.hoppers);
+    let own = meets(s.hoppers, s.sources);
     let on = within(s.sources, all);
-    own | !on
+    (n < 1) | ((4 < n) | (own | !on))
 }
 
 // The measures without the division.

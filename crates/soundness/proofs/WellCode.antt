@@ -17,7 +17,7 @@ use Rattle.laws.specs.Lists.{all-imp, all-both, all-map, all-unmap, all-true, t
 use Rattle.floor.specs.declared.Canister.{Canister}
 use Rattle.floor.specs.declared.Settings.{Settings}
 use Rattle.floor.specs.declared.Floor.{Floor}
-use Rattle.floor.specs.Settings.{total, spacing, settingsRefusal, settingsPass}
+use Rattle.floor.specs.Settings.{total, spacing, hoppersOf, settingsRefusal, settingsPass}
 use Rattle.floor.specs.Model.{tileOf, numbers, numbersOn}
 use Rattle.floor.specs.Memory.{headOf, view, block, tileFits}
 use Rattle.floor.specs.Well.{headSound, inside, apart, inOrder, membersSound, tileSound, numbersSound, countersSound, sound, wellFormed}
@@ -140,12 +140,12 @@ sound-parts : (f : Floor) → sound (view f) ≡ true
     ↔ (settingsPass (f .settings) ≡ true × ((eqb (length (view f .tiles)) (total (f .settings)) ≡ true)
     × ((allBelow (λ t. tileSound (f .settings) t (tileOf (view f) t)) (total (f .settings)) ≡ true)
     × ((allOf (λ n. ltb 0 n && leb n (f .counters .last)) (numbersOn (view f)) ≡ true × pairsOf (λ x y. not (eqb x y)) (numbersOn (view f)) ≡ true)
-    × (countersSound (f .counters) (length (numbersOn (view f))) ≡ true)))))
+    × (countersSound (length (hoppersOf (f .settings))) (f .counters) (length (numbersOn (view f))) ≡ true)))))
 unfolding sound view numbersSound
 sound-parts f = r-and (r-id _) (r-and (r-id _) (r-and (r-id _) (r-and (r-and (r-id _) (r-id _)) (r-id _))))
 
 abbrev pub wellTest : Floor → Bool
-wellTest f = settingsPass (f .settings) && (allBelow (testOf f) 64 && (countersSound (f .counters) (counted (f .tiles) 64) && differ (numbers (f .canisters))))
+wellTest f = settingsPass (f .settings) && (allBelow (testOf f) 64 && (countersSound (length (hoppersOf (f .settings))) (f .counters) (counted (f .tiles) 64) && differ (numbers (f .canisters))))
 
 module _ (f : Floor) (lt : length (f .tiles) ≡ 64) (lc : length (f .canisters) ≡ 1024) where
   few-of-pass : settingsPass (f .settings) ≡ true → total (f .settings) ≤ 64
@@ -163,7 +163,7 @@ module _ (f : Floor) (lt : length (f .tiles) ≡ 64) (lc : length (f .canisters)
       let all = below-of (testOf f) 64 (λ t k. test-of f t (fit t k) (λ on. (sym (tile-view f t lc k (fit t k) on) ∙ below-at (λ t. tileSound (f .settings) t (tileOf (view f) t)) (total (f .settings)) (p .1 .1 .0) t on, one t k))) in
       and-true (p .0)
       (and-true all
-      (and-true (ap (countersSound (f .counters)) (sym (count-view f lc few fit)) ∙ p .1 .1 .1 .1) (differ-view f lc few fit (positive-each f all) ∙ p .1 .1 .1 .0 .1)))
+      (and-true (ap (countersSound (length (hoppersOf (f .settings))) (f .counters)) (sym (count-view f lc few fit)) ∙ p .1 .1 .1 .1) (differ-view f lc few fit (positive-each f all) ∙ p .1 .1 .1 .0 .1)))
 
   out : wellTest f ≡ true → wellFormed f ≡ true
   unfolding wellFormed
@@ -172,15 +172,15 @@ module _ (f : Floor) (lt : length (f .tiles) ≡ 64) (lc : length (f .canisters)
       let h1 = and-right (settingsPass (f .settings)) _ h in
       let all = and-left (allBelow (testOf f) 64) _ h1 in
       let h2 = and-right (allBelow (testOf f) 64) _ h1 in
-      let cnt = and-left (countersSound (f .counters) (counted (f .tiles) 64)) _ h2 in
-      let dif = and-right (countersSound (f .counters) (counted (f .tiles) 64)) _ h2 in
+      let cnt = and-left (countersSound (length (hoppersOf (f .settings))) (f .counters) (counted (f .tiles) 64)) _ h2 in
+      let dif = and-right (countersSound (length (hoppersOf (f .settings))) (f .counters) (counted (f .tiles) 64)) _ h2 in
       let few = few-of-pass pass in
       let fit = fit-each f all in
       let nums = all-cat (Numbered (f .counters .last)) 64 (λ t. numbers (usedOf f t)) (λ t k. all-map (Numbered (f .counters .last)) (λ (c : Canister). c .number) (usedOf f t) (numbered-each f all t k)) in
       let each = true-all (λ n. ltb 0 n && leb n (f .counters .last)) (numbersOn (view f)) (subst (λ l. All (Numbered (f .counters .last)) l) (sym (numbers-view f lc few fit)) nums) in
       let tiles = below-of (λ t. tileSound (f .settings) t (tileOf (view f) t)) (total (f .settings)) (λ t on. let k : t < 64 = omega arith in tile-view f t lc k (fit t k) on ∙ test-tests f t (below-at (testOf f) 64 all t k) on .0) in
       and-true
-      (sound-parts f .1 (pass, (eq-eqb _ _ (view-length f), (tiles, ((each, sym (differ-view f lc few fit (positive-each f all)) ∙ dif), ap (countersSound (f .counters)) (count-view f lc few fit) ∙ cnt)))))
+      (sound-parts f .1 (pass, (eq-eqb _ _ (view-length f), (tiles, ((each, sym (differ-view f lc few fit (positive-each f all)) ∙ dif), ap (countersSound (length (hoppersOf (f .settings))) (f .counters)) (count-view f lc few fit) ∙ cnt)))))
       (fits-of f lt lc fit)
 
   pub well-code : wellFormed f ≡ wellTest f
@@ -193,17 +193,17 @@ module _ (f : Floor) (lt : length (f .tiles) ≡ 64) (lc : length (f .canisters)
   pub well-unlike : settingsPass (f .settings) ≡ true → (t : ℕ) → t < 64 → testOf f t ≡ false → false ≡ wellFormed f
   well-unlike p t on h = rw (well-code, p, some-fails (testOf f) 64 t on h)
 
-  pub well-tiled : settingsPass (f .settings) ≡ true → allBelow (testOf f) 64 ≡ true → (countersSound (f .counters) (counted (f .tiles) 64) && differ (numbers (f .canisters))) ≡ wellFormed f
+  pub well-tiled : settingsPass (f .settings) ≡ true → allBelow (testOf f) 64 ≡ true → (countersSound (length (hoppersOf (f .settings))) (f .counters) (counted (f .tiles) 64) && differ (numbers (f .canisters))) ≡ wellFormed f
   well-tiled p h = rw (well-code, p, h)
 
-  pub well-empty : settingsPass (f .settings) ≡ true → allBelow (testOf f) 64 ≡ true → counted (f .tiles) 64 ≡ 0 → countersSound (f .counters) (counted (f .tiles) 64) ≡ wellFormed f
+  pub well-empty : settingsPass (f .settings) ≡ true → allBelow (testOf f) 64 ≡ true → counted (f .tiles) 64 ≡ 0 → countersSound (length (hoppersOf (f .settings))) (f .counters) (counted (f .tiles) 64) ≡ wellFormed f
   unfolding pairsOf
   well-empty p h z =
       let few = few-of-pass p in
       let fit = fit-each f h in
       let none : numbersOn (view f) ≡ [] = empty-of (numbersOn (view f)) (count-view f lc few fit ∙ z) in
       let d : differ (numbers (f .canisters)) ≡ true = differ-view f lc few fit (positive-each f h) ∙ ap (pairsOf (λ x y. not (eqb x y))) none in
-      let count = countersSound (f .counters) (counted (f .tiles) 64) in
+      let count = countersSound (length (hoppersOf (f .settings))) (f .counters) (counted (f .tiles) 64) in
       sym (and-yes count) ∙ ap (λ (b : Bool). count && b) (sym d) ∙ well-tiled p h
 
 -- ---- the settings

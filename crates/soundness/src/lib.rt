@@ -1,8 +1,9 @@
 // Whether a floor in memory is well formed, on any bytes.
 ghost use mathlib.Core.Path.{_≡_};
 ghost use mathlib.Core.Bool.{true};
-ghost use Prim.Native.Nat.{_≤_};
-ghost use Rattle.floor.specs.Settings.{settingsPass};
+ghost use Prim.Native.Nat.{_≤_, _<_, _^_};
+ghost use lib.ListN.{length};
+ghost use Rattle.floor.specs.Settings.{hoppersOf, settingsPass};
 ghost use Rattle.floor.specs.Well.{countersSound, wellFormed};
 ghost use Rattle.heads.specs.Head.{Sized};
 ghost use Rattle.soundness.specs.Tile.{tileTest};
@@ -18,6 +19,7 @@ use heads::head_ok;
 use places::members_ok;
 use places::pairs_ok;
 use places::rest_ok;
+use sets::size;
 use settings::settings_refusal;
 use settings::tiles_of;
 
@@ -61,13 +63,29 @@ pub fn count_all(tiles: [Tile; 64]) -> u32
     sum
 }
 
-// The counters, with n canisters on the floor. The sum may exceed 32 bits.
-pub fn counters_ok(c: Counters, n: u32) -> bool
-    ensures { λ r. ⌜ r ≡ countersSound c n ⌝ }
+// A number as a wider one.
+fn wide(x: u32) -> u64
+    ensures { λ r. ⌜ (r ≡ x) × (r < 2 ^ 32) ⌝ }
 {
-    let sum = (c.delivered as u64) + (n as u64);
+    x as u64
+}
+
+// The counters, with n canisters on the floor. The sum may exceed 32 bits.
+pub fn counters_ok(s: Settings, c: Counters, n: u32) -> bool
+    requires { ⌜ settingsPass s ≡ true ⌝ }
+    ensures { λ r. ⌜ r ≡ countersSound (length (hoppersOf s)) c n ⌝ }
+{
+    let h = size(s.hoppers);
+    let d = c.delivered;
+    let d0 = d[0];
+    let d1 = d[1];
+    let d2 = d[2];
+    let d3 = d[3];
+    let spare = ((0 < h) | (d0 == 0))
+        & (((1 < h) | (d1 == 0)) & (((2 < h) | (d2 == 0)) & ((3 < h) | (d3 == 0))));
+    let sum = wide(d0) + wide(d1) + wide(d2) + wide(d3) + wide(n);
     let booked = c.booked as u64;
-    (booked == sum) & (c.booked <= c.last)
+    spare & ((booked == sum) & (c.booked <= c.last))
 }
 
 // Well formed, once the settings have passed. The places are read where they stand; where no canister is on the floor, no numbers are compared.
@@ -91,7 +109,7 @@ pub fn scan(f: Floor) -> bool
     }
     let tiles = f.tiles;
     let n = count_all(tiles);
-    let added = counters_ok(counters, n);
+    let added = counters_ok(s, counters, n);
     if n == 0 {
         return added;
     }

@@ -20,7 +20,7 @@ pub fn settings(columns: u8, rows: u8, hopper: u8, sources: u64, travel: u16) ->
     Settings {
         columns: columns,
         rows: rows,
-        hopper: hopper,
+        hoppers: sets::single(hopper),
         sources: sources,
         width: 100,
         length: 30,
@@ -104,7 +104,8 @@ pub fn delivered(f: Floor, n: u8) -> u64 {
     let after = rounds(f, n);
     let answer = calls::round(after);
     let report = answer.report;
-    wide(report.delivered[0])
+    let first = report.deliveries[0];
+    wide(first.numbers[0])
 }
 
 // What tile 1 grants in the round after n rounds.

@@ -12,7 +12,7 @@ fn wide_floor() -> Floor {
     let s = Settings {
         columns: 8,
         rows: 8,
-        hopper: 27,
+        hoppers: 134217728,
         sources: 18446744073575333887,
         width: 100,
         length: 10,
@@ -94,15 +94,22 @@ fn emptied(f: Floor, due: u64, most: u32) -> Emptying {
         let floor = e.floor;
         let answer = calls::round(floor);
         let report = answer.report;
-        let delivered = report.delivered;
+        let first = report.deliveries[0];
+        let delivered = first.numbers;
         let after = answer.floor;
         e.floor = after;
-        e.reported = std::num::wrapping_add_u64(e.reported, report.count as u64);
+        e.reported = std::num::wrapping_add_u64(e.reported, first.count as u64);
         e.sum = std::num::wrapping_add_u64(e.sum, sum4(delivered));
         e.rounds = std::num::wrapping_add_u64(e.rounds, 1);
         k += 1;
     }
     e
+}
+
+// How many the one hopper has taken in.
+fn came(f: Floor) -> u64 {
+    let c = f.counters;
+    wide(c.delivered[0])
 }
 
 // 1,008 bookings, then 34 on each of three full tiles.
@@ -131,14 +138,9 @@ pub fn all(t: Tally) -> Tally {
     let next = fills(t, f);
     let floor = f.floor;
     let some = emptied(floor, 1008, 100);
-    let first = [
-        some.rounds,
-        some.reported,
-        some.floor.counters.delivered as u64,
-        0,
-        0,
-        0,
-    ];
+    let some_floor = some.floor;
+    let came_some = came(some_floor);
+    let first = [some.rounds, some.reported, came_some, 0, 0, 0];
     let then = trial(
         next,
         b"8 x 8: the first hundred rounds",
@@ -146,10 +148,12 @@ pub fn all(t: Tally) -> Tally {
         [100, 100, 100, 0, 0, 0],
     );
     let e = emptied(floor, 1008, 60000);
+    let last_floor = e.floor;
+    let came_all = came(last_floor);
     let gave = [
         e.reported,
         e.sum,
-        e.floor.counters.delivered as u64,
+        came_all,
         e.floor.counters.booked as u64,
         e.floor.counters.last as u64,
         e.rounds,

@@ -1,8 +1,10 @@
 // The calls as they are typed: each takes the session and the line, writes its answer and gives the session on.
-ghost use Prim.Native.Nat.{_-_};
+ghost use Prim.Native.Nat.{_-_, _<_, _^_};
+ghost use Rattle.laws.specs.Define.{sum};
 ghost use mathlib.Core.Path.{_≡_};
 use floor::Canister;
 use floor::Counters;
+use floor::Delivery;
 use floor::Floor;
 use floor::Settings;
 use parse::Numbers;
@@ -24,7 +26,7 @@ pub fn begin() -> Session {
     let nothing = Settings {
         columns: 0,
         rows: 0,
-        hopper: 0,
+        hoppers: 0,
         sources: 0,
         width: 0,
         length: 0,
@@ -57,33 +59,39 @@ fn refused(s: Session, name: &[u8], n: u8) -> Session {
     s
 }
 
-// The canisters on a floor.
-fn held(c: Counters) -> u32
-    ensures { λ r. ⌜ r ≡ c .booked - c .delivered ⌝ }
+// A number as a wider one.
+fn wide(x: u32) -> u64
+    ensures { λ r. ⌜ (r ≡ x) × (r < 2 ^ 32) ⌝ }
 {
-    if c.delivered < c.booked {
-        c.booked - c.delivered
-    } else {
-        0
-    }
+    x as u64
 }
 
-// Every tile but the hopper.
+// The canisters on a floor.
+fn held(c: Counters) -> u64
+    ensures { λ r. ⌜ r ≡ c .booked - sum (c .delivered) ⌝ }
+{
+    let d = c.delivered;
+    let all = wide(d[0]) + wide(d[1]) + wide(d[2]) + wide(d[3]);
+    let booked = wide(c.booked);
+    if all < booked { booked - all } else { 0 }
+}
+
+// Every tile but the hoppers.
 fn all_sources(s: Settings) -> u64 {
-    let all = settings::tiles_of(s);
-    let hopper = s.hopper;
-    if 64 < all || 63 < hopper {
+    let n = settings::tiles_of(s);
+    if 64 < n {
         return 0;
     }
-    sets::without(sets::full(all as u8), hopper)
+    let all = sets::full(n as u8);
+    all ^ (all & s.hoppers)
 }
 
-// The settings that a `fresh` names by the numbers before and after its fill tiles, without these.
-fn chosen_settings(a: Numbers, b: Numbers) -> Settings {
+// The settings that a `fresh` names by its hoppers and the numbers before and after its sets, without fill tiles.
+fn chosen_settings(a: Numbers, hoppers: u64, b: Numbers) -> Settings {
     Settings {
         columns: parse::byte(a.at[0]),
         rows: parse::byte(a.at[1]),
-        hopper: parse::byte(a.at[2]),
+        hoppers: hoppers,
         sources: 0,
         width: parse::short(b.at[0]),
         length: parse::short(b.at[1]),
@@ -94,12 +102,16 @@ fn chosen_settings(a: Numbers, b: Numbers) -> Settings {
 
 // A refused fresh leaves the floor as it was. One that holds canisters is given up by `fresh!` alone.
 fn fresh(s: Session, line: &[u8], give_up: bool) -> Session {
-    let a = parse::numbers_at(line, 1, 3);
+    let a = parse::numbers_at(line, 1, 2);
     let b = parse::numbers_at(line, 5, 4);
     if !(a.good & b.good & parse::ended(line, 9)) {
         return cannot(s, line);
     }
-    let mut chosen = chosen_settings(a, b);
+    let named = parse::tiles_at(line, 3);
+    let Sources::Set(hoppers) = named else {
+        return cannot(s, line);
+    };
+    let mut chosen = chosen_settings(a, hoppers, b);
     let everywhere = all_sources(chosen);
     let sources = parse::sources_at(line, 4);
     match sources {
@@ -117,7 +129,7 @@ fn fresh(s: Session, line: &[u8], give_up: bool) -> Session {
         say::holds(canisters);
         return s;
     }
-    say::made(a.at[0], a.at[1], a.at[2]);
+    say::made(a.at[0], a.at[1], hoppers);
     let mut next = s;
     let made = answer.floor;
     next.floor = made;
@@ -186,15 +198,14 @@ fn repair(s: Session, line: &[u8]) -> Session {
 struct Stepped {
     session: Session,
     refusal: u8,
-    count: u8,
-    delivered: [u32; 4],
+    deliveries: [Delivery; 4],
 }
 
 fn step(s: Session) -> Stepped {
     let floor = s.floor;
     let answer = calls::round(floor);
     let report = answer.report;
-    let delivered = report.delivered;
+    let deliveries = report.deliveries;
     let mut next = s;
     if answer.refusal == 0 {
         let moved = answer.floor;
@@ -204,8 +215,7 @@ fn step(s: Session) -> Stepped {
     Stepped {
         session: next,
         refusal: answer.refusal,
-        count: report.count,
-        delivered: delivered,
+        deliveries: deliveries,
     }
 }
 
@@ -218,8 +228,8 @@ fn round(s: Session, line: &[u8]) -> Session {
     if done.refusal != 0 {
         return refused(next, b"round", done.refusal);
     }
-    let delivered = done.delivered;
-    say::delivered(next.rounds, done.count, delivered);
+    let deliveries = done.deliveries;
+    say::delivered(next.rounds, next.floor.settings.hoppers, deliveries);
     next
 }
 
@@ -234,9 +244,9 @@ fn go(s: Session, n: u32) -> Session {
         }
         let after = done.session;
         next = after;
-        if done.count != 0 {
-            let delivered = done.delivered;
-            say::delivered(next.rounds, done.count, delivered);
+        let deliveries = done.deliveries;
+        if say::some(deliveries) {
+            say::delivered(next.rounds, next.floor.settings.hoppers, deliveries);
         }
         k += 1;
     }
@@ -312,8 +322,8 @@ fn show(s: Session, line: &[u8]) -> Session {
         return refused(s, b"show", answer.refusal);
     }
     let counters = floor.counters;
-    say::counters(counters, s.rounds);
     let settings = floor.settings;
+    say::counters(counters, settings.hoppers, s.rounds);
     show_rows(floor, settings.columns, settings.rows);
     s
 }

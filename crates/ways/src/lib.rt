@@ -1,25 +1,35 @@
-// Parts of Move: the side along which a tile moves, what the hopper takes in, and the answer.
+// Parts of Move: the side along which a tile moves, what the hoppers take in, and the answer.
 ghost use mathlib.Core.Path.{_≡_};
-ghost use mathlib.Core.Logic.{_≢_};
-ghost use mathlib.Core.Bool.{cond};
-ghost use Prim.Native.Nat.{_≤_, _<_, _+_, _^_};
-ghost use lib.ListN.{getD};
+ghost use mathlib.Core.Bool.{true, false, cond};
+ghost use Prim.Native.Nat.{ℕ, _≤_, _<_, _+_, _^_};
+ghost use lib.ListN.{getD, set};
 ghost use Rattle.laws.specs.Define.{tab};
+ghost use Rattle.floor.specs.Settings.{isHopper};
+ghost use Rattle.floor.specs.Model.{numbers};
 ghost use Rattle.floor.specs.Memory.{zeroCanister};
 ghost use Rattle.floor.specs.Move.{wayOf, leaving};
-ghost use Rattle.members.specs.Held.{listOf, Holds};
-ghost use Rattle.ways.specs.Came.{withCame};
+ghost use Rattle.floor.specs.Calls.{deliveryOf, noDelivery};
+ghost use Rattle.members.specs.Held.{listOf};
+ghost use Rattle.ways.specs.Came.{raisedBy, withCame};
 use floor::Canister;
+use floor::Counters;
+use floor::Delivery;
 use floor::Floor;
 use floor::Members;
 use floor::Settings;
 use members::sift;
+use sets::holds;
 
-// What Move gives: the floor, how many were delivered, and their numbers, rising, then zeros.
+// What Move gives: the floor, and what came to each hopper, the hoppers in tile order.
 pub struct Moved {
     pub floor: Floor,
-    pub count: u8,
-    pub delivered: [u32; 4],
+    pub deliveries: [Delivery; 4],
+}
+
+// What the hoppers took in so far: how many of them were found, and what came to each.
+pub struct Takings {
+    pub deliveries: [Delivery; 4],
+    pub found: u8,
 }
 
 // The number where there is one, else 0.
@@ -47,17 +57,6 @@ pub fn held(n: u8, items: [Canister; 16]) -> Members
     }
 }
 
-// What the hopper takes in; at any other tile it stays as it was.
-pub fn taken_in(s: Settings, t: usize, come: u8, others: Members, came: Members) -> Members
-    requires { ⌜ (others .count ≤ 16) × (s .length ≤ s .width) ⌝ }
-    ensures { λ r. ⌜ ((t ≡ s .hopper) → Holds r (leaving s come (listOf others))) × ((t ≢ s .hopper) → r ≡ came) ⌝ }
-{
-    if t == s.hopper as usize {
-        return sift(s, come, true, others);
-    }
-    came
-}
-
 // The numbers of the first four.
 pub fn first_numbers(m: Members) -> [u32; 4]
     ensures { λ r. ⌜ r ≡ tab 4 (λ k. getD (m .items) k zeroCanister .number) ⌝ }
@@ -71,18 +70,73 @@ pub fn first_numbers(m: Members) -> [u32; 4]
     numbers
 }
 
-// The answer, the counter raised by those that came.
-pub fn finish(f: Floor, came: Members) -> Moved
-    requires { ⌜ f .counters .delivered + came .count < 2 ^ 32 ⌝ }
-    ensures { λ r. ⌜ (r .floor ≡ withCame f (came .count)) × (r .count ≡ came .count) × (r .delivered ≡ tab 4 (λ k. getD (came .items) k zeroCanister .number)) ⌝ }
+// What a hopper takes in, as a report lists it.
+pub fn delivery(m: Members) -> Delivery
+    ensures { λ r. ⌜ r ≡ record { numbers = tab 4 (λ k. getD (m .items) k zeroCanister .number); count = m .count } ⌝ }
 {
-    let numbers = first_numbers(came);
-    let sum = f.counters.delivered + came.count as u32;
+    let numbers = first_numbers(m);
+    Delivery {
+        numbers: numbers,
+        count: m.count,
+    }
+}
+
+// One more delivery, behind those found so far.
+pub fn added(came: Takings, more: Delivery) -> Takings
+    requires { ⌜ came .found < 4 ⌝ }
+    ensures { λ r. ⌜ (r .found ≡ came .found + 1) × (r .deliveries ≡ set (came .deliveries) (came .found) more) ⌝ }
+{
+    let mut d = came.deliveries;
+    let k = came.found as usize;
+    d[k] = more;
+    Takings {
+        deliveries: d,
+        found: came.found + 1,
+    }
+}
+
+// What the hoppers took in up to tile t, t too; at a tile that is no hopper it stays as it was.
+pub fn taken_in(s: Settings, t: usize, come: u8, others: Members, came: Takings) -> Takings
+    requires { ⌜ (others .count ≤ 16) × (s .length ≤ s .width) × (isHopper s t ≡ true → came .found < 4) ⌝ }
+    ensures { λ r. ⌜ (isHopper s t ≡ true → (r .found ≡ came .found + 1) × (r .deliveries ≡ set (came .deliveries) (came .found) (deliveryOf (numbers (leaving s come (listOf others)))))) × (isHopper s t ≡ false → r ≡ came) ⌝ }
+{
+    if holds(s.hoppers, t) {
+        let more = delivery(sift(s, come, true, others));
+        return added(came, more);
+    }
+    came
+}
+
+// The counters, each raised by what came to its hopper.
+pub fn raise(c: Counters, d: [Delivery; 4]) -> Counters
+    requires { ⌜ ((k : ℕ) → k < 4 → getD (c .delivered) k 0 + getD d k noDelivery .count < 2 ^ 32) ⌝ }
+    ensures { λ r. ⌜ r ≡ raisedBy c d ⌝ }
+{
+    let old = c.delivered;
+    let mut sums = [0u32; 4];
+    for k in 0usize..4 {
+        let one = d[k];
+        sums[k] = old[k] + one.count as u32;
+    }
+    Counters {
+        last: c.last,
+        booked: c.booked,
+        delivered: sums,
+    }
+}
+
+// The answer, the counters raised by those that came.
+pub fn finish(f: Floor, came: Takings) -> Moved
+    requires { ⌜ ((k : ℕ) → k < 4 → getD (f .counters .delivered) k 0 + getD (came .deliveries) k noDelivery .count < 2 ^ 32) ⌝ }
+    ensures { λ r. ⌜ (r .floor ≡ withCame f (came .deliveries)) × (r .deliveries ≡ came .deliveries) ⌝ }
+{
+    let d = came.deliveries;
+    let old = f.counters;
+    let counters = raise(old, d);
     let mut out = f;
-    out.counters.delivered = sum;
+    out.counters = counters;
     Moved {
         floor: out,
-        count: came.count,
-        delivered: numbers,
+        deliveries: d,
     }
 }

@@ -1,24 +1,26 @@
 -- Laws of the writer: the turns of its loops, how long the records of the tiles are, and the whole as the image.
 use mathlib.Core.Path.{_≡_, refl, sym, ap, _∙_}
-use mathlib.Core.Bool.{true}
+use mathlib.Core.Bool.{Bool, true, false, cond}
 use mathlib.Core.List.{List, [], _++_, append-assoc, append-nil}
 use Prim.Native.Nat.{ℕ, zero, suc, _+_, _-_, _*_, _≤_, _<_}
 use native.Mathlib.Omega.{arith}
 use native.Mathlib.Numerals.{add-one}
 use lib.ListN.{length, take, drop, length-append, length-drop}
 use lib.Seq.{length-take-le}
-use Rattle.laws.specs.Define.{tab}
+use lib.Dec.{ltb}
+use Rattle.laws.specs.Define.{tab, bitsBelow}
+use Rattle.laws.specs.SetBits.{bits-within}
 use Rattle.laws.specs.Tables.{tab-same}
 use Rattle.wire.specs.Bytes.{bytes}
 use Rattle.wire.specs.Put.{put, put-two}
 use Rattle.floor.specs.declared.Canister.{Canister}
 use Rattle.floor.specs.declared.Tile.{Tile}
 use Rattle.floor.specs.declared.Floor.{Floor}
-use Rattle.floor.specs.Settings.{total}
+use Rattle.floor.specs.Settings.{total, hoppersOf}
 use Rattle.floor.specs.Memory.{stateOf, view}
 use Rattle.floor.specs.Well.{wellFormed}
-use Rattle.floor.proofs.Pack.{few-on, well-few, well-fits, well-lengths}
-use Rattle.image.specs.Image.{recordOf, settingsBody, countersBody, tileBody, tilesBytes, encode}
+use Rattle.floor.proofs.Pack.{few-on, well-few, well-fits, well-lengths, well-measured}
+use Rattle.image.specs.Image.{hopperCount, several, recordOf, settingsBody, countersBody, tileBody, tilesBytes, encode}
 use Rattle.image.proofs.Records.{record-length}
 use Rattle.image.proofs.Sizes.{settings-size, counters-size, tile-size}
 use Rattle.writer.specs.Upto.{countAt, tileFor, tileRecord, upto}
@@ -108,13 +110,14 @@ module _ (f : Floor) where
       let u = upto-tiles (f .tiles) (f .canisters) 0 n in
       rw (states n) (rw (upto-none (f .tiles) (f .canisters), e) at u)
 
-  pub encode-is : encode (view f) ≡ recordOf 1 (settingsBody (f .settings)) ++ (recordOf 2 (countersBody (f .counters)) ++ (upto (f .tiles) (f .canisters) (total (f .settings)) ++ recordOf 4 []))
+  pub encode-is : encode (view f) ≡ recordOf 1 (settingsBody (f .settings)) ++ (recordOf 2 (countersBody (hopperCount (f .settings)) (f .counters)) ++ (upto (f .tiles) (f .canisters) (total (f .settings)) ++ recordOf 4 []))
   unfolding encode view
   encode-is = rw (tiles-bytes (total (f .settings)))
 
-  pub encode-long : length (encode (view f)) ≡ 44 + length (upto (f .tiles) (f .canisters) (total (f .settings)))
+  pub encode-long : length (encode (view f)) ≡ 4 + length (settingsBody (f .settings)) + (12 + 4 * hopperCount (f .settings)) + length (upto (f .tiles) (f .canisters) (total (f .settings))) + 4
   encode-long =
-      rw (encode-is, length-append, record-length 1 (settingsBody (f .settings)), settings-size (f .settings), length-append, record-length 2 (countersBody (f .counters)), counters-size (f .counters), length-append, record-length 4 [])
+      let h = hopperCount (f .settings) in
+      rw (encode-is, length-append, record-length 1 (settingsBody (f .settings)), length-append, record-length 2 (countersBody h (f .counters)), counters-size h (f .counters), length-append, record-length 4 [])
       (omega arith)
 
 -- a well-formed floor has what the writer asks for
@@ -122,7 +125,26 @@ module _ (f : Floor) (w : wellFormed f ≡ true) where
   pub counts-few : (t : ℕ) → t < total (f .settings) → countAt (f .tiles) t ≤ 16
   counts-few t l = few-on f (well-few f w) (well-fits f w) t l
 
-  pub encode-heads : length (encode (view f)) ≡ 44 + headsSize (f .tiles) (total (f .settings))
+  pub encode-heads : length (encode (view f)) ≡ 4 + length (settingsBody (f .settings)) + (12 + 4 * hopperCount (f .settings)) + headsSize (f .tiles) (total (f .settings)) + 4
   encode-heads =
       let n = well-lengths f w .1 in
-      encode-long f ∙ ap (λ (k : ℕ). 44 + k) (upto-size (f .tiles) (f .canisters) (total (f .settings)) (omega (arith, n, well-few f w)) counts-few)
+      encode-long f ∙ ap (λ (k : ℕ). 4 + length (settingsBody (f .settings)) + (12 + 4 * hopperCount (f .settings)) + k + 4) (upto-size (f .tiles) (f .canisters) (total (f .settings)) (omega (arith, n, well-few f w)) counts-few)
+
+  -- how many hoppers the code counts, and how long record 1 is
+  pub hoppers-are : (h : ℕ) → h ≡ length (bitsBelow (f .settings .hoppers) 64) → h ≡ hopperCount (f .settings)
+  unfolding hoppersOf
+  hoppers-are h e = let M = well-measured f w in e ∙ ap (λ (l : List ℕ). length l) (bits-within (f .settings .hoppers) (total (f .settings)) 64 (M .few) (M .hoppers-on))
+
+  pub hoppers-four : (h : ℕ) → h ≡ hopperCount (f .settings) → h ≤ 4
+  hoppers-four h e = omega (arith, well-measured f w .hoppers-few)
+
+  pub more-is : (h : ℕ) → h ≡ hopperCount (f .settings) → ltb 1 h ≡ several (f .settings)
+  unfolding several
+  more-is h e = ap (λ (n : ℕ). ltb 1 n) e
+
+  pub first-is : (h r : ℕ) → h ≡ hopperCount (f .settings) → r ≡ cond (ltb 1 h) 32 24 → r ≡ 4 + length (settingsBody (f .settings))
+  first-is h r e q = q ∙ ap (λ (b : Bool). cond b 32 24) (more-is h e) ∙ sym (ap (λ (n : ℕ). 4 + n) (settings-size (f .settings)) ∙ go (several (f .settings)))
+    where
+      go : (b : Bool) → 4 + cond b 28 20 ≡ cond b 32 24
+      go true = refl
+      go false = refl

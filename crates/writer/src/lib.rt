@@ -1,7 +1,8 @@
 // Writing an image: how long it is, and all its records into a buffer that has room for them. The other bytes stay.
 ghost use mathlib.Core.Path.{_≡_};
-ghost use mathlib.Core.Bool.{true};
+ghost use mathlib.Core.Bool.{true, cond};
 ghost use Prim.Native.Nat.{ℕ, _+_, _≤_, _<_};
+ghost use lib.Dec.{ltb};
 ghost use lib.ListN.{length};
 ghost use Rattle.wire.specs.Put.{put};
 ghost use Rattle.floor.specs.Memory.{view};
@@ -15,6 +16,7 @@ use records::put_counters;
 use records::put_pair;
 use records::put_settings;
 use records::put_tile;
+use sets::size;
 
 // The records of the first c tiles; the answer is the place after them. The sixteen places of a tile are copied once.
 fn put_tiles(s: &mut [u8], from: usize, tiles: [Tile; 64], all: [Canister; 1024], c: usize) -> usize
@@ -41,6 +43,16 @@ fn put_tiles(s: &mut [u8], from: usize, tiles: [Tile; 64], all: [Canister; 1024]
     at
 }
 
+// How long record 1 is, where there are h hoppers.
+fn first_length(h: u8) -> usize
+    ensures { λ r. ⌜ r ≡ cond (ltb 1 h) 32 24 ⌝ }
+{
+    if 1 < h {
+        return 32;
+    }
+    24
+}
+
 // The length of a well-formed floor's image.
 pub fn image_length(f: Floor) -> u32
     requires { ⌜ wellFormed f ≡ true ⌝ }
@@ -48,11 +60,13 @@ pub fn image_length(f: Floor) -> u32
 {
     let tiles = f.tiles;
     let c = (f.settings.columns as usize) * (f.settings.rows as usize);
-    let mut n = 44u32;
+    let h = size(f.settings.hoppers);
+    let first = first_length(h);
+    let mut n = first as u32 + 16 + 4 * (h as u32);
     let mut t = 0usize;
     while t < c {
-        let h = tiles[t];
-        n = n + 10 + 8 * (h.count as u32);
+        let head = tiles[t];
+        n = n + 10 + 8 * (head.count as u32);
         t = t + 1;
     }
     n
@@ -68,8 +82,11 @@ pub fn write_image(f: Floor, buffer: &mut [u8])
     let tiles = f.tiles;
     let all = f.canisters;
     let c = (settings.columns as usize) * (settings.rows as usize);
-    put_settings(buffer, 0, settings);
-    put_counters(buffer, 24, counters);
-    let end = put_tiles(buffer, 40, tiles, all, c);
+    let h = size(settings.hoppers);
+    let second = first_length(h);
+    put_settings(buffer, 0, settings, 1 < h);
+    put_counters(buffer, second, counters, h);
+    let third = second + 12 + 4 * (h as usize);
+    let end = put_tiles(buffer, third, tiles, all, c);
     put_pair(buffer, end, 0, 4);
 }

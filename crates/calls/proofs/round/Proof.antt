@@ -37,7 +37,7 @@ returns-2 c = let g = c .before .before .before .before .before .before .before 
     let w = sym (c .before .before .before .before .before .before .before .well-formed .ensures) ∙ not-false _ (c .before .before .before .before .before .before .if1 .left) in
     let x = c .before .before .before .before .before .turned in
     let y = c .before .before .move-floor in
-    round-accepted g.floor w (x .result .tiles) (x .result .grants) (x .ensures .0) (x .ensures .1) (y .result .floor) (y .result .count) (y .result .delivered) (y .ensures .0) (y .ensures .1) (y .ensures .2)
+    round-accepted g.floor w (x .result .tiles) (x .result .grants) (x .ensures .0) (x .ensures .1) (y .result .floor) (y .result .deliveries) (y .ensures .0) (y .ensures .1)
 
 pub round-spec : {M : Type 1} → statement M
 round-spec =

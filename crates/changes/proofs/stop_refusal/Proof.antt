@@ -1,3 +1,5 @@
+use mathlib.Core.Path.{sym, _∙_}
+use Rattle.floor.specs.Settings.{isHopper}
 use Prim.Native.Nat.{_<_, _≤_}
 use Rattle.changes.proofs.Tests.{stop-4, stop-8, stop-31, stop-0}
 use borrow.Author.Needs.{needs}
@@ -5,6 +7,7 @@ use Rattle.changes.proofs.stop_refusal.Statement.{statement}
 use Rattle.changes.proofs.stop_refusal.Tie as tie
 use Rattle.changes.proofs.stop_refusal.Reads as reads
 use Rattle.changes.proofs.stop_refusal.Lts as lts
+use Rattle.sets.proofs.holds.Reads as holds-reads
 use Rattle.changes.proofs.tile_head.Reads as tile-head-reads
 use Rattle.settings.proofs.tiles_of.Reads as tiles-of-reads
 
@@ -16,14 +19,15 @@ returns c = let g = c .before .before .before .args in
     let off : _ ≤ g.tile = c .if1 .taken in
     stop-4 g.floor g.tile (rw (c .before .tiles-of .ensures) at off)
 
-cast-if2 : tie.Need-cast-if2
-cast-if2 c = search needs
+holds-requires : tie.Need-holds-requires
+holds-requires c κs = search needs
 
 returns-2 : tie.Need-returns-2
+unfolding isHopper
 returns-2 c = let g = c .before .before .before .before .before .args in
     let on0 : g.tile < _ = c .before .before .if1 .left in
     let on = rw (c .before .before .before .tiles-of .ensures) at on0 in
-    stop-8 g.floor g.tile on (c .if2 .taken)
+    stop-8 g.floor g.tile on (sym (c .before .holds .ensures) ∙ c .if2 .taken)
 
 tile-head-requires : tie.Need-tile-head-requires
 tile-head-requires c κs = let g = c .before .before .before .before .before .args in
@@ -32,20 +36,22 @@ tile-head-requires c κs = let g = c .before .before .before .before .before .ar
     (c .before .before .before .before .before .pre, on)
 
 returns-3 : tie.Need-returns-3
+unfolding isHopper
 returns-3 c = let g = c .before .before .before .before .before .before .before .before .args in
     let on0 : g.tile < _ = c .before .before .before .before .before .if1 .left in
     let on = rw (c .before .before .before .before .before .before .tiles-of .ensures) at on0 in
     let h = c .before .before .tile-head in
-    stop-31 g.floor g.tile on (c .before .before .before .if2 .left) (h .result) (h .ensures) (c .if3 .taken)
+    stop-31 g.floor g.tile on (sym (c .before .before .before .before .holds .ensures) ∙ c .before .before .before .if2 .left) (h .result) (h .ensures) (c .if3 .taken)
 
 returns-4 : tie.Need-returns-4
+unfolding isHopper
 returns-4 c = let g = c .before .before .before .before .before .before .before .before .args in
     let on0 : g.tile < _ = c .before .before .before .before .before .if1 .left in
     let on = rw (c .before .before .before .before .before .before .tiles-of .ensures) at on0 in
     let h = c .before .before .tile-head in
-    stop-0 g.floor g.tile on (c .before .before .before .if2 .left) (h .result) (h .ensures) (c .if3 .left)
+    stop-0 g.floor g.tile on (sym (c .before .before .before .before .holds .ensures) ∙ c .before .before .before .if2 .left) (h .result) (h .ensures) (c .if3 .left)
 
 pub stop-refusal-spec : {M : Type 1} → statement M
 stop-refusal-spec =
     tie.close
-    (tie.spec tiles-of-requires returns cast-if2 returns-2 tile-head-requires returns-3 returns-4)
+    (tie.spec tiles-of-requires returns holds-requires returns-2 tile-head-requires returns-3 returns-4)

@@ -1,41 +1,113 @@
-use mathlib.Core.Path.{_∙_}
+use mathlib.Core.Path.{sym, _∙_}
 use native.Mathlib.Omega.{arith}
-use Rattle.faults.proofs.Refusals.{settings-byte, settings-long, settings-right}
+use lib.ListN.{length}
+use Rattle.faults.proofs.Refusals.{lengths-out, lengths-in, room-20, settings-long, settings-byte, settings-lowest, settings-sizes, settings-few, settings-right}
 use borrow.Author.Needs.{needs}
 use Rattle.faults.proofs.settings_fault.Statement.{statement}
 use Rattle.faults.proofs.settings_fault.Tie as tie
 use Rattle.faults.proofs.settings_fault.Reads as reads
 use Rattle.faults.proofs.settings_fault.Lts as lts
+use Rattle.faults.proofs.byte_wrong.Reads as byte-wrong-reads
 use Rattle.faults.proofs.settings_at.Reads as settings-at-reads
+use Rattle.sets.proofs.size.Reads as size-reads
 use Rattle.settings.proofs.settings_refusal.Reads as settings-refusal-reads
+use Rattle.settings.proofs.sizes_wrong.Reads as sizes-wrong-reads
 
 returns : tie.Need-returns
 returns c =
-    let g = c .before .before .args in
-    settings-long (g.s .now) g.at g.n (omega arith)
+    let S = c .before .before in
+    let e = lengths-out (S .args .n) (c .if1 .taken) in
+    settings-long (S .args .s .now) (S .args .at) (S .args .n) (e .0) (e .1)
 
 add-if2 : tie.Need-add-if2
 add-if2 c = search needs
 
 shared-slice-read-if2 : tie.Need-shared-slice-read-if2
-shared-slice-read-if2 c = search needs
+shared-slice-read-if2 c =
+    let S = c .before .before .before in
+    let g = S .args in
+    omega (arith, room-20 g.at g.n (length (g.s .now)) (S .pre) (lengths-in g.n (c .before .if1 .left)))
 
 returns-2 : tie.Need-returns-2
 returns-2 c =
-    let g = c .before .before .before .before .args in
-    settings-byte (g.s .now) g.at g.n (omega arith) (omega arith) (omega arith)
+    let S = c .before .before .before .before in
+    let g = S .args in
+    let h = lengths-in g.n (c .before .before .if1 .left) in
+    let r = room-20 g.at g.n (length (g.s .now)) (S .pre) h in
+    settings-byte (g.s .now) g.at g.n (S .pre) h r (c .if2 .taken)
 
 settings-at-requires : tie.Need-settings-at-requires
-settings-at-requires c κs = search needs
+settings-at-requires c κs =
+    let S = c .before .before .before .before in
+    (S .pre, lengths-in (S .args .n) (c .before .before .if1 .left))
+
+add-byte-wrong : tie.Need-add-byte-wrong
+add-byte-wrong c = search needs
+
+shared-slice-read-byte-wrong : tie.Need-shared-slice-read-byte-wrong
+shared-slice-read-byte-wrong c =
+    let S = c .before .before .before .before .before .before in
+    let g = S .args in
+    let h = lengths-in g.n (c .before .before .before .before .if1 .left) in
+    let r = room-20 g.at g.n (length (g.s .now)) (S .pre) h in
+    omega (arith, r)
+
+byte-wrong-requires : tie.Need-byte-wrong-requires
+byte-wrong-requires c κs = search needs
+
+returns-3 : tie.Need-returns-3
+returns-3 c =
+    let S = c .before .before .before .before .before .before .before .before in
+    let g = S .args in
+    let h = lengths-in g.n (c .before .before .before .before .before .before .if1 .left) in
+    let r = room-20 g.at g.n (length (g.s .now)) (S .pre) h in
+    let x = c .before .before .before .settings-at .ensures in
+    let e = rw (c .before .byte-wrong .ensures, x) at (c .if3 .taken) in
+    settings-lowest (g.s .now) g.at g.n (S .pre) h r (c .before .before .before .before .if2 .left) e
+
+sizes-wrong-requires : tie.Need-sizes-wrong-requires
+sizes-wrong-requires c κs = search needs
+
+returns-4 : tie.Need-returns-4
+returns-4 c =
+    let S = c .before .before .before .before .before .before .before .before .before .before in
+    let g = S .args in
+    let h = lengths-in g.n (c .before .before .before .before .before .before .before .before .if1 .left) in
+    let r = room-20 g.at g.n (length (g.s .now)) (S .pre) h in
+    let x = c .before .before .before .before .before .settings-at .ensures in
+    let e = rw (c .before .before .before .byte-wrong .ensures, x) at (c .before .before .if3 .left) in
+    let q = rw x at (sym (c .before .sizes-wrong .ensures) ∙ c .if4 .taken) in
+    settings-sizes (g.s .now) g.at g.n (S .pre) h r (c .before .before .before .before .before .before .if2 .left) e q
+
+size-requires : tie.Need-size-requires
+size-requires c κs = search needs
+
+returns-5 : tie.Need-returns-5
+returns-5 c =
+    let S = c .before .before .before .before .before .before .before .before .before .before .before .before in
+    let g = S .args in
+    let h = lengths-in g.n (c .before .before .before .before .before .before .before .before .before .before .if1 .left) in
+    let r = room-20 g.at g.n (length (g.s .now)) (S .pre) h in
+    let x = c .before .before .before .before .before .before .before .settings-at .ensures in
+    let e = rw (c .before .before .before .before .before .byte-wrong .ensures, x) at (c .before .before .before .before .if3 .left) in
+    let q = rw x at (sym (c .before .before .before .sizes-wrong .ensures) ∙ c .before .before .if4 .left) in
+    let k = rw (c .before .size .ensures, x) at (c .if5 .taken) in
+    settings-few (g.s .now) g.at g.n (S .pre) h r (c .before .before .before .before .before .before .before .before .if2 .left) e q k
 
 settings-refusal-requires : tie.Need-settings-refusal-requires
 settings-refusal-requires c κs = search needs
 
-returns-3 : tie.Need-returns-3
-returns-3 c =
-    let g = c .before .before .before .before .before .before .args in
-    let e = c .before .settings-at .ensures in
-    c .settings-refusal .ensures ∙ rw e (settings-right (g.s .now) g.at g.n (omega arith) (omega arith) (omega arith))
+returns-6 : tie.Need-returns-6
+returns-6 c =
+    let S = c .before .before .before .before .before .before .before .before .before .before .before .before .before in
+    let g = S .args in
+    let h = lengths-in g.n (c .before .before .before .before .before .before .before .before .before .before .before .if1 .left) in
+    let r = room-20 g.at g.n (length (g.s .now)) (S .pre) h in
+    let x = c .before .before .before .before .before .before .before .before .settings-at .ensures in
+    let e = rw (c .before .before .before .before .before .before .byte-wrong .ensures, x) at (c .before .before .before .before .before .if3 .left) in
+    let q = rw x at (sym (c .before .before .before .before .sizes-wrong .ensures) ∙ c .before .before .before .if4 .left) in
+    let k = rw (c .before .before .size .ensures, x) at (c .before .if5 .left) in
+    c .settings-refusal .ensures ∙ rw x (settings-right (g.s .now) g.at g.n (S .pre) h r (c .before .before .before .before .before .before .before .before .before .if2 .left) e q k)
 
 pub settings-fault-spec : {M : Type 1} → statement M
 settings-fault-spec =
@@ -46,5 +118,13 @@ settings-fault-spec =
     shared-slice-read-if2
     returns-2
     settings-at-requires
+    add-byte-wrong
+    shared-slice-read-byte-wrong
+    byte-wrong-requires
+    returns-3
+    sizes-wrong-requires
+    returns-4
+    size-requires
+    returns-5
     settings-refusal-requires
-    returns-3)
+    returns-6)

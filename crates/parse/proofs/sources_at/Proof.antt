@@ -6,8 +6,7 @@ use Rattle.parse.proofs.sources_at.Tie as tie
 use Rattle.parse.proofs.sources_at.Reads as reads
 use Rattle.parse.proofs.sources_at.Lts as lts
 use Rattle.parse.proofs.is.Reads as is-reads
-use Rattle.parse.proofs.tile_list.Reads as tile-list-reads
-use Rattle.words.proofs.nth.Reads as nth-reads
+use Rattle.parse.proofs.tiles_at.Reads as tiles-at-reads
 
 slice-aggregate-is : tie.Need-slice-aggregate-is
 slice-aggregate-is c = search needs
@@ -27,23 +26,11 @@ is-requires-2 c κs = search needs
 returns-2 : tie.Need-returns-2
 returns-2 c = said-none (c .before .is2 .ensures .0 (c .if2 .taken))
 
-nth-requires : tie.Need-nth-requires
-nth-requires c κs = search needs
-
-sub-tile-list : tie.Need-sub-tile-list
-sub-tile-list c = search needs
-
-part-tile-list-start : tie.Need-part-tile-list-start
-part-tile-list-start c = search needs
-
-part-tile-list-end : tie.Need-part-tile-list-end
-part-tile-list-end c = search needs
-
-tile-list-requires : tie.Need-tile-list-requires
-tile-list-requires c κs = search needs
+tiles-at-requires : tie.Need-tiles-at-requires
+tiles-at-requires c κs = search needs
 
 returns-3 : tie.Need-returns-3
-returns-3 c = said-tiles (λ e. not-both (c .before .before .before .before .before .before .before .is .ensures .1 e) (c .before .before .before .before .before .before .if1 .left)) (λ e. not-both (c .before .before .before .before .is2 .ensures .1 e) (c .before .before .before .if2 .left)) (rw (c .before .before .nth .ensures .2) at (c .tile-list .ensures))
+returns-3 c = said-tiles (λ e. not-both (c .before .before .before .before .before .is .ensures .1 e) (c .before .before .before .before .if1 .left)) (λ e. not-both (c .before .before .is2 .ensures .1 e) (c .before .if2 .left)) (c .tiles-at .ensures)
 
 pub sources-at-spec : {M : Type 1} → statement M
 sources-at-spec =
@@ -55,9 +42,5 @@ sources-at-spec =
     slice-aggregate-is-2
     is-requires-2
     returns-2
-    nth-requires
-    sub-tile-list
-    part-tile-list-start
-    part-tile-list-end
-    tile-list-requires
+    tiles-at-requires
     returns-3)

@@ -1,9 +1,10 @@
-use mathlib.Core.Path.{_≡_, sym, _∙_}
-use Prim.Native.Nat.{_+_, _-_, _≤_}
+use mathlib.Core.Path.{_≡_, sym, _∙_, subst}
+use mathlib.Core.Logic.{_⊎_}
+use Prim.Native.Nat.{ℕ, _+_, _-_, _*_, _≤_}
 use native.Mathlib.Omega.{arith}
 use native.Mathlib.Nat.{lt-of-le-of-lt}
 use lib.ListN.{length, drop, length-drop}
-use Rattle.reader.proofs.Load.{answer-1, answer-2, answer-3, answer-4, few-code, first-ok, no-fault, second-ok, third-fits}
+use Rattle.reader.proofs.Load.{answer-1, answer-2, answer-3, answer-4, few-code, first-ok, hoppers-are, hoppers-few, no-fault, second-ok, third-fits}
 use Rattle.wire.specs.Bytes.{le}
 use Rattle.image.specs.Image.{recordFault}
 use borrow.Author.Needs.{needs}
@@ -18,6 +19,7 @@ use Rattle.reader.proofs.refused.Reads as refused-reads
 use Rattle.faults.proofs.scan_tiles.Reads as scan-tiles-reads
 use Rattle.faults.proofs.settings_at.Reads as settings-at-reads
 use Rattle.reader.proofs.tiles_of.Reads as tiles-of-reads
+use Rattle.sets.proofs.size.Reads as size-reads
 use Rattle.wire.proofs.u16_at.Reads as u16-at-reads
 
 record-fault-requires : tie.Need-record-fault-requires
@@ -31,17 +33,19 @@ returns c =
     let x = c .before .before .before .before .args .s .now in
     c .refused .ensures ∙ answer-1 x _ (c .before .before .record-fault .ensures) (c .before .if1 .taken)
 
-settings-at-requires : tie.Need-settings-at-requires
-settings-at-requires c κs =
-    let x = c .before .before .before .args .s .now in
-    let z1 = no-fault _ (recordFault 1 0 x) (c .before .record-fault .ensures) (c .if1 .left) in
-    first-ok x z1 .enough
-
 u16-at-requires : tie.Need-u16-at-requires
 u16-at-requires c κs =
+    let x = c .before .before .before .args .s .now in
+    let z1 = no-fault _ (recordFault 1 0 x) (c .before .record-fault .ensures) (c .if1 .left) in
+    omega (arith, first-ok x z1 .room)
+
+settings-at-requires : tie.Need-settings-at-requires
+settings-at-requires c κs =
     let x = c .before .before .before .before .args .s .now in
     let z1 = no-fault _ (recordFault 1 0 x) (c .before .before .record-fault .ensures) (c .before .if1 .left) in
-    omega (arith, first-ok x z1 .enough)
+    let k = first-ok x z1 in
+    let n1 : c .u16-at .result ≡ le 2 x = c .u16-at .ensures in
+    (omega (arith, k .enough), subst (λ (n : ℕ). (n ≡ 20) ⊎ (n ≡ 28)) (sym n1) (k .long))
 
 cast-second : tie.Need-cast-second
 cast-second c = search needs
@@ -49,47 +53,66 @@ cast-second c = search needs
 add-second : tie.Need-add-second
 add-second c = search needs
 
+size-requires : tie.Need-size-requires
+size-requires c κs = search needs
+
 record-fault-requires-2 : tie.Need-record-fault-requires-2
 record-fault-requires-2 c κs =
-    let x = c .before .before .before .before .before .args .s .now in
-    let z1 = no-fault _ (recordFault 1 0 x) (c .before .before .before .record-fault .ensures) (c .before .before .if1 .left) in
-    let u = c .u16-at .result in
-    let n1 : u ≡ le 2 x = c .u16-at .ensures in
+    let x = c .before .before .before .before .before .before .args .s .now in
+    let z1 = no-fault _ (recordFault 1 0 x) (c .before .before .before .before .record-fault .ensures) (c .before .before .before .if1 .left) in
+    let u = c .before .before .u16-at .result in
+    let n1 : u ≡ le 2 x = c .before .before .u16-at .ensures in
+    let st = c .before .settings-at .result in
+    let se = c .before .settings-at .ensures in
+    let h = c .size .result in
+    let he = hoppers-are x z1 u n1 st se h (c .size .ensures) in
     let k = first-ok x z1 in
-    (omega (arith, k .enough, k .long, n1), omega arith, omega arith)
+    (omega (arith, k .enough, n1), omega arith, omega arith)
 
 refused-requires-2 : tie.Need-refused-requires-2
 refused-requires-2 c κs = search needs
 
 returns-2 : tie.Need-returns-2
 returns-2 c =
-    let x = c .before .before .before .before .before .before .before .before .args .s .now in
-    let z1 = no-fault _ (recordFault 1 0 x) (c .before .before .before .before .before .before .record-fault .ensures) (c .before .before .before .before .before .if1 .left) in
-    let u = c .before .before .before .u16-at .result in
-    let n1 : u ≡ le 2 x = c .before .before .before .u16-at .ensures in
-    c .refused2 .ensures ∙ answer-2 x z1 u n1 _ (c .before .before .record-fault2 .ensures) (c .before .if2 .taken)
+    let x = c .before .before .before .before .before .before .before .before .before .args .s .now in
+    let z1 = no-fault _ (recordFault 1 0 x) (c .before .before .before .before .before .before .before .record-fault .ensures) (c .before .before .before .before .before .before .if1 .left) in
+    let u = c .before .before .before .before .before .u16-at .result in
+    let n1 : u ≡ le 2 x = c .before .before .before .before .before .u16-at .ensures in
+    let st = c .before .before .before .before .settings-at .result in
+    let se = c .before .before .before .before .settings-at .ensures in
+    let h = c .before .before .before .size .result in
+    let he = hoppers-are x z1 u n1 st se h (c .before .before .before .size .ensures) in
+    c .refused2 .ensures ∙ answer-2 x z1 u n1 h he _ (c .before .before .record-fault2 .ensures) (c .before .if2 .taken)
 
 add-counters-at : tie.Need-add-counters-at
 add-counters-at c = search needs
 
 counters-at-requires : tie.Need-counters-at-requires
 counters-at-requires c κs =
-    let x = c .before .before .before .before .before .before .before .args .s .now in
-    let z1 = no-fault _ (recordFault 1 0 x) (c .before .before .before .before .before .record-fault .ensures) (c .before .before .before .before .if1 .left) in
-    let u = c .before .before .u16-at .result in
-    let n1 : u ≡ le 2 x = c .before .before .u16-at .ensures in
-    let z2 = no-fault _ (recordFault 2 0 (drop (4 + u) x)) (c .before .record-fault2 .ensures) (c .if2 .left) in
-    let m : 16 ≤ length x - (4 + u) = rw length-drop at (second-ok (drop (4 + u) x) z2 .enough) in
-    omega (arith, m)
+    let x = c .before .before .before .before .before .before .before .before .args .s .now in
+    let z1 = no-fault _ (recordFault 1 0 x) (c .before .before .before .before .before .before .record-fault .ensures) (c .before .before .before .before .before .if1 .left) in
+    let u = c .before .before .before .before .u16-at .result in
+    let n1 : u ≡ le 2 x = c .before .before .before .before .u16-at .ensures in
+    let st = c .before .before .before .settings-at .result in
+    let se = c .before .before .before .settings-at .ensures in
+    let h = c .before .before .size .result in
+    let he = hoppers-are x z1 u n1 st se h (c .before .before .size .ensures) in
+    let z2 = no-fault _ (recordFault 2 h (drop (4 + u) x)) (c .before .record-fault2 .ensures) (c .if2 .left) in
+    let m : 12 + 4 * h ≤ length x - (4 + u) = rw length-drop at (second-ok h (drop (4 + u) x) z2 .enough) in
+    (omega (arith, m), hoppers-few x z1 h he)
 
 u16-at-requires-2 : tie.Need-u16-at-requires-2
 u16-at-requires-2 c κs =
-    let x = c .before .before .before .before .before .before .before .before .args .s .now in
-    let z1 = no-fault _ (recordFault 1 0 x) (c .before .before .before .before .before .before .record-fault .ensures) (c .before .before .before .before .before .if1 .left) in
-    let u = c .before .before .before .u16-at .result in
-    let n1 : u ≡ le 2 x = c .before .before .before .u16-at .ensures in
-    let z2 = no-fault _ (recordFault 2 0 (drop (4 + u) x)) (c .before .before .record-fault2 .ensures) (c .before .if2 .left) in
-    let m : 16 ≤ length x - (4 + u) = rw length-drop at (second-ok (drop (4 + u) x) z2 .enough) in
+    let x = c .before .before .before .before .before .before .before .before .before .args .s .now in
+    let z1 = no-fault _ (recordFault 1 0 x) (c .before .before .before .before .before .before .before .record-fault .ensures) (c .before .before .before .before .before .before .if1 .left) in
+    let u = c .before .before .before .before .before .u16-at .result in
+    let n1 : u ≡ le 2 x = c .before .before .before .before .before .u16-at .ensures in
+    let st = c .before .before .before .before .settings-at .result in
+    let se = c .before .before .before .before .settings-at .ensures in
+    let h = c .before .before .before .size .result in
+    let he = hoppers-are x z1 u n1 st se h (c .before .before .before .size .ensures) in
+    let z2 = no-fault _ (recordFault 2 h (drop (4 + u) x)) (c .before .before .record-fault2 .ensures) (c .before .if2 .left) in
+    let m : 12 + 4 * h ≤ length x - (4 + u) = rw length-drop at (second-ok h (drop (4 + u) x) z2 .enough) in
     omega (arith, m)
 
 add-third : tie.Need-add-third
@@ -109,88 +132,100 @@ cast-c-2 c = search needs
 
 mul-c : tie.Need-mul-c
 mul-c c =
-    let x = c .before .before .before .before .before .before .before .before .before .before .before .args .s .now in
-    let z1 = no-fault _ (recordFault 1 0 x) (c .before .before .before .before .before .before .before .before .before .record-fault .ensures) (c .before .before .before .before .before .before .before .before .if1 .left) in
-    let u = c .before .before .before .before .before .before .u16-at .result in
-    let n1 : u ≡ le 2 x = c .before .before .before .before .before .before .u16-at .ensures in
-    let z2 = no-fault _ (recordFault 2 0 (drop (4 + u) x)) (c .before .before .before .before .before .record-fault2 .ensures) (c .before .before .before .before .if2 .left) in
-    let w = c .before .before .u16-at2 .result in
-    let n2 : w ≡ le 2 (drop (4 + u) x) = c .before .before .u16-at2 .ensures in
+    let x = c .before .before .before .before .before .before .before .before .before .before .before .before .args .s .now in
+    let z1 = no-fault _ (recordFault 1 0 x) (c .before .before .before .before .before .before .before .before .before .before .record-fault .ensures) (c .before .before .before .before .before .before .before .before .before .if1 .left) in
+    let u = c .before .before .before .before .before .before .before .before .u16-at .result in
+    let n1 : u ≡ le 2 x = c .before .before .before .before .before .before .before .before .u16-at .ensures in
     let st = c .before .before .before .before .before .before .before .settings-at .result in
     let se = c .before .before .before .before .before .before .before .settings-at .ensures in
-    record { fits = lt-of-le-of-lt (few-code x z1 u n1 z2 w n2 st se) (omega arith) }
+    let h = c .before .before .before .before .before .before .size .result in
+    let he = hoppers-are x z1 u n1 st se h (c .before .before .before .before .before .before .size .ensures) in
+    let z2 = no-fault _ (recordFault 2 h (drop (4 + u) x)) (c .before .before .before .before .before .record-fault2 .ensures) (c .before .before .before .before .if2 .left) in
+    let w = c .before .before .u16-at2 .result in
+    let n2 : w ≡ le 2 (drop (4 + u) x) = c .before .before .u16-at2 .ensures in
+    record { fits = lt-of-le-of-lt (few-code x z1 u n1 h he z2 w n2 st se) (omega arith) }
 
 scan-tiles-requires : tie.Need-scan-tiles-requires
 scan-tiles-requires c κs =
-    let x = c .before .before .before .before .before .before .before .before .before .before .before .args .s .now in
-    let z1 = no-fault _ (recordFault 1 0 x) (c .before .before .before .before .before .before .before .before .before .record-fault .ensures) (c .before .before .before .before .before .before .before .before .if1 .left) in
-    let u = c .before .before .before .before .before .before .u16-at .result in
-    let n1 : u ≡ le 2 x = c .before .before .before .before .before .before .u16-at .ensures in
-    let z2 = no-fault _ (recordFault 2 0 (drop (4 + u) x)) (c .before .before .before .before .before .record-fault2 .ensures) (c .before .before .before .before .if2 .left) in
-    let w = c .before .before .u16-at2 .result in
-    let n2 : w ≡ le 2 (drop (4 + u) x) = c .before .before .u16-at2 .ensures in
+    let x = c .before .before .before .before .before .before .before .before .before .before .before .before .args .s .now in
+    let z1 = no-fault _ (recordFault 1 0 x) (c .before .before .before .before .before .before .before .before .before .before .record-fault .ensures) (c .before .before .before .before .before .before .before .before .before .if1 .left) in
+    let u = c .before .before .before .before .before .before .before .before .u16-at .result in
+    let n1 : u ≡ le 2 x = c .before .before .before .before .before .before .before .before .u16-at .ensures in
     let st = c .before .before .before .before .before .before .before .settings-at .result in
     let se = c .before .before .before .before .before .before .before .settings-at .ensures in
-    (third-fits x z1 u n1 z2 w n2 st se, few-code x z1 u n1 z2 w n2 st se)
+    let h = c .before .before .before .before .before .before .size .result in
+    let he = hoppers-are x z1 u n1 st se h (c .before .before .before .before .before .before .size .ensures) in
+    let z2 = no-fault _ (recordFault 2 h (drop (4 + u) x)) (c .before .before .before .before .before .record-fault2 .ensures) (c .before .before .before .before .if2 .left) in
+    let w = c .before .before .u16-at2 .result in
+    let n2 : w ≡ le 2 (drop (4 + u) x) = c .before .before .u16-at2 .ensures in
+    (third-fits x z1 u n1 h he z2 w n2 st se, few-code x z1 u n1 h he z2 w n2 st se)
 
 refused-requires-3 : tie.Need-refused-requires-3
 refused-requires-3 c κs = search needs
 
 returns-3 : tie.Need-returns-3
 returns-3 c =
-    let x = c .before .before .before .before .before .before .before .before .before .before .before .before .before .before .before .args .s .now in
-    let z1 = no-fault _ (recordFault 1 0 x) (c .before .before .before .before .before .before .before .before .before .before .before .before .before .record-fault .ensures) (c .before .before .before .before .before .before .before .before .before .before .before .before .if1 .left) in
-    let u = c .before .before .before .before .before .before .before .before .before .before .u16-at .result in
-    let n1 : u ≡ le 2 x = c .before .before .before .before .before .before .before .before .before .before .u16-at .ensures in
-    let z2 = no-fault _ (recordFault 2 0 (drop (4 + u) x)) (c .before .before .before .before .before .before .before .before .before .record-fault2 .ensures) (c .before .before .before .before .before .before .before .before .if2 .left) in
-    let w = c .before .before .before .before .before .before .u16-at2 .result in
-    let n2 : w ≡ le 2 (drop (4 + u) x) = c .before .before .before .before .before .before .u16-at2 .ensures in
+    let x = c .before .before .before .before .before .before .before .before .before .before .before .before .before .before .before .before .args .s .now in
+    let z1 = no-fault _ (recordFault 1 0 x) (c .before .before .before .before .before .before .before .before .before .before .before .before .before .before .record-fault .ensures) (c .before .before .before .before .before .before .before .before .before .before .before .before .before .if1 .left) in
+    let u = c .before .before .before .before .before .before .before .before .before .before .before .before .u16-at .result in
+    let n1 : u ≡ le 2 x = c .before .before .before .before .before .before .before .before .before .before .before .before .u16-at .ensures in
     let st = c .before .before .before .before .before .before .before .before .before .before .before .settings-at .result in
     let se = c .before .before .before .before .before .before .before .before .before .before .before .settings-at .ensures in
-    c .refused3 .ensures ∙ answer-3 x z1 u n1 z2 w n2 st se _ (c .before .before .before .scan-tiles .ensures .0) (c .before .if3 .taken)
+    let h = c .before .before .before .before .before .before .before .before .before .before .size .result in
+    let he = hoppers-are x z1 u n1 st se h (c .before .before .before .before .before .before .before .before .before .before .size .ensures) in
+    let z2 = no-fault _ (recordFault 2 h (drop (4 + u) x)) (c .before .before .before .before .before .before .before .before .before .record-fault2 .ensures) (c .before .before .before .before .before .before .before .before .if2 .left) in
+    let w = c .before .before .before .before .before .before .u16-at2 .result in
+    let n2 : w ≡ le 2 (drop (4 + u) x) = c .before .before .before .before .before .before .u16-at2 .ensures in
+    c .refused3 .ensures ∙ answer-3 x z1 u n1 h he z2 w n2 st se _ (c .before .before .before .scan-tiles .ensures .0) (c .before .if3 .taken)
 
 tiles-of-requires : tie.Need-tiles-of-requires
 tiles-of-requires c κs =
-    let x = c .before .before .before .before .before .before .before .before .before .before .before .before .before .before .before .args .s .now in
-    let z1 = no-fault _ (recordFault 1 0 x) (c .before .before .before .before .before .before .before .before .before .before .before .before .before .record-fault .ensures) (c .before .before .before .before .before .before .before .before .before .before .before .before .if1 .left) in
-    let u = c .before .before .before .before .before .before .before .before .before .before .u16-at .result in
-    let n1 : u ≡ le 2 x = c .before .before .before .before .before .before .before .before .before .before .u16-at .ensures in
-    let z2 = no-fault _ (recordFault 2 0 (drop (4 + u) x)) (c .before .before .before .before .before .before .before .before .before .record-fault2 .ensures) (c .before .before .before .before .before .before .before .before .if2 .left) in
-    let w = c .before .before .before .before .before .before .u16-at2 .result in
-    let n2 : w ≡ le 2 (drop (4 + u) x) = c .before .before .before .before .before .before .u16-at2 .ensures in
+    let x = c .before .before .before .before .before .before .before .before .before .before .before .before .before .before .before .before .args .s .now in
+    let z1 = no-fault _ (recordFault 1 0 x) (c .before .before .before .before .before .before .before .before .before .before .before .before .before .before .record-fault .ensures) (c .before .before .before .before .before .before .before .before .before .before .before .before .before .if1 .left) in
+    let u = c .before .before .before .before .before .before .before .before .before .before .before .before .u16-at .result in
+    let n1 : u ≡ le 2 x = c .before .before .before .before .before .before .before .before .before .before .before .before .u16-at .ensures in
     let st = c .before .before .before .before .before .before .before .before .before .before .before .settings-at .result in
     let se = c .before .before .before .before .before .before .before .before .before .before .before .settings-at .ensures in
+    let h = c .before .before .before .before .before .before .before .before .before .before .size .result in
+    let he = hoppers-are x z1 u n1 st se h (c .before .before .before .before .before .before .before .before .before .before .size .ensures) in
+    let z2 = no-fault _ (recordFault 2 h (drop (4 + u) x)) (c .before .before .before .before .before .before .before .before .before .record-fault2 .ensures) (c .before .before .before .before .before .before .before .before .if2 .left) in
+    let w = c .before .before .before .before .before .before .u16-at2 .result in
+    let n2 : w ≡ le 2 (drop (4 + u) x) = c .before .before .before .before .before .before .u16-at2 .ensures in
     let ss = c .before .before .before .scan-tiles .ensures .1 (c .before .if3 .left) in
-    (few-code x z1 u n1 z2 w n2 st se, λ t h. omega (arith, ss t h .room))
+    (few-code x z1 u n1 h he z2 w n2 st se, λ t h. omega (arith, ss t h .room))
 
 canisters-of-requires : tie.Need-canisters-of-requires
 canisters-of-requires c κs =
-    let x = c .before .before .before .before .before .before .before .before .before .before .before .before .before .before .before .before .args .s .now in
-    let z1 = no-fault _ (recordFault 1 0 x) (c .before .before .before .before .before .before .before .before .before .before .before .before .before .before .record-fault .ensures) (c .before .before .before .before .before .before .before .before .before .before .before .before .before .if1 .left) in
-    let u = c .before .before .before .before .before .before .before .before .before .before .before .u16-at .result in
-    let n1 : u ≡ le 2 x = c .before .before .before .before .before .before .before .before .before .before .before .u16-at .ensures in
-    let z2 = no-fault _ (recordFault 2 0 (drop (4 + u) x)) (c .before .before .before .before .before .before .before .before .before .before .record-fault2 .ensures) (c .before .before .before .before .before .before .before .before .before .if2 .left) in
-    let w = c .before .before .before .before .before .before .before .u16-at2 .result in
-    let n2 : w ≡ le 2 (drop (4 + u) x) = c .before .before .before .before .before .before .before .u16-at2 .ensures in
+    let x = c .before .before .before .before .before .before .before .before .before .before .before .before .before .before .before .before .before .args .s .now in
+    let z1 = no-fault _ (recordFault 1 0 x) (c .before .before .before .before .before .before .before .before .before .before .before .before .before .before .before .record-fault .ensures) (c .before .before .before .before .before .before .before .before .before .before .before .before .before .before .if1 .left) in
+    let u = c .before .before .before .before .before .before .before .before .before .before .before .before .before .u16-at .result in
+    let n1 : u ≡ le 2 x = c .before .before .before .before .before .before .before .before .before .before .before .before .before .u16-at .ensures in
     let st = c .before .before .before .before .before .before .before .before .before .before .before .before .settings-at .result in
     let se = c .before .before .before .before .before .before .before .before .before .before .before .before .settings-at .ensures in
+    let h = c .before .before .before .before .before .before .before .before .before .before .before .size .result in
+    let he = hoppers-are x z1 u n1 st se h (c .before .before .before .before .before .before .before .before .before .before .before .size .ensures) in
+    let z2 = no-fault _ (recordFault 2 h (drop (4 + u) x)) (c .before .before .before .before .before .before .before .before .before .before .record-fault2 .ensures) (c .before .before .before .before .before .before .before .before .before .if2 .left) in
+    let w = c .before .before .before .before .before .before .before .u16-at2 .result in
+    let n2 : w ≡ le 2 (drop (4 + u) x) = c .before .before .before .before .before .before .before .u16-at2 .ensures in
     let ss = c .before .before .before .before .scan-tiles .ensures .1 (c .before .before .if3 .left) in
-    (few-code x z1 u n1 z2 w n2 st se, λ t h. ss t h .room, λ t h. ss t h .few)
+    (few-code x z1 u n1 h he z2 w n2 st se, λ t h. ss t h .room, λ t h. ss t h .few)
 
 returns-4 : tie.Need-returns-4
 returns-4 c =
-    let x = c .before .before .before .before .before .before .before .before .before .before .before .before .before .before .before .before .before .args .s .now in
-    let z1 = no-fault _ (recordFault 1 0 x) (c .before .before .before .before .before .before .before .before .before .before .before .before .before .before .before .record-fault .ensures) (c .before .before .before .before .before .before .before .before .before .before .before .before .before .before .if1 .left) in
-    let u = c .before .before .before .before .before .before .before .before .before .before .before .before .u16-at .result in
-    let n1 : u ≡ le 2 x = c .before .before .before .before .before .before .before .before .before .before .before .before .u16-at .ensures in
-    let z2 = no-fault _ (recordFault 2 0 (drop (4 + u) x)) (c .before .before .before .before .before .before .before .before .before .before .before .record-fault2 .ensures) (c .before .before .before .before .before .before .before .before .before .before .if2 .left) in
-    let w = c .before .before .before .before .before .before .before .before .u16-at2 .result in
-    let n2 : w ≡ le 2 (drop (4 + u) x) = c .before .before .before .before .before .before .before .before .u16-at2 .ensures in
+    let x = c .before .before .before .before .before .before .before .before .before .before .before .before .before .before .before .before .before .before .args .s .now in
+    let z1 = no-fault _ (recordFault 1 0 x) (c .before .before .before .before .before .before .before .before .before .before .before .before .before .before .before .before .record-fault .ensures) (c .before .before .before .before .before .before .before .before .before .before .before .before .before .before .before .if1 .left) in
+    let u = c .before .before .before .before .before .before .before .before .before .before .before .before .before .before .u16-at .result in
+    let n1 : u ≡ le 2 x = c .before .before .before .before .before .before .before .before .before .before .before .before .before .before .u16-at .ensures in
     let st = c .before .before .before .before .before .before .before .before .before .before .before .before .before .settings-at .result in
     let se = c .before .before .before .before .before .before .before .before .before .before .before .before .before .settings-at .ensures in
+    let h = c .before .before .before .before .before .before .before .before .before .before .before .before .size .result in
+    let he = hoppers-are x z1 u n1 st se h (c .before .before .before .before .before .before .before .before .before .before .before .before .size .ensures) in
+    let z2 = no-fault _ (recordFault 2 h (drop (4 + u) x)) (c .before .before .before .before .before .before .before .before .before .before .before .record-fault2 .ensures) (c .before .before .before .before .before .before .before .before .before .before .if2 .left) in
+    let w = c .before .before .before .before .before .before .before .before .u16-at2 .result in
+    let n2 : w ≡ le 2 (drop (4 + u) x) = c .before .before .before .before .before .before .before .before .u16-at2 .ensures in
     let sc = c .before .before .before .before .before .scan-tiles .ensures in
     let z3 = c .before .before .before .if3 .left in
-    answer-4 x z1 u n1 z2 w n2 st se _ _ _ (c .before .before .before .before .before .scan-tiles .result .starts) (c .before .before .before .before .before .before .before .before .before .counters-at .ensures) (sym z3 ∙ sc .0) (sc .1 z3) (c .before .tiles-of .ensures) (c .canisters-of .ensures)
+    answer-4 x z1 u n1 h he z2 w n2 st se _ _ _ (c .before .before .before .before .before .scan-tiles .result .starts) (c .before .before .before .before .before .before .before .before .before .counters-at .ensures) (sym z3 ∙ sc .0) (sc .1 z3) (c .before .tiles-of .ensures) (c .canisters-of .ensures)
 
 pub read-image-spec : {M : Type 1} → statement M
 read-image-spec =
@@ -199,10 +234,11 @@ read-image-spec =
     record-fault-requires
     refused-requires
     returns
-    settings-at-requires
     u16-at-requires
+    settings-at-requires
     cast-second
     add-second
+    size-requires
     record-fault-requires-2
     refused-requires-2
     returns-2

@@ -1,63 +1,82 @@
-use mathlib.Core.List.{_++_}
+use mathlib.Core.Path.{_≡_, sym, _∙_}
+use mathlib.Core.Bool.{true, false}
 use native.Mathlib.Omega.{arith}
+use lib.ListN.{length}
 use Rattle.wire.specs.Bytes.{bytes, bytes-length}
-use Rattle.records.proofs.Laws.{pair-length, measures-length, measuresBytes, put-four, settings-record, three-length}
+use Rattle.wire.specs.Put.{put-two}
+use Rattle.image.specs.Image.{several, settingsBody}
+use Rattle.image.proofs.Sizes.{settings-size}
+use Rattle.records.specs.Parts.{headBytes}
+use Rattle.records.proofs.Laws.{head-length, settings-more, settings-one}
 use borrow.Author.Needs.{needs}
 use Rattle.records.proofs.put_settings.Statement.{statement}
 use Rattle.records.proofs.put_settings.Tie as tie
 use Rattle.records.proofs.put_settings.Reads as reads
 use Rattle.records.proofs.put_settings.Lts as lts
-use Rattle.wire.proofs.put_byte.Reads as put-byte-reads
-use Rattle.records.proofs.put_pair.Reads as put-pair-reads
-use Rattle.records.proofs.put_measures.Reads as put-measures-reads
-use Rattle.records.proofs.put_three.Reads as put-three-reads
+use Rattle.records.proofs.put_head.Reads as put-head-reads
+use Rattle.wire.proofs.put_u64.Reads as put-u64-reads
 
-put-pair-requires : tie.Need-put-pair-requires
-put-pair-requires c κs = search needs
+put-head-requires : tie.Need-put-head-requires
+put-head-requires c κs =
+    let S = c .before .before .before in
+    let g = S .args in
+    let e : several g.x ≡ true = sym (S .pre .1) ∙ c .before .if1 .taken in
+    let z : length (settingsBody g.x) ≡ 28 = rw e at (settings-size g.x) in
+    omega (arith, S .pre .0)
 
-add-put-three : tie.Need-add-put-three
-add-put-three c = search needs
+add-put-u64 : tie.Need-add-put-u64
+add-put-u64 c = search needs
 
-put-three-requires : tie.Need-put-three-requires
-put-three-requires c κs = search needs
+put-u64-requires : tie.Need-put-u64-requires
+put-u64-requires c κs =
+    let S = c .before .before .before .before .before .before .before in
+    let g = S .args in
+    let e : several g.x ≡ true = sym (S .pre .1) ∙ c .before .before .before .before .before .if1 .taken in
+    let z : length (settingsBody g.x) ≡ 28 = rw e at (settings-size g.x) in
+    omega (arith, S .pre .0, c .before .before .before .put-head .kept .0)
 
-add-put-byte : tie.Need-add-put-byte
-add-put-byte c = search needs
-
-put-byte-requires : tie.Need-put-byte-requires
-put-byte-requires c κs = search needs
-
-add-put-measures : tie.Need-add-put-measures
-add-put-measures c = search needs
-
-put-measures-requires : tie.Need-put-measures-requires
-put-measures-requires c κs = search needs
+put-head-requires-2 : tie.Need-put-head-requires-2
+put-head-requires-2 c κs =
+    let S = c .before .before .before in
+    let g = S .args in
+    let e : several g.x ≡ false = sym (S .pre .1) ∙ c .before .if1 .left in
+    let z : length (settingsBody g.x) ≡ 20 = rw e at (settings-size g.x) in
+    omega (arith, S .pre .0)
 
 same-length : tie.Need-same-length
 same-length c = search needs
 
 returns : tie.Need-returns
 returns c =
-    let g = c .before .before .before .before .before .before .before .before .before .before .before .before .before .before .before .before .before .args in
-    let n1 = pair-length 20 1 in
-    let n2 = three-length 1 (g.x .columns) (g.x .rows) (g.x .hopper) in
-    let n3 = bytes-length 1 0 in
-    let n4 = measures-length g.x in
-    rw (← settings-record g.x)
-    (put-four (g.s .now) _ _ _ _ g.at _ _ _ (bytes 2 20 ++ bytes 2 1) (bytes 1 (g.x .columns) ++ (bytes 1 (g.x .rows) ++ bytes 1 (g.x .hopper))) (bytes 1 0) (measuresBytes g.x)
-    (omega arith) (omega arith) (omega arith) (omega arith)
-    (c .before .before .before .before .before .before .before .before .before .before .before .before .before .before .put-pair .ensures) (c .before .before .before .before .before .before .before .before .before .before .put-three .ensures) (c .before .before .before .before .before .before .put-byte .ensures) (c .before .before .put-measures .ensures))
+    let S = c .before .before .before .before .before .before .before .before .before .before in
+    let g = S .args in
+    let e : several g.x ≡ true = sym (S .pre .1) ∙ c .before .before .before .before .before .before .before .before .if1 .taken in
+    let z : length (settingsBody g.x) ≡ 28 = rw e at (settings-size g.x) in
+    let n1 = head-length g.x 28 in
+    let n2 = bytes-length 8 (g.x .hoppers) in
+    rw (← settings-more g.x e)
+    (put-two (g.s .now) _ _ g.at _ (headBytes g.x 28) (bytes 8 (g.x .hoppers)) (omega (arith, S .pre .0)) (omega arith) (c .before .before .before .before .before .before .put-head .ensures) (c .before .before .put-u64 .ensures))
+
+same-length-2 : tie.Need-same-length-2
+same-length-2 c = search needs
+
+returns-2 : tie.Need-returns-2
+returns-2 c =
+    let S = c .before .before .before .before .before .before in
+    let g = S .args in
+    let e : several g.x ≡ false = sym (S .pre .1) ∙ c .before .before .before .before .if1 .left in
+    let z : length (settingsBody g.x) ≡ 20 = rw e at (settings-size g.x) in
+    rw (← settings-one g.x e) (c .before .before .put-head2 .ensures)
 
 pub put-settings-spec : {M : Type 1} → statement M
 put-settings-spec =
     tie.close
     (tie.spec
-    put-pair-requires
-    add-put-three
-    put-three-requires
-    add-put-byte
-    put-byte-requires
-    add-put-measures
-    put-measures-requires
+    put-head-requires
+    add-put-u64
+    put-u64-requires
+    put-head-requires-2
     same-length
-    returns)
+    returns
+    same-length-2
+    returns-2)

@@ -1,4 +1,5 @@
 use mathlib.Core.Path.{ap, _∙_}
+use Rattle.floor.specs.Settings.{isHopper}
 use Rattle.route.specs.Routed.{headed}
 use Rattle.route.proofs.RouteLaws.{tile-still, tile-on}
 use borrow.Author.Needs.{needs}
@@ -6,14 +7,16 @@ use Rattle.route.proofs.route_tile.Statement.{statement}
 use Rattle.route.proofs.route_tile.Tie as tie
 use Rattle.route.proofs.route_tile.Reads as reads
 use Rattle.route.proofs.route_tile.Lts as lts
+use Rattle.sets.proofs.holds.Reads as holds-reads
 use Rattle.route.proofs.kept.Reads as kept-reads
 use Rattle.route.proofs.onward.Reads as onward-reads
 
-cast-hopper : tie.Need-cast-hopper
-cast-hopper c = search needs
+holds-requires : tie.Need-holds-requires
+holds-requires c κs = search needs
 
 returns : tie.Need-returns
-returns c = let g = c .before .before .before .args in tile-still g.s g.t g.tile g.west g.south g.north g.east (c .if1 .taken)
+unfolding isHopper
+returns c = let g = c .before .before .before .args in tile-still g.s g.t g.tile g.west g.south g.north g.east (rw (c .before .before .holds .ensures) at (c .if1 .taken))
 
 mul-all : tie.Need-mul-all
 mul-all c = search needs
@@ -25,16 +28,17 @@ onward-requires : tie.Need-onward-requires
 onward-requires c κs = c .before .before .before .before .before .pre
 
 returns-2 : tie.Need-returns-2
+unfolding isHopper
 returns-2 c =
     let g = c .before .before .before .before .before .before .before .args in
     let e = rw (c .before .before .kept .ensures) at (c .before .onward .ensures) in
-    ap (headed g.tile) e ∙ tile-on g.s g.t g.tile g.west g.south g.north g.east (c .before .before .before .before .if1 .left)
+    ap (headed g.tile) e ∙ tile-on g.s g.t g.tile g.west g.south g.north g.east (rw (c .before .before .before .before .before .before .holds .ensures) at (c .before .before .before .before .if1 .left))
 
 pub route-tile-spec : {M : Type 1} → statement M
 route-tile-spec =
     tie.close
     (tie.spec
-    cast-hopper
+    holds-requires
     returns
     mul-all
     kept-requires

@@ -7,8 +7,9 @@ use Rattle.typed.proofs.go.Tie as tie
 use Rattle.typed.proofs.go.Reads as reads
 use Rattle.typed.proofs.go.Lts as lts
 use Rattle.say.proofs.delivered.Reads as delivered-reads
-use Rattle.say.proofs.refused.Reads as refused-reads
 use Rattle.say.proofs.rounds.Reads as rounds-reads
+use Rattle.say.proofs.some.Reads as some-reads
+use Rattle.typed.proofs.refused.Reads as refused-reads
 use Rattle.typed.proofs.step.Reads as step-reads
 
 abbrev Inv-loop : tie.InvT-loop
@@ -31,6 +32,9 @@ refused-requires c κs = search needs
 
 returns : tie.Need-returns Inv-loop μ-loop
 returns c = search needs
+
+some-requires : tie.Need-some-requires Inv-loop μ-loop
+some-requires c κs = search needs
 
 delivered-requires : tie.Need-delivered-requires Inv-loop μ-loop
 delivered-requires c κs = search needs
@@ -61,6 +65,7 @@ go-spec =
     slice-aggregate-refused
     refused-requires
     returns
+    some-requires
     delivered-requires
     add-k
     loop-less

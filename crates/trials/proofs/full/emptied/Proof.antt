@@ -1,6 +1,6 @@
+use mathlib.Core.Path.{_≡_}
 use Prim.Native.Nat.{ℕ, _+_, _*_, _-_, _≤_, _<_}
 use lib.ListN.{length}
-use native.Mathlib.Omega.{arith}
 use borrow.Author.Needs.{needs}
 use Rattle.trials.proofs.full.emptied.Statement.{statement}
 use Rattle.trials.proofs.full.emptied.Tie as tie
@@ -24,6 +24,9 @@ returns c = search needs
 
 round-requires : tie.Need-round-requires Inv-loop μ-loop
 round-requires c κs = search needs
+
+element-copy-out-first : tie.Need-element-copy-out-first Inv-loop μ-loop
+element-copy-out-first c = search needs
 
 cast-wrapping-add-u64 : tie.Need-cast-wrapping-add-u64 Inv-loop μ-loop
 cast-wrapping-add-u64 c = search needs
@@ -61,6 +64,7 @@ emptied-spec =
     loop-holds
     returns
     round-requires
+    element-copy-out-first
     cast-wrapping-add-u64
     wrapping-add-u64-requires
     sum4-requires

@@ -1,0 +1,18 @@
+use native.Mathlib.Nat.{lt-of-le-of-lt}
+use lib.Dec.{lit<}
+use lib.Count.{trailing-le}
+use Rattle.sets.specs.Lowest.{trailing-first}
+use borrow.Author.Needs.{needs}
+use Rattle.sets.proofs.lowest.Statement.{statement}
+use Rattle.sets.proofs.lowest.Tie as tie
+use Rattle.sets.proofs.lowest.Reads as reads
+use Rattle.sets.proofs.lowest.Lts as lts
+
+cast-result : tie.Need-cast-result
+cast-result c = record { fits = lt-of-le-of-lt (trailing-le 64 (c .args .s)) (lit< tt) }
+
+returns : tie.Need-returns
+returns c = trailing-first 64 (c .args .s)
+
+pub lowest-spec : {M : Type 1} → statement M
+lowest-spec = tie.close (tie.spec cast-result returns)

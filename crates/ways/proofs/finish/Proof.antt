@@ -1,0 +1,19 @@
+use mathlib.Core.Path.{refl, ap}
+use Rattle.floor.specs.declared.Counters.{Counters}
+use borrow.Author.Needs.{needs}
+use Rattle.ways.proofs.finish.Statement.{statement}
+use Rattle.ways.proofs.finish.Tie as tie
+use Rattle.ways.proofs.finish.Reads as reads
+use Rattle.ways.proofs.finish.Lts as lts
+use Rattle.ways.proofs.raise.Reads as raise-reads
+
+raise-requires : tie.Need-raise-requires
+raise-requires c κs = search needs
+
+returns : tie.Need-returns
+returns c =
+    let f = c .before .before .before .args .f in
+    (ap (λ (x : Counters). record { settings = f .settings; counters = x; tiles = f .tiles; canisters = f .canisters }) (c .raise .ensures), refl)
+
+pub finish-spec : {M : Type 1} → statement M
+finish-spec = tie.close (tie.spec raise-requires returns)
