@@ -6,7 +6,7 @@
    numbers given at each call stand in the order in which they are tested.
 
    What the caller owes: a pointer to `length` bytes that stay valid and that nobody else writes during the call (any
-   pointer but NULL where length is 0); for ceromby_write nobody else reads them either. A floor takes 8,552 bytes, and a
+   pointer but NULL where length is 0); for ceromby_write nobody else reads them either. A floor takes 8,568 bytes, and a
    call about 100 KB of stack. */
 
 #ifndef CEROMBY_H
@@ -27,22 +27,26 @@ extern "C" {
 #define CEROMBY_SIDE_EAST 4
 
 #define CEROMBY_DISTANCE_NONE 255
-#define CEROMBY_LONGEST_IMAGE 8748
+#define CEROMBY_LONGEST_IMAGE 8748 /* with one hopper; the longest with more is shorter */
 
 #define CEROMBY_MAX_TILES 64
+#define CEROMBY_MAX_HOPPERS 4
 #define CEROMBY_PLACES 16 /* canister places of one tile */
+
+/* The set of one tile, 0 to 63: with one hopper, .hoppers = CEROMBY_TILE(5). Sets are joined by |. */
+#define CEROMBY_TILE(t) (UINT64_C(1) << (t))
 
 #define CEROMBY_ACCEPTED 0
 
 /* Refused because of the input. */
 #define CEROMBY_GRID 1            /* W, H or C outside its range */
-#define CEROMBY_SETS 2            /* hopper not on the floor, or a fill bit for the hopper or for no tile */
+#define CEROMBY_SETS 2            /* not one to four hoppers, one not on the floor, or a fill bit for one or for no tile */
 #define CEROMBY_MEASURE 3         /* U, l, r or v outside its range, or a rule of ceromby_settings broken */
 #define CEROMBY_NO_TILE 4         /* tile not on the floor */
 #define CEROMBY_NOT_A_SOURCE 5    /* booking on a tile outside the fill set */
 #define CEROMBY_NUMBER_ZERO 6     /* canister number 0 */
 #define CEROMBY_OUTSIDE 7         /* a or b above U - l */
-#define CEROMBY_STOP_OF_HOPPER 8  /* stop of the hopper */
+#define CEROMBY_STOP_OF_HOPPER 8  /* stop of a hopper */
 #define CEROMBY_IMAGE_ENDS 9      /* image ends within a record or without its end record, or goes on after it */
 #define CEROMBY_OTHER_KIND 10     /* record of another kind than the one due */
 #define CEROMBY_RECORD_SHAPE 11   /* wrong record length, or a fixed byte wrong */
@@ -68,29 +72,32 @@ typedef struct ceromby_side {
 
 typedef struct ceromby_tile {
     uint8_t running;    /* 1 running, 0 stopped */
-    uint8_t distance;   /* to the hopper, 255 none */
+    uint8_t distance;   /* to the nearest hopper, 255 none */
     ceromby_side next;  /* the arrow */
     ceromby_side token; /* the turn */
     uint8_t count;      /* canisters on the tile */
 } ceromby_tile;
 
 /* W and H are 1 to 8, and W * H is at least 2. U is 2 to 60,000, v at least 1. Required: v < l, d = l + r < U, and
-   (U - l) / d, rounded down, at most 3. The fill set may be empty and never holds the hopper. */
+   (U - l) / d, rounded down, at most 3. One to four tiles of the floor are hoppers; all may be. A hopper runs always, has
+   distance 0 and holds nothing. The fill set may be empty and never holds a hopper. */
 typedef struct ceromby_settings {
     uint8_t columns;  /* W */
     uint8_t rows;     /* H */
-    uint8_t hopper;   /* tile number: column * H + row */
-    uint64_t sources; /* fill set, bit t for tile t */
+    uint64_t hoppers; /* hopper set, bit t for tile t; tile number: column * H + row */
+    uint64_t sources; /* fill set, in the same way */
     uint16_t width;   /* U, side of a tile */
     uint16_t length;  /* l, side of a canister */
     uint16_t gap;     /* r, least gap */
     uint16_t travel;  /* v, travel in a round */
 } ceromby_settings;
 
+/* Booked is the sum of delivered and those on the floor. The counter of the lowest hopper is delivered[0], that of the next
+   in tile order delivered[1], and so on; those beyond the last hopper are zero. */
 typedef struct ceromby_counters {
     uint32_t last; /* last number booked */
     uint32_t booked;
-    uint32_t delivered;
+    uint32_t delivered[CEROMBY_MAX_HOPPERS];
 } ceromby_counters;
 
 /* Canisters of tile t are at places 16 t to 16 t + count - 1, by rising number.
@@ -102,10 +109,16 @@ typedef struct ceromby_floor {
     ceromby_canister canisters[CEROMBY_MAX_TILES * CEROMBY_PLACES];
 } ceromby_floor;
 
+/* What one hopper took in. */
+typedef struct ceromby_delivery {
+    uint32_t numbers[4]; /* rising, then zeros */
+    uint8_t count;       /* how many */
+} ceromby_delivery;
+
+/* Deliveries stand in the order of ceromby_counters.delivered, then zeros. */
 typedef struct ceromby_report {
     uint8_t grants[CEROMBY_MAX_TILES]; /* the side each tile granted, 0 for none and where no tile is */
-    uint8_t count;                     /* how many were delivered */
-    uint32_t delivered[4];             /* their numbers, rising, then zeros */
+    ceromby_delivery deliveries[CEROMBY_MAX_HOPPERS];
 } ceromby_report;
 
 /* In every answer, refusal 0 means accepted. */
@@ -150,7 +163,9 @@ ceromby_rounded ceromby_round(ceromby_floor floor);
 ceromby_reading ceromby_read(ceromby_floor floor, uint32_t tile);
 
 /* The floor of an image. Refused by the first fault in reading order: within a record 9, 10, 11, then 1, 2, 3; then 9 for
-   bytes left over, then 12. */
+   bytes left over, then 12. With several hoppers the settings' record has 28 bytes, the set last and its
+   lowest tile as the hopper byte (else 11; not tested for an empty set), and is 2 unless that has
+   two to four tiles of the floor; the counters' record has one delivered counter for each. */
 ceromby_answer ceromby_load(const uint8_t *bytes, size_t length);
 
 /* Writes an image and leaves the bytes after it. Refused by 30, 13. */

@@ -21,14 +21,15 @@ static void show(const char *what, ceromby_floor floor) {
 
 /* Rounds until the canister is delivered. */
 static ceromby_floor deliver(ceromby_floor floor) {
-    for (unsigned round = 1; floor.counters.delivered == 0 && round <= 5; round++) {
+    for (unsigned round = 1; floor.counters.delivered[0] == 0 && round <= 5; round++) {
         ceromby_rounded rounded = ceromby_round(floor);
         if (rounded.refusal != CEROMBY_ACCEPTED)
             break;
         floor = rounded.floor;
         printf("round %u, the hopper grants %u", round, rounded.report.grants[1]);
-        for (unsigned i = 0; i < rounded.report.count; i++)
-            printf(", delivered %lu", (unsigned long)rounded.report.delivered[i]);
+        ceromby_delivery delivery = rounded.report.deliveries[0];
+        for (unsigned i = 0; i < delivery.count; i++)
+            printf(", delivered %lu", (unsigned long)delivery.numbers[i]);
         printf("\n");
         show("  after", floor);
     }
@@ -56,7 +57,7 @@ static void store(ceromby_floor floor) {
     printf("load: %u, counters %lu %lu %lu\n", answer.refusal,
            (unsigned long)answer.floor.counters.last,
            (unsigned long)answer.floor.counters.booked,
-           (unsigned long)answer.floor.counters.delivered);
+           (unsigned long)answer.floor.counters.delivered[0]);
     show("loaded", answer.floor);
     printf("load without the last byte: %u\n", ceromby_load(image, written.length - 1).refusal);
     printf("load nothing: %u\n", ceromby_load(image, 0).refusal);
@@ -67,7 +68,7 @@ static void store(ceromby_floor floor) {
 
 int main(void) {
     ceromby_settings settings = {
-        .columns = 2, .rows = 1, .hopper = 1, .sources = 1,
+        .columns = 2, .rows = 1, .hoppers = CEROMBY_TILE(1), .sources = CEROMBY_TILE(0),
         .width = 100, .length = 30, .gap = 10, .travel = 20,
     };
     ceromby_answer answer = ceromby_fresh(settings);

@@ -23,7 +23,7 @@ static void values(void) {
     SIZE(settings);
     FIELD(settings, columns);
     FIELD(settings, rows);
-    FIELD(settings, hopper);
+    FIELD(settings, hoppers);
     FIELD(settings, sources);
     FIELD(settings, width);
     FIELD(settings, length);
@@ -41,10 +41,12 @@ static void values(void) {
 }
 
 static void answers(void) {
+    SIZE(delivery);
+    FIELD(delivery, numbers);
+    FIELD(delivery, count);
     SIZE(report);
     FIELD(report, grants);
-    FIELD(report, count);
-    FIELD(report, delivered);
+    FIELD(report, deliveries);
     SIZE(answer);
     FIELD(answer, floor);
     FIELD(answer, refusal);

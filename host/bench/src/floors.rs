@@ -1,7 +1,7 @@
 //! The floors to measure on, in both shapes.
 
 use oracle::random::Rng;
-use oracle::{Canister, Counters, Floor, Settings, PLACES};
+use oracle::{only, Canister, Counters, Floor, Settings, PLACES};
 
 pub struct Pair {
     pub name: String,
@@ -17,8 +17,8 @@ fn settings(columns: u8, rows: u8, hopper: u8) -> Settings {
     Settings {
         columns,
         rows,
-        hopper,
-        sources: (u64::MAX >> (64 - tiles)) & !(1 << hopper),
+        hoppers: only(hopper),
+        sources: (u64::MAX >> (64 - tiles)) & !only(hopper),
         width: 1_000,
         length: 200,
         gap: 50,
@@ -45,9 +45,8 @@ fn filled(settings: Settings, count: usize, near: bool) -> Floor {
     for _ in 0..settings.tile_count() {
         floor = oracle::round(&floor).floor;
     }
-    let hopper = usize::from(settings.hopper);
     let tiles: Vec<usize> = (0..settings.tile_count())
-        .filter(|tile| *tile != hopper)
+        .filter(|tile| !settings.is_hopper(*tile))
         .collect();
     let held = tiles.len() * count;
     let mut numbers = numbers(&mut rng, held, near);
@@ -70,7 +69,7 @@ fn filled(settings: Settings, count: usize, near: bool) -> Floor {
     floor.counters = Counters {
         last,
         booked: held as u32,
-        delivered: 0,
+        ..Counters::ZERO
     };
     assert!(oracle::well_formed(&floor));
     floor
@@ -83,7 +82,7 @@ fn ours(floor: &Floor) -> ceromby::Floor {
         settings: ceromby::Settings {
             columns: s.columns,
             rows: s.rows,
-            hopper: s.hopper,
+            hoppers: s.hoppers,
             sources: s.sources,
             width: s.width,
             length: s.length,

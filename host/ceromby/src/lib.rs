@@ -4,8 +4,8 @@
 mod types;
 
 pub use types::{
-    Answer, Canister, Counters, Floor, Reading, Report, Rounded, Settings, Side, Tile, Written,
-    DISTANCE_NONE, LONGEST_IMAGE, MAX_TILES, PLACES,
+    Answer, Canister, Counters, Delivery, Floor, Reading, Report, Rounded, Settings, Side, Tile,
+    Written, DISTANCE_NONE, LONGEST_IMAGE, MAX_HOPPERS, MAX_TILES, PLACES,
 };
 
 mod raw {
@@ -20,6 +20,14 @@ mod raw {
         pub fn ceromby_read(floor: Floor, tile: u32) -> Reading;
         pub fn ceromby_load(bytes: *const u8, length: usize) -> Answer;
         pub fn ceromby_write(floor: Floor, buffer: *mut u8, length: usize) -> Written;
+    }
+}
+
+/// The set of one tile; empty for a number above 63. Sets are joined by `|`.
+pub const fn tile(number: u8) -> u64 {
+    match number {
+        0..=63 => 1 << number,
+        _ => 0,
     }
 }
 

@@ -2,11 +2,13 @@
 
 /// Most tiles a floor can have.
 pub const MAX_TILES: usize = 64;
+/// Most hoppers a floor can have.
+pub const MAX_HOPPERS: usize = 4;
 /// Canister places of one tile.
 pub const PLACES: usize = 16;
 /// The distance "none". (The side none is 0.)
 pub const DISTANCE_NONE: u8 = 255;
-/// Bytes of the longest image.
+/// Bytes of the longest image, which has one hopper.
 pub const LONGEST_IMAGE: usize = 8_748;
 
 #[repr(C)]
@@ -29,6 +31,7 @@ pub struct Side {
 pub struct Tile {
     /// 1 running, 0 stopped.
     pub running: u8,
+    /// To the nearest hopper.
     pub distance: u8,
     /// The arrow.
     pub next: Side,
@@ -44,7 +47,8 @@ pub struct Settings {
     pub columns: u8,
     /// H.
     pub rows: u8,
-    pub hopper: u8,
+    /// The hopper set: one to four tiles. With one hopper: `hoppers: ceromby::tile(5)`.
+    pub hoppers: u64,
     /// The fill set.
     pub sources: u64,
     /// U, side of a tile.
@@ -62,7 +66,8 @@ pub struct Settings {
 pub struct Counters {
     pub last: u32,
     pub booked: u32,
-    pub delivered: u32,
+    /// One for each hopper in tile order, then zeros.
+    pub delivered: [u32; MAX_HOPPERS],
 }
 
 /// Canisters of tile t are at places 16 t to 16 t + count - 1.
@@ -75,13 +80,22 @@ pub struct Floor {
     pub canisters: [Canister; MAX_TILES * PLACES],
 }
 
+/// What one hopper took in.
+#[repr(C)]
+#[derive(Clone, Copy, PartialEq, Eq, Debug)]
+pub struct Delivery {
+    /// Rising, then zeros.
+    pub numbers: [u32; 4],
+    pub count: u8,
+}
+
 #[repr(C)]
 #[derive(Clone, Copy, PartialEq, Eq, Debug)]
 pub struct Report {
     /// The side each tile granted, 0 for none.
     pub grants: [u8; MAX_TILES],
-    pub count: u8,
-    pub delivered: [u32; 4],
+    /// One for each hopper in tile order, then zeros.
+    pub deliveries: [Delivery; MAX_HOPPERS],
 }
 
 #[repr(C)]

@@ -1,12 +1,12 @@
 //! One short way through every call.
 
-use ceromby::{book, fresh, load, read, repair, round, stop, write, Canister, Settings};
+use ceromby::{book, fresh, load, read, repair, round, stop, tile, write, Canister, Settings};
 
 const SETTINGS: Settings = Settings {
     columns: 2,
     rows: 1,
-    hopper: 1,
-    sources: 1,
+    hoppers: tile(1),
+    sources: tile(0),
     width: 100,
     length: 30,
     gap: 10,
@@ -28,10 +28,42 @@ fn the_first_trial() {
         assert_eq!(read(&floor, 0).members[0], Canister { a, ..canister });
     }
     let last = round(&floor);
-    assert_eq!((last.report.count, last.report.delivered[0]), (1, 5));
+    let delivery = last.report.deliveries[0];
+    assert_eq!((delivery.count, delivery.numbers), (1, [5, 0, 0, 0]));
+    assert_eq!(last.floor.counters.delivered, [1, 0, 0, 0]);
     let stopped = stop(&last.floor, 0);
     assert_eq!((stopped.refusal, repair(&stopped.floor, 0).refusal), (0, 0));
     assert_eq!(stop(&stopped.floor, 0).refusal, 31);
+}
+
+#[test]
+fn two_hoppers() {
+    let settings = Settings {
+        columns: 4,
+        hoppers: tile(0) | tile(3),
+        sources: tile(1) | tile(2),
+        ..SETTINGS
+    };
+    let mut floor = fresh(settings).floor;
+    for (on, number, a) in [(2, 5, 60), (1, 9, 10)] {
+        let booked = book(&floor, on, Canister { number, a, b: 0 });
+        assert_eq!(booked.refusal, 0);
+        floor = booked.floor;
+    }
+    let rounded = round(&floor);
+    let numbers = rounded.report.deliveries.map(|at| at.numbers[0]);
+    assert_eq!(numbers, [9, 5, 0, 0]);
+    assert_eq!(rounded.floor.counters.delivered, [1, 1, 0, 0]);
+    assert_eq!(stop(&floor, 3).refusal, 8);
+    let mut buffer = [0; 96];
+    assert_eq!(write(&rounded.floor, &mut buffer).length, 96);
+    assert_eq!(load(&buffer).floor, rounded.floor);
+}
+
+#[test]
+fn sets_of_one_tile() {
+    assert_eq!((tile(0), tile(5), tile(63)), (1, 32, 1 << 63));
+    assert_eq!((tile(64), tile(255)), (0, 0));
 }
 
 #[test]

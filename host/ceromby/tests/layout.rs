@@ -3,7 +3,8 @@
 use std::mem::{offset_of, size_of};
 
 use ceromby::{
-    Answer, Canister, Counters, Floor, Reading, Report, Rounded, Settings, Side, Tile, Written,
+    Answer, Canister, Counters, Delivery, Floor, Reading, Report, Rounded, Settings, Side, Tile,
+    Written,
 };
 
 macro_rules! layout {
@@ -26,10 +27,11 @@ fn as_in_c() {
         "canister" Canister { number, a, b }
         "side" Side { code }
         "tile" Tile { running, distance, next, token, count }
-        "settings" Settings { columns, rows, hopper, sources, width, length, gap, travel }
+        "settings" Settings { columns, rows, hoppers, sources, width, length, gap, travel }
         "counters" Counters { last, booked, delivered }
         "floor" Floor { settings, counters, tiles, canisters }
-        "report" Report { grants, count, delivered }
+        "delivery" Delivery { numbers, count }
+        "report" Report { grants, deliveries }
         "answer" Answer { floor, refusal }
         "rounded" Rounded { floor, report, refusal }
         "reading" Reading { refusal, tile, members }

@@ -103,14 +103,14 @@ fn standing(floor: &Floor) -> Vec<u32> {
         .collect()
 }
 
-/// The tiles but the hopper that an arrow faces where another would do.
+/// The tiles but the hoppers that an arrow faces where another would do.
 fn ahead_of_ties(floor: &Floor) -> Vec<u32> {
     let grid = Grid::of(&floor.settings);
     let ahead = |spot: Spot| {
         let near = nearest(floor, spot).iter().filter(|near| **near).count();
         let side = Side::from_code(floor.tiles[spot.tile].next)?;
         let there = grid.neighbour(spot, side).filter(|_| near > 1)?;
-        (there != usize::from(floor.settings.hopper)).then_some(there as u32)
+        (!floor.settings.is_hopper(there)).then_some(there as u32)
     };
     grid.spots().filter_map(ahead).collect()
 }

@@ -280,8 +280,8 @@ fn describe(library: &Outcome, oracle: &Outcome) -> String {
         (Outcome::Answer(one), Outcome::Answer(other)) => fields.floor(&one.floor, &other.floor),
         (Outcome::Round(one), Outcome::Round(other)) => {
             fields.each("grant of tile", &one.report.grants, &other.report.grants);
-            fields.note("delivered", &one.report.count, &other.report.count);
-            fields.note("numbers", &one.report.delivered, &other.report.delivered);
+            let (ones, others) = (&one.report.deliveries, &other.report.deliveries);
+            fields.each("delivery", ones, others);
             fields.floor(&one.floor, &other.floor);
         }
         (Outcome::Reading(one), Outcome::Reading(other)) => {

@@ -1,14 +1,15 @@
 //! Between the binding's structs and the oracle's.
 
 use oracle::{
-    Answer, Canister, Counters, Floor, Reading, Report, RoundAnswer, Settings, Tile, WriteAnswer,
+    Answer, Canister, Counters, Delivery, Floor, Reading, Report, RoundAnswer, Settings, Tile,
+    WriteAnswer,
 };
 
 pub fn to_settings(from: &Settings) -> ceromby::Settings {
     ceromby::Settings {
         columns: from.columns,
         rows: from.rows,
-        hopper: from.hopper,
+        hoppers: from.hoppers,
         sources: from.sources,
         width: from.width,
         length: from.length,
@@ -52,7 +53,7 @@ fn from_settings(from: &ceromby::Settings) -> Settings {
     Settings {
         columns: from.columns,
         rows: from.rows,
-        hopper: from.hopper,
+        hoppers: from.hoppers,
         sources: from.sources,
         width: from.width,
         length: from.length,
@@ -99,14 +100,20 @@ pub fn from_answer(from: &ceromby::Answer) -> Answer {
     }
 }
 
+fn from_delivery(from: ceromby::Delivery) -> Delivery {
+    Delivery {
+        numbers: from.numbers,
+        count: from.count,
+    }
+}
+
 pub fn from_rounded(from: &ceromby::Rounded) -> RoundAnswer {
     RoundAnswer {
         refusal: from.refusal,
         floor: from_floor(&from.floor),
         report: Report {
             grants: from.report.grants,
-            count: from.report.count,
-            delivered: from.report.delivered,
+            deliveries: from.report.deliveries.map(from_delivery),
         },
     }
 }

@@ -1,6 +1,9 @@
 //! Damage to images.
 
+use oracle::only;
 use oracle::random::Rng;
+
+use crate::first::{First, LONG, SHORT};
 
 /// Start of each record, and the end of the last, as far as lengths lead.
 fn borders(bytes: &[u8]) -> Vec<usize> {
@@ -39,7 +42,7 @@ pub fn damage(rng: &mut Rng, bytes: &mut Vec<u8>) {
 }
 
 fn damage_once(rng: &mut Rng, bytes: &mut Vec<u8>) {
-    match rng.below(24) {
+    match rng.below(28) {
         0 | 1 => cut(rng, bytes),
         2 | 3 => lengthen(rng, bytes),
         4 => change_bytes(rng, bytes),
@@ -53,6 +56,9 @@ fn damage_once(rng: &mut Rng, bytes: &mut Vec<u8>) {
         19 | 20 => change_canister(rng, bytes),
         21 => drop_canister(rng, bytes),
         22 => change_counters(rng, bytes),
+        23 | 24 => change_hoppers(rng, bytes),
+        25 => other_length(rng, bytes),
+        26 => more_or_fewer_counters(rng, bytes),
         _ => {
             let length = rng.pick(&[0, 1, 3, 4, 24, 64, 200]);
             if rng.chance(1, 8) {
@@ -176,11 +182,73 @@ fn change_settings(rng: &mut Rng, bytes: &mut [u8]) {
 }
 
 fn change_counters(rng: &mut Rng, bytes: &mut [u8]) {
-    let at = 28 + 4 * rng.below(3) as usize;
+    let Some(start) = borders(bytes).get(1).copied() else {
+        return;
+    };
+    let at = start + 4 + 4 * rng.below(6) as usize;
     let change = rng.pick(&[1, u32::MAX, 1 << 31]);
     if let Some(field) = bytes.get_mut(at..at + 4) {
         let value = u32::from_le_bytes([field[0], field[1], field[2], field[3]]);
         field.copy_from_slice(&value.wrapping_add(change).to_le_bytes());
+    }
+}
+
+/// Changes the set of a long first record; the hopper byte follows mostly.
+fn change_hoppers(rng: &mut Rng, bytes: &mut [u8]) {
+    let Some(first) = First::of(bytes).filter(|first| first.long) else {
+        return;
+    };
+    let bit = 1 << rng.below(64);
+    let near = first.on_floor;
+    let set = match rng.below(8) {
+        0 => 0,
+        1 => first.hoppers & first.hoppers.wrapping_neg(),
+        2 => first.hoppers & first.hoppers.wrapping_sub(1),
+        3 => first.hoppers | rng.draw() & near,
+        4 => first.hoppers ^ bit & near,
+        5 => first.hoppers | first.sources & rng.draw(),
+        6 => bit,
+        _ => first.hoppers ^ bit,
+    };
+    bytes[SHORT..LONG].copy_from_slice(&set.to_le_bytes());
+    match rng.below(4) {
+        0 => {}
+        1 => bytes[6] = rng.below(66) as u8,
+        _ => bytes[6] = set.trailing_zeros() as u8,
+    }
+}
+
+/// A long first record for a short one, or the other way.
+fn other_length(rng: &mut Rng, bytes: &mut Vec<u8>) {
+    let Some(first) = First::of(bytes) else {
+        return;
+    };
+    if first.long {
+        bytes.drain(SHORT..LONG);
+        return put(bytes, 0, 20);
+    }
+    let more = rng.draw() & rng.draw() & first.on_floor;
+    let set = match rng.chance(1, 2) {
+        true => first.hoppers,
+        false => first.hoppers | more,
+    };
+    bytes.splice(SHORT..SHORT, set.to_le_bytes());
+    bytes[6] = set.trailing_zeros() as u8;
+    put(bytes, 0, 28);
+}
+
+/// One delivered counter more or fewer, the record's length being right.
+fn more_or_fewer_counters(rng: &mut Rng, bytes: &mut Vec<u8>) {
+    let [_, start, end, ..] = borders(bytes)[..] else {
+        return;
+    };
+    let length = end - start - 4;
+    if rng.chance(1, 2) {
+        bytes.splice(end..end, [0; 4]);
+        put(bytes, start, length as u16 + 4);
+    } else if length >= 4 {
+        bytes.drain(end - 4..end);
+        put(bytes, start, length as u16 - 4);
     }
 }
 
@@ -236,7 +304,8 @@ pub fn smaller(bytes: &[u8]) -> Vec<Vec<u8>> {
         let (start, end) = (pair[0], pair[1]);
         if let Some(mut less) = without_canister(bytes, start, end) {
             tries.push(less.clone());
-            if let Some(field) = less.get_mut(32..36) {
+            let booked = borders[1] + 8;
+            if let Some(field) = less.get_mut(booked..booked + 4) {
                 let booked = u32::from_le_bytes([field[0], field[1], field[2], field[3]]);
                 field.copy_from_slice(&booked.wrapping_sub(1).to_le_bytes());
                 tries.push(less);
@@ -256,11 +325,9 @@ pub fn smaller(bytes: &[u8]) -> Vec<Vec<u8>> {
 
 /// The image without the tile records of one line.
 fn without_line(bytes: &[u8], borders: &[usize], line: Line) -> Option<Vec<u8>> {
-    let [columns, rows, hopper] = *bytes.get(4..7)? else {
-        return None;
-    };
+    let first = First::of(bytes)?;
+    let (columns, rows) = (first.columns, first.rows);
     let tiles = usize::from(columns) * usize::from(rows);
-    let sources = u64::from_le_bytes(bytes.get(16..24)?.try_into().ok()?);
     if !(1..=64).contains(&tiles) || borders.len() < 3 + tiles {
         return None;
     }
@@ -276,12 +343,16 @@ fn without_line(bytes: &[u8], borders: &[usize], line: Line) -> Option<Vec<u8>> 
             if let Some(number) = less.get_mut(at + 4) {
                 *number = number.wrapping_sub(tile).wrapping_add(new);
             }
-            set |= (sources >> tile & 1) << new;
+            set |= (first.sources >> tile & 1) << new;
         }
     }
     less.extend(&bytes[borders[2 + tiles]..]);
-    (less[4], less[5], less[6]) = (wide, high, line.kept(rows, hopper)?);
+    (less[4], less[5], less[6]) = (wide, high, line.kept(rows, first.hopper)?);
     less[16..24].copy_from_slice(&set.to_le_bytes());
+    if first.long {
+        let hoppers = line.kept_set(rows, first.hoppers)?;
+        less[SHORT..LONG].copy_from_slice(&hoppers.to_le_bytes());
+    }
     Some(less)
 }
 
@@ -303,6 +374,12 @@ impl Line {
             Line::Column(at) => (columns > 1 && at < columns).then_some((columns - 1, rows)),
             Line::Row(at) => (rows > 1 && at < rows).then_some((columns, rows - 1)),
         }
+    }
+
+    /// The tiles of a set by their numbers without the line, if all are left.
+    pub fn kept_set(self, rows: u8, set: u64) -> Option<u64> {
+        let tiles = (0..64).filter(|tile| set >> tile & 1 == 1);
+        tiles.map(|tile| self.kept(rows, tile).map(only)).sum()
     }
 
     /// The number that a tile has without the line, if it is left.

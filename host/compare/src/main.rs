@@ -6,6 +6,8 @@ mod convert;
 mod exchange;
 #[cfg(feature = "faults")]
 mod faults;
+mod first;
+mod hoppers;
 mod images;
 mod makers;
 mod promise;
@@ -57,6 +59,7 @@ fn requests(plan: Plan, tally: &mut Tally) -> Result<(), Found> {
         runs::exchange_in_list(&mut rng, tally).map_err(found("a list in either order"))?;
         runs::crowd(&mut rng, tally).map_err(found("a crowded floor"))?;
         runs::ties(&mut rng, tally).map_err(found("a list about ties"))?;
+        runs::several(&mut rng, tally).map_err(found("several hoppers"))?;
     }
     Ok(())
 }

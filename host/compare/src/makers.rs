@@ -1,7 +1,10 @@
 //! Floors and calls beyond those of `oracle::random`.
 
 use oracle::random::{self, Rng};
-use oracle::{Canister, Counters, Floor, Grid, Settings, Side, Tile, LONGEST_IMAGE, NONE, PLACES};
+use oracle::{
+    only, Canister, Counters, Floor, Grid, Settings, Side, Tile, LONGEST_IMAGE, MAX_HOPPERS, NONE,
+    PLACES,
+};
 
 use crate::call::Call;
 use crate::images;
@@ -112,15 +115,16 @@ fn dense(rng: &mut Rng) -> Settings {
         if settings.span() / settings.spacing() as u16 == 3 {
             if rng.chance(1, 2) {
                 (settings.columns, settings.rows) = (8, 8);
-                settings.hopper = rng.below(64) as u8;
-                settings.sources = !(1 << settings.hopper);
+                let hoppers = rng.pick(&[1, 1, 1, 2, 3, 4]);
+                settings.hoppers = random::hoppers(rng, &settings, hoppers);
+                settings.sources = !settings.hoppers;
             }
             return settings;
         }
     }
 }
 
-/// Every tile but the hopper filled with sixteen canisters in lines.
+/// Every tile but the hoppers filled with sixteen canisters in lines.
 pub fn packed_floor(rng: &mut Rng) -> Floor {
     let settings = dense(rng);
     let near = rng.chance(1, 2);
@@ -131,11 +135,10 @@ pub fn packed_floor(rng: &mut Rng) -> Floor {
 pub fn packed_with(rng: &mut Rng, settings: Settings, near: bool) -> Floor {
     let mut floor = oracle::fresh(settings).floor;
     let tiles = settings.tile_count();
-    let held = (tiles - 1) * PLACES;
-    let step = if near {
-        1
-    } else {
-        u64::from(u32::MAX) / held as u64
+    let held = (tiles - settings.hopper_count()) * PLACES;
+    let step = match near || held == 0 {
+        true => 1,
+        false => u64::from(u32::MAX) / held as u64,
     };
     let mut numbers: Vec<u32> = (0..held as u64)
         .map(|at| (at * step + rng.below(step) + 1) as u32)
@@ -146,7 +149,7 @@ pub fn packed_with(rng: &mut Rng, settings: Settings, near: bool) -> Floor {
     }
     let spacing = settings.spacing() as u16;
     let slack = settings.span() - 3 * spacing;
-    for tile in (0..tiles).filter(|tile| *tile != usize::from(settings.hopper)) {
+    for tile in (0..tiles).filter(|tile| !settings.is_hopper(*tile)) {
         let mut mine: Vec<u32> = numbers.drain(..PLACES).collect();
         mine.sort_unstable();
         let shift = rng.pick(&[0, slack, slack / 2]);
@@ -162,24 +165,30 @@ pub fn packed_with(rng: &mut Rng, settings: Settings, near: bool) -> Floor {
     floor.counters = Counters {
         last,
         booked: held as u32,
-        delivered: 0,
+        ..Counters::ZERO
     };
     floor
 }
 
 /// A tile in the middle of 3 x 3 with full neighbours: the hopper, where four
 /// sides want, or a tile on the way between stopped corners, where three do.
+/// At times the corners, or some of them, are hoppers too.
 pub fn crowded_floor(rng: &mut Rng) -> Floor {
     let hopper = rng.pick(&[4, 4, 1, 3, 5, 7]);
+    let corners = match rng.below(4) {
+        0 => rng.draw() & (only(0) | only(2) | only(8)),
+        _ => 0,
+    };
+    let hoppers = only(hopper) | corners;
     let settings = Settings {
         columns: 3,
         rows: 3,
-        hopper,
-        sources: 0x1ff & !(1 << hopper),
+        hoppers,
+        sources: 0x1ff & !hoppers,
         ..dense(rng)
     };
     let mut floor = packed_with(rng, settings, true);
-    if hopper != 4 {
+    if hopper != 4 && corners == 0 {
         for corner in [0, 2, 6, 8] {
             floor.tiles[corner].running = 0;
         }
@@ -194,7 +203,7 @@ pub fn facing_floor(rng: &mut Rng) -> Floor {
     let settings = Settings {
         columns: if upright { 1 } else { long },
         rows: if upright { long } else { 1 },
-        hopper: 0,
+        hoppers: facing_hoppers(rng),
         sources: 0,
         width: 100,
         length: 20,
@@ -221,9 +230,43 @@ pub fn facing_floor(rng: &mut Rng) -> Floor {
     floor.counters = Counters {
         last: 2,
         booked: 2,
-        delivered: 0,
+        ..Counters::ZERO
     };
     floor
+}
+
+/// The first tile of a line, at times with the one beside it.
+fn facing_hoppers(rng: &mut Rng) -> u64 {
+    match rng.chance(1, 4) {
+        true => only(0) | only(1),
+        false => only(0),
+    }
+}
+
+/// Two to four hoppers along an edge of a packed floor, so that several
+/// deliver in one round.
+pub fn delivering_floor(rng: &mut Rng) -> Floor {
+    let count = rng.range(2, MAX_HOPPERS as u64) as u8;
+    let deep = rng.range(2, 4) as u8;
+    let upright = rng.chance(1, 2);
+    let (columns, rows) = if upright {
+        (deep, count)
+    } else {
+        (count, deep)
+    };
+    let step = if upright { 1 } else { rows };
+    let across = if upright { rows } else { 1 };
+    let edge = rng.pick(&[0, deep - 1]) * across;
+    let hoppers = (0..count).map(|at| only(edge + at * step)).sum();
+    let mut settings = Settings {
+        columns,
+        rows,
+        hoppers,
+        ..dense(rng)
+    };
+    settings.sources = settings.all_tiles() & !hoppers;
+    let near = rng.chance(1, 2);
+    packed_with(rng, settings, near)
 }
 
 /// Damages a well-formed floor so that it must be refused by 30. False if
@@ -232,7 +275,7 @@ pub fn known_damage(rng: &mut Rng, floor: &mut Floor) -> bool {
     let tiles = floor.settings.tile_count();
     let any = rng.below(tiles as u64) as usize;
     let byte = rng.range(1, 255) as u8;
-    match rng.below(30) {
+    match rng.below(34) {
         kind @ 0..=8 => damage_tile(rng, floor, kind, any, byte),
         kind @ 9..=18 => damage_places(rng, floor, kind, any),
         19 => repeat_number(rng, floor),
@@ -241,16 +284,17 @@ pub fn known_damage(rng: &mut Rng, floor: &mut Floor) -> bool {
     }
 }
 
-/// Damages the head of the hopper or of a tile.
+/// Damages the head of a hopper or of a tile.
 fn damage_tile(rng: &mut Rng, floor: &mut Floor, kind: u64, any: usize, byte: u8) -> bool {
     let tiles = floor.settings.tile_count() as u64;
-    let hopper = usize::from(floor.settings.hopper);
+    let hoppers: Vec<usize> = floor.settings.hopper_tiles().collect();
+    let hopper = rng.pick(&hoppers);
     match kind {
         0 => floor.tiles[hopper].running = 0,
         1 => floor.tiles[hopper].distance = byte,
         2 => floor.tiles[hopper].next = rng.range(1, 4) as u8,
         3 => floor.tiles[any].running = rng.range(2, 255) as u8,
-        4 if any != hopper => floor.tiles[any].distance = 0,
+        4 if !hoppers.contains(&any) => floor.tiles[any].distance = 0,
         5 => floor.tiles[any].distance = rng.range(tiles, 254) as u8,
         6 => floor.tiles[any].next = rng.range(5, 255) as u8,
         7 => floor.tiles[any].token = rng.range(5, 255) as u8,
@@ -313,29 +357,70 @@ fn damage_absent(rng: &mut Rng, floor: &mut Floor) {
 fn damage_rest(rng: &mut Rng, floor: &mut Floor, kind: u64, any: usize, byte: u8) -> bool {
     let tiles = floor.settings.tile_count() as u64;
     let count = usize::from(floor.tiles[any].count);
-    let held = floor.counters.booked - floor.counters.delivered;
+    let hoppers = floor.settings.hopper_count();
+    let held = floor.counters.booked - floor.counters.delivered_in_all() as u32;
     let counters = &mut floor.counters;
+    let rank = rng.below(hoppers as u64) as usize;
     match kind {
         20 if count > 0 => {
             counters.last = floor.canisters[any * PLACES + count - 1].number - 1;
         }
         21 => counters.booked = counters.booked.wrapping_add(byte.into()),
-        22 => counters.delivered = counters.delivered.wrapping_add(byte.into()),
+        22 => counters.delivered[rank] = counters.delivered[rank].wrapping_add(byte.into()),
         23 if counters.last < u32::MAX => {
             counters.booked = counters.last + 1;
-            counters.delivered = counters.booked - held;
+            counters.delivered = random::parts(rng, counters.booked - held, hoppers);
         }
         24 if held > 0 => {
             counters.booked = held - 1;
-            counters.delivered = u32::MAX;
+            counters.delivered = random::parts(rng, u32::MAX, hoppers);
         }
-        26 => floor.settings.hopper = rng.range(tiles, 255) as u8,
-        27 => floor.settings.sources |= 1 << floor.settings.hopper,
+        26 if tiles < 64 => floor.settings.hoppers |= only(rng.range(tiles, 63) as u8),
+        27 => floor.settings.sources |= 1 << floor.settings.hopper_tiles().nth(rank).unwrap_or(0),
         28 => floor.settings.travel = floor.settings.length,
         29 => floor.settings.gap = u16::MAX - rng.below(300) as u16,
+        30 if hoppers < MAX_HOPPERS && counters.delivered[rank] > 0 => {
+            let unused = rng.range(hoppers as u64, MAX_HOPPERS as u64 - 1) as usize;
+            counters.delivered.swap(rank, unused);
+        }
+        31 => floor.settings.hoppers ^= only(any as u8),
+        32 => return fifth_hopper(floor),
+        33 => no_hopper(floor),
         _ => return false,
     }
     true
+}
+
+/// Makes hoppers of empty tiles until there are five, sound but for that.
+fn fifth_hopper(floor: &mut Floor) -> bool {
+    let settings = &mut floor.settings;
+    let tiles = 0..settings.tile_count();
+    let plain = |tile: &usize| floor.tiles[*tile].count == 0 && !settings.is_hopper(*tile);
+    let more = MAX_HOPPERS + 1 - settings.hopper_count();
+    let empty: Vec<usize> = tiles.filter(plain).take(more).collect();
+    if empty.len() < more {
+        return false;
+    }
+    for tile in empty {
+        settings.hoppers |= 1 << tile;
+        settings.sources &= !(1 << tile);
+        floor.tiles[tile] = Tile {
+            distance: 0,
+            ..Tile::IDLE
+        };
+    }
+    true
+}
+
+/// Makes plain tiles of all hoppers.
+fn no_hopper(floor: &mut Floor) {
+    for hopper in floor.settings.hopper_tiles() {
+        floor.tiles[hopper].distance = NONE;
+    }
+    floor.settings.hoppers = 0;
+    let gone = floor.counters.delivered_in_all() as u32;
+    floor.counters.booked -= gone;
+    floor.counters.delivered = [0; MAX_HOPPERS];
 }
 
 /// Gives a canister the number of one on another tile, in rising order still.

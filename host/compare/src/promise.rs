@@ -2,7 +2,7 @@
 
 use std::collections::BTreeSet;
 
-use oracle::{Floor, Grid, Settings, Side};
+use oracle::{Floor, Grid, Report, Settings, Side, MAX_HOPPERS};
 
 use crate::arrows::Settled;
 use crate::call::{both, Call, Outcome, Trouble};
@@ -15,7 +15,7 @@ pub struct Record {
     gone: BTreeSet<u32>,
     running: Vec<bool>,
     booked: u32,
-    delivered: u32,
+    delivered: [u32; MAX_HOPPERS],
     waits: Waits,
     settled: Settled,
 }
@@ -77,19 +77,25 @@ impl Record {
             (Call::Fresh { .. } | Call::Load { .. }, Outcome::Answer(answer)) => {
                 *self = Record::of(&answer.floor);
             }
-            (_, Outcome::Round(answer)) => {
-                let numbers = answer.report.delivered();
-                if !numbers.is_sorted_by(|one, other| one < other) {
-                    return broken(format!("delivered numbers {numbers:?}"));
-                }
-                for number in numbers {
-                    self.delivered += 1;
-                    if !self.gone.insert(*number) {
-                        return broken(format!("number {number} delivered twice"));
-                    }
-                }
-            }
+            (_, Outcome::Round(answer)) => return self.deliver(&answer.report),
             _ => {}
+        }
+        Ok(())
+    }
+
+    /// Counts for each hopper; a number is delivered once over all of them.
+    fn deliver(&mut self, report: &Report) -> Result<(), Trouble> {
+        for (rank, count) in self.delivered.iter_mut().enumerate() {
+            let numbers = report.at(rank);
+            if !numbers.is_sorted_by(|one, other| one < other) {
+                return broken(format!("delivered numbers {numbers:?}"));
+            }
+            *count += numbers.len() as u32;
+        }
+        for number in report.delivered() {
+            if !self.gone.insert(number) {
+                return broken(format!("number {number} delivered twice"));
+            }
         }
         Ok(())
     }
@@ -104,7 +110,7 @@ impl Record {
         let counters = &floor.counters;
         if (counters.booked, counters.delivered) != (self.booked, self.delivered) {
             return broken(format!(
-                "counters {counters:?}, but {} booked and {} delivered",
+                "counters {counters:?}, but {} booked and {:?} delivered",
                 self.booked, self.delivered
             ));
         }
@@ -139,12 +145,12 @@ fn check_places(floor: &Floor) -> Result<(), Trouble> {
     Ok(())
 }
 
-/// Tiles with a live path to the hopper.
+/// Tiles with a live path to a hopper.
 fn live(floor: &Floor) -> Vec<bool> {
     let grid = Grid::of(&floor.settings);
     let spots: Vec<_> = grid.spots().collect();
     let mut live = vec![false; spots.len()];
-    let mut open = vec![usize::from(floor.settings.hopper)];
+    let mut open: Vec<usize> = floor.settings.hopper_tiles().collect();
     while let Some(tile) = open.pop() {
         if !live[tile] && floor.tiles[tile].running == 1 {
             live[tile] = true;

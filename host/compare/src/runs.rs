@@ -6,6 +6,7 @@ use oracle::{Canister, Floor, Settings};
 use crate::arrows;
 use crate::call::{both, Call, Outcome, Trouble};
 use crate::exchange;
+use crate::first::First;
 use crate::makers;
 use crate::promise::{self, Record};
 use crate::tally::Tally;
@@ -40,6 +41,9 @@ struct Run<'a> {
 
 impl<'a> Run<'a> {
     fn of(case: Case, tally: &'a mut Tally) -> Run<'a> {
+        if case.sound {
+            tally.hoppers.note_floor(&case.first);
+        }
         Run {
             floor: case.first,
             record: match case.sound {
@@ -77,6 +81,9 @@ impl<'a> Run<'a> {
                 call.name()
             );
             return Err(Trouble::promise("known damage", text));
+        }
+        if let Call::Load { bytes } = call {
+            judge_load(bytes, refusal)?;
         }
         if !self.case.sound {
             return Ok(());
@@ -125,6 +132,24 @@ impl<'a> Run<'a> {
         match self.case.sound {
             true => self.record.check(&self.floor),
             false => Ok(()),
+        }
+    }
+}
+
+/// Holds the answer of a load to what the image's first record asks for.
+fn judge_load(bytes: &[u8], refusal: u8) -> Result<(), Trouble> {
+    let Some(first) = First::of(bytes) else {
+        return Ok(());
+    };
+    let fits = match first.due() {
+        Some(due) => refusal == due,
+        None => ![1, 2].contains(&refusal),
+    };
+    match fits {
+        true => Ok(()),
+        false => {
+            let text = format!("load answers {refusal} against the first record");
+            Err(Trouble::promise("first record", text))
         }
     }
 }
@@ -238,8 +263,7 @@ pub fn list(rng: &mut Rng, tally: &mut Tally) -> Result<(), Box<Failure>> {
 fn list_settings(rng: &mut Rng) -> Settings {
     let mut settings = random::settings(rng);
     if rng.chance(3, 4) {
-        let tiles = settings.tile_count();
-        settings.sources = (u64::MAX >> (64 - tiles)) & !(1 << settings.hopper);
+        settings.sources = settings.all_tiles() & !settings.hoppers;
     }
     settings
 }
@@ -248,6 +272,7 @@ fn arbitrary_floor(rng: &mut Rng) -> Floor {
     match rng.below(12) {
         0 => makers::packed_floor(rng),
         1 => makers::facing_floor(rng),
+        2 => makers::delivering_floor(rng),
         _ => random::floor(rng),
     }
 }
@@ -423,6 +448,32 @@ pub fn ties(rng: &mut Rng, tally: &mut Tally) -> Result<(), Box<Failure>> {
         for _ in 0..rng.below(80) {
             let floor = run.floor;
             run.make(arrows::tie_call(rng, &floor))?;
+        }
+        run.check()?;
+        run.drain(rng, 400)
+    })
+}
+
+/// Two to four hoppers; stops cut tiles off from some of them.
+pub fn several(rng: &mut Rng, tally: &mut Tally) -> Result<(), Box<Failure>> {
+    let mut settings = list_settings(rng);
+    while settings.hopper_count() < 2 {
+        settings = list_settings(rng);
+    }
+    let first = match rng.below(3) {
+        0 => makers::delivering_floor(rng),
+        1 => oracle::fresh(settings).floor,
+        _ => random::floor_with(rng, settings),
+    };
+    finish(begin(first, true, None), tally, |run| {
+        for _ in 0..rng.below(60) {
+            let floor = run.floor;
+            run.make(match rng.below(16) {
+                0..=3 => random::call(rng, &floor).into(),
+                4 => random::refused_call(rng, &floor).into(),
+                5 => makers::loading(rng, &floor),
+                _ => Call::Round,
+            })?;
         }
         run.check()?;
         run.drain(rng, 400)

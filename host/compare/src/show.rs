@@ -9,9 +9,38 @@ use crate::runs::Case;
 
 fn settings(s: &Settings) -> String {
     format!(
-        "W {} H {} hopper {} fill {:#x} U {} l {} r {} v {}",
-        s.columns, s.rows, s.hopper, s.sources, s.width, s.length, s.gap, s.travel
+        "W {} H {} {} fill {:#x} U {} l {} r {} v {}",
+        s.columns,
+        s.rows,
+        hoppers(s),
+        s.sources,
+        s.width,
+        s.length,
+        s.gap,
+        s.travel
     )
+}
+
+fn hoppers(settings: &Settings) -> String {
+    let tiles: Vec<String> = settings.hopper_tiles().map(|at| at.to_string()).collect();
+    match tiles.len() {
+        0 => "no hopper".into(),
+        1 => format!("hopper {}", tiles[0]),
+        2..=8 => format!("hoppers {}", tiles.join(" ")),
+        _ => format!("hoppers {:#x}", settings.hoppers),
+    }
+}
+
+/// The counters of the hoppers, those of no hopper too where one isn't zero.
+fn delivered(floor: &Floor) -> String {
+    let counts = &floor.counters.delivered;
+    let used = floor.settings.hopper_count().clamp(1, counts.len());
+    let shown = match counts[used..].iter().all(|count| *count == 0) {
+        true => &counts[..used],
+        false => counts,
+    };
+    let counts: Vec<String> = shown.iter().map(|count| count.to_string()).collect();
+    counts.join(" ")
 }
 
 fn canister(c: &Canister) -> String {
@@ -28,7 +57,7 @@ fn floor(floor: &Floor) -> String {
         settings(&floor.settings),
         c.last,
         c.booked,
-        c.delivered
+        delivered(floor)
     );
     for (at, tile) in floor.tiles.iter().enumerate() {
         let places = floor.places(at);

@@ -1,6 +1,8 @@
 //! Looks for the smallest case that shows the same trouble.
 
-use oracle::{Canister, Counters, Floor, Grid, Settings, Side, Tile, NONE, NO_SIDE, PLACES};
+use oracle::{
+    only, Canister, Counters, Floor, Grid, Settings, Side, Tile, MAX_HOPPERS, NONE, NO_SIDE, PLACES,
+};
 
 use crate::call::{Call, Trouble};
 use crate::images::{self, Line};
@@ -103,6 +105,7 @@ impl Search {
 enum Change {
     Crop(Line),
     Empty(usize),
+    Hopper(usize),
     Remove(usize, usize),
     Tile(usize, fn(&mut Tile)),
     Place(usize, fn(&mut Canister)),
@@ -130,8 +133,8 @@ const FLOOR_CHANGES: [fn(&mut Floor); 8] = [
     renumber,
     lower_distances,
     |floor| {
-        let held = floor.counters.booked.wrapping_sub(floor.counters.delivered);
-        (floor.counters.booked, floor.counters.delivered) = (held, 0);
+        floor.counters.booked = booked_and_here(&floor.counters);
+        floor.counters.delivered = [0; MAX_HOPPERS];
     },
     |floor| floor.counters.last = floor.counters.booked,
     |floor| floor.settings.sources = 0,
@@ -141,6 +144,12 @@ const FLOOR_CHANGES: [fn(&mut Floor); 8] = [
         }
     },
 ];
+
+/// Booked without all that was delivered.
+fn booked_and_here(counters: &Counters) -> u32 {
+    let gone = counters.delivered_in_all() as u32;
+    counters.booked.wrapping_sub(gone)
+}
 
 fn plain_measures(settings: &mut Settings) {
     (settings.width, settings.length) = (100, 30);
@@ -153,6 +162,7 @@ fn floor_changes(floor: &Floor) -> Vec<Change> {
     let used = |tile: &usize| floor.tiles[*tile] != Tile::ZERO;
     for tile in (0..64).filter(used) {
         changes.push(Change::Empty(tile));
+        changes.push(Change::Hopper(tile));
         let count = usize::from(floor.tiles[tile].count).min(PLACES);
         changes.extend((0..count).rev().map(|at| Change::Remove(tile, at)));
         changes.extend(TILE_CHANGES.map(|change| Change::Tile(tile, change)));
@@ -168,6 +178,7 @@ impl Change {
         match self {
             Change::Crop(line) => return crop(case, *line).is_some(),
             Change::Empty(tile) => while remove(&mut case.first, *tile, 0) {},
+            Change::Hopper(tile) => return drop_hopper(&mut case.first, *tile),
             Change::Remove(tile, at) => return remove(&mut case.first, *tile, *at),
             Change::Tile(tile, change) => change(&mut case.first.tiles[*tile]),
             Change::Place(place, change) => change(&mut case.first.canisters[*place]),
@@ -207,6 +218,24 @@ fn lower_distances(floor: &mut Floor) {
     }
 }
 
+/// Makes a plain tile of a hopper, with its counter taken off.
+fn drop_hopper(floor: &mut Floor, tile: usize) -> bool {
+    let hoppers = floor.settings.hopper_count();
+    let Some(rank) = floor.settings.rank(tile) else {
+        return false;
+    };
+    if !(2..=MAX_HOPPERS).contains(&hoppers) {
+        return false;
+    }
+    let counters = &mut floor.counters;
+    counters.booked = counters.booked.wrapping_sub(counters.delivered[rank]);
+    counters.delivered[rank..].rotate_left(1);
+    counters.delivered[MAX_HOPPERS - 1] = 0;
+    floor.settings.hoppers &= !(1 << tile);
+    floor.tiles[tile].distance = NONE;
+    true
+}
+
 /// Takes a canister off, and off the booked counter.
 fn remove(floor: &mut Floor, tile: usize, at: usize) -> bool {
     let count = usize::from(floor.tiles[tile].count);
@@ -244,8 +273,8 @@ fn renumber(floor: &mut Floor) {
     }
     floor.counters = Counters {
         last: numbers.len() as u32,
-        booked: floor.counters.booked.wrapping_sub(floor.counters.delivered),
-        delivered: 0,
+        booked: booked_and_here(&floor.counters),
+        delivered: [0; MAX_HOPPERS],
     };
 }
 
@@ -262,7 +291,7 @@ fn crop(case: &mut Case, line: Line) -> Option<()> {
         settings: Settings {
             columns,
             rows,
-            hopper: kept(old.settings.hopper)?,
+            hoppers: line.kept_set(old.settings.rows, old.settings.hoppers)?,
             sources: 0,
             ..old.settings
         },
@@ -342,17 +371,23 @@ fn smaller_calls(floor: &Floor, call: &Call) -> Vec<Call> {
             .into_iter()
             .map(|bytes| Call::Load { bytes })
             .collect(),
-        Call::Fresh { settings } => {
-            let mut plain = *settings;
-            plain_measures(&mut plain);
-            let mut two = *settings;
-            (two.columns, two.rows, two.hopper, two.sources) = (2, 1, 1, 0);
-            let mut none = *settings;
-            none.sources = 0;
-            [plain, two, none]
-                .map(|settings| Call::Fresh { settings })
-                .into()
-        }
+        Call::Fresh { settings } => smaller_settings(settings)
+            .map(|settings| Call::Fresh { settings })
+            .into(),
         _ => Vec::new(),
     }
+}
+
+/// Plain measures, one hopper, the first four tiles alone, no fill tiles.
+fn smaller_settings(settings: &Settings) -> [Settings; 4] {
+    let mut plain = *settings;
+    plain_measures(&mut plain);
+    let mut two = *settings;
+    (two.columns, two.rows, two.hoppers, two.sources) = (2, 1, only(1), 0);
+    let mut four = *settings;
+    (four.columns, four.rows) = (2, 2);
+    (four.hoppers, four.sources) = (settings.hoppers & 15, settings.sources & 15);
+    let mut none = *settings;
+    none.sources = 0;
+    [plain, two, four, none]
 }

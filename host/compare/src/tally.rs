@@ -5,7 +5,7 @@ use std::fmt::Display;
 use oracle::{Floor, Grid, RoundAnswer, Side};
 
 use crate::call::{Call, Outcome, NAMES};
-use crate::{arrows, exchange, waits};
+use crate::{arrows, exchange, hoppers, waits};
 
 /// The answers that each call can give, in the order of `NAMES`.
 const ANSWERS: [&[u8]; 8] = [
@@ -30,6 +30,7 @@ pub struct Tally {
     pub known_damage: u64,
     pub exchanges: exchange::Counts,
     pub waits: waits::Counts,
+    pub hoppers: hoppers::Counts,
     pub settled: u64,
     /// Arrows kept and lists held to the bound in the runs for single requests.
     tied: [u64; 2],
@@ -57,6 +58,7 @@ impl Tally {
     pub fn add(&mut self, further: Tally) {
         self.exchanges = further.exchanges;
         self.waits.add(&further.waits);
+        self.hoppers.add(&further.hoppers);
         self.settled += further.settled;
         self.tied = [further.kept, further.drained];
         self.closest = self.closest.max(further.closest);
@@ -65,10 +67,16 @@ impl Tally {
 
     pub fn note(&mut self, before: &Floor, call: &Call, outcome: &Outcome) {
         self.answers[call.kind()][usize::from(outcome.refusal())] += 1;
-        if let Outcome::Round(answer) = outcome {
-            if answer.refusal == 0 {
-                self.note_round(before, answer);
+        if let Call::Load { bytes } = call {
+            self.hoppers.note_image(bytes, outcome.refusal());
+        }
+        match (outcome, call) {
+            _ if outcome.refusal() != 0 => {}
+            (Outcome::Round(answer), _) => self.note_round(before, answer),
+            (Outcome::Answer(answer), Call::Fresh { .. } | Call::Load { .. }) => {
+                self.hoppers.note_floor(&answer.floor);
             }
+            _ => {}
         }
     }
 
@@ -76,11 +84,15 @@ impl Tally {
         let grid = Grid::of(&before.settings);
         let grants = &answer.report.grants;
         self.kept += arrows::kept(before, &answer.floor);
-        self.deliveries[usize::from(answer.report.count).min(4)] += 1;
+        self.hoppers.note_report(&answer.report);
+        for delivery in &answer.report.deliveries {
+            self.deliveries[usize::from(delivery.count).min(4)] += 1;
+        }
         let used = &before.tiles[..before.settings.tile_count()];
         self.sixteen += u64::from(used.iter().any(|tile| tile.count == 16));
         let held: u32 = used.iter().map(|tile| u32::from(tile.count)).sum();
-        self.full += u64::from(held == 1_008);
+        let room = 64 - before.settings.hopper_count() as u32;
+        self.full += u64::from(used.len() == 64 && held == 16 * room);
         for spot in grid.spots() {
             let Some(side) = Side::from_code(grants[spot.tile]) else {
                 self.withheld += u64::from(answer.floor.tiles[spot.tile].token != 0);
@@ -112,6 +124,9 @@ impl Tally {
         for (name, cells) in lines.into_iter().flatten() {
             print_line(&name, cells, &mut missing);
         }
+        for (name, cells) in self.hoppers.lines() {
+            print_line(&name, cells, &mut missing);
+        }
         for (name, count) in self.events() {
             println!("{name}: {count}");
             if count == 0 {
@@ -131,19 +146,19 @@ impl Tally {
             .collect();
         events.push(("grants withheld for want of a gap".into(), self.withheld));
         for at_once in 1..=4 {
-            let name = format!("rounds that delivered {at_once}");
+            let name = format!("{at_once} delivered at a hopper in a round");
             events.push((name, self.deliveries[at_once]));
         }
         let more = [
             ("rounds with a tile of sixteen", self.sixteen),
             ("pairs of tiles granting each other", self.mutual),
-            ("rounds on a full 8 x 8 floor (1,008 canisters)", self.full),
+            ("rounds on a full 8 x 8 floor", self.full),
             ("arrows kept against the order of ties", self.kept),
             ("the same in runs for single requests", self.tied[0]),
             ("rounds on settled floors", self.settled),
             ("lists held to demand 3", self.lists),
             ("further lists held to the bound", self.drained),
-            ("the same after lists about ties", self.tied[1]),
+            ("such lists in runs for single requests", self.tied[1]),
             ("floors with damage that must be 30", self.known_damage),
             ("good images", self.good_images),
             ("damaged images", self.damaged_images),

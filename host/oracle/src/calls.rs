@@ -21,7 +21,9 @@ fn fresh_floor(settings: Settings) -> Floor {
         ..Floor::ZERO
     };
     floor.tiles[..settings.tile_count()].fill(Tile::IDLE);
-    floor.tiles[usize::from(settings.hopper)].distance = 0;
+    for hopper in settings.hopper_tiles() {
+        floor.tiles[hopper].distance = 0;
+    }
     floor
 }
 
@@ -111,7 +113,8 @@ pub fn stop(floor: &Floor, tile: u32) -> Answer {
 
 fn checked_stop(floor: &Floor, tile: u32) -> Result<usize, u8> {
     let tile = checked_tile(floor, tile)?;
-    if tile == usize::from(floor.settings.hopper) {
+    let lowest = floor.settings.rank(tile) == Some(0);
+    if floor.settings.is_hopper(tile) && (lowest || !faults::on(Fault::StopOther)) {
         Err(refusal::STOP_OF_HOPPER)
     } else if floor.tiles[tile].running == 0 {
         Err(refusal::STOPPED)

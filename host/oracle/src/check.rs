@@ -3,7 +3,9 @@
 use crate::faults::{self, Fault};
 use crate::grid::{Grid, Side, Spot};
 use crate::refusal;
-use crate::types::{Canister, Floor, Settings, Tile, MAX_TILES, NONE, NO_SIDE, PLACES};
+use crate::types::{
+    Canister, Counters, Floor, Settings, Tile, MAX_HOPPERS, MAX_TILES, NONE, NO_SIDE, PLACES,
+};
 
 /// 0, or the first of the refusals 1 to 3.
 pub fn settings_refusal(settings: &Settings) -> u8 {
@@ -28,11 +30,14 @@ fn grid_fits(settings: &Settings) -> bool {
 
 /// For a grid that fits, so that C is 2 to 64.
 fn sets_fit(settings: &Settings) -> bool {
-    let tiles = settings.tile_count();
-    let on_floor = u64::MAX >> (MAX_TILES - tiles);
-    usize::from(settings.hopper) < tiles
-        && settings.sources & !on_floor == 0
-        && !settings.is_source(usize::from(settings.hopper))
+    let (hoppers, sources) = (settings.hoppers, settings.sources);
+    let tested = match faults::on(Fault::FillLowest) {
+        true => hoppers & hoppers.wrapping_neg(),
+        false => hoppers,
+    };
+    (1..=MAX_HOPPERS).contains(&settings.hopper_count())
+        && (hoppers | sources) & !settings.all_tiles() == 0
+        && sources & tested == 0
 }
 
 fn measures_fit(settings: &Settings) -> bool {
@@ -61,7 +66,7 @@ fn tile_fits(floor: &Floor, spot: Spot) -> bool {
     let settings = &floor.settings;
     let tile = &floor.tiles[spot.tile];
     let grid = Grid::of(settings);
-    let state_fits = if spot.tile == usize::from(settings.hopper) {
+    let state_fits = if settings.is_hopper(spot.tile) {
         tile.running == 1 && tile.distance == 0 && tile.next == NO_SIDE && tile.count == 0
     } else {
         match tile.running {
@@ -133,12 +138,20 @@ fn numbers_and_counters_fit(floor: &Floor) -> bool {
     let numbers = &mut numbers[..held];
     numbers.sort_unstable();
     let counters = &floor.counters;
-    let total = match faults::on(Fault::SumWraps) {
-        true => u64::from(counters.delivered.wrapping_add(held as u32)),
-        false => u64::from(counters.delivered) + held as u64,
-    };
     (numbers.windows(2).all(|pair| pair[0] != pair[1]) || faults::on(Fault::RepeatAccepted))
         && numbers.last().is_none_or(|most| *most <= counters.last)
-        && u64::from(counters.booked) == total
+        && counters_fit(counters, held as u64, floor.settings.hopper_count())
+}
+
+/// The counters of a floor with so many canisters and one to four hoppers.
+fn counters_fit(counters: &Counters, held: u64, hoppers: usize) -> bool {
+    let total = counters.delivered_in_all() + held;
+    let total = match faults::on(Fault::SumWraps) {
+        true => u64::from(total as u32),
+        false => total,
+    };
+    let unused = &counters.delivered[hoppers..];
+    u64::from(counters.booked) == total
         && (counters.booked <= counters.last || faults::on(Fault::BookedAboveLast))
+        && (unused.iter().all(|count| *count == 0) || faults::on(Fault::UnusedCounter))
 }

@@ -66,6 +66,14 @@ faults! {
     PartialLoad "partial-load" "a refused load gives the part it read"
     ExactBuffer "exact-buffer" "13 for a buffer of exactly the image's length"
     TailTouched "tail-touched" "writing clears the bytes after the image"
+    CountersSwapped "counters-swapped" "the counters of two hoppers are swapped"
+    OnlyLowest "only-lowest" "only the lowest hopper delivers"
+    OneBit "one-bit" "a 28-byte record with one bit is accepted"
+    FillLowest "fill-lowest" "the fill bit is tested against the lowest hopper alone"
+    StopOther "stop-other" "8 for the lowest hopper alone"
+    UnusedCounter "unused-counter" "a counter of no hopper may hold anything"
+    EmptySetTested "empty-set-tested" "the hopper byte is tested for an empty set too"
+    HopperByteLate "hopper-byte-late" "the hopper byte is tested after 1, 2 and 3"
 }
 
 #[cfg(feature = "faults")]

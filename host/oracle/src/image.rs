@@ -5,9 +5,11 @@ use core::mem::take;
 use crate::check::{settings_refusal, well_formed};
 use crate::faults::{self, Fault};
 use crate::refusal;
-use crate::types::{Answer, Canister, Counters, Floor, Settings, Tile, WriteAnswer, PLACES};
+use crate::types::{
+    only, Answer, Canister, Counters, Floor, Settings, Tile, WriteAnswer, MAX_HOPPERS, PLACES,
+};
 
-/// Bytes of the longest image.
+/// Bytes of the longest image; it has one hopper, as a tile holds more bytes than a hopper adds.
 pub const LONGEST_IMAGE: usize = 8_748;
 
 const HEAD: usize = 4;
@@ -17,7 +19,9 @@ const TILE: u16 = 3;
 const END: u16 = 4;
 
 const SETTINGS_BODY: usize = 20;
-const COUNTERS_BODY: usize = 12;
+const HOPPER_SET: usize = 8;
+const COUNTERS_BODY: usize = 8;
+const DELIVERED_BODY: usize = 4;
 const TILE_BODY: usize = 6;
 const CANISTER_BODY: usize = 8;
 
@@ -49,7 +53,24 @@ fn image_length(floor: &Floor) -> usize {
     let tiles = (0..floor.settings.tile_count())
         .map(|tile| HEAD + tile_body(floor.members(tile).len()))
         .sum::<usize>();
-    HEAD + SETTINGS_BODY + HEAD + COUNTERS_BODY + tiles + HEAD
+    let (settings, counters) = (
+        settings_body(&floor.settings),
+        counters_body(&floor.settings),
+    );
+    HEAD + settings + HEAD + counters + tiles + HEAD
+}
+
+/// With several hoppers their set is added.
+fn settings_body(settings: &Settings) -> usize {
+    match settings.hopper_count() {
+        1 => SETTINGS_BODY,
+        _ => SETTINGS_BODY + HOPPER_SET,
+    }
+}
+
+/// One delivered counter for each hopper.
+fn counters_body(settings: &Settings) -> usize {
+    COUNTERS_BODY + DELIVERED_BODY * settings.hopper_count()
 }
 
 fn tile_body(canisters: usize) -> usize {
@@ -75,7 +96,7 @@ impl Writer<'_> {
 
     fn floor(&mut self, floor: &Floor) {
         self.settings(&floor.settings);
-        self.counters(&floor.counters);
+        self.counters(&floor.counters, &floor.settings);
         for tile in 0..floor.settings.tile_count() {
             self.tile(tile, &floor.tiles[tile], floor.members(tile));
         }
@@ -83,20 +104,27 @@ impl Writer<'_> {
     }
 
     fn settings(&mut self, settings: &Settings) {
-        self.head(SETTINGS_BODY, SETTINGS);
-        self.put(&[settings.columns, settings.rows, settings.hopper, 0]);
+        let body = settings_body(settings);
+        let lowest = settings.hoppers.trailing_zeros() as u8;
+        self.head(body, SETTINGS);
+        self.put(&[settings.columns, settings.rows, lowest, 0]);
         self.put(&settings.width.to_le_bytes());
         self.put(&settings.length.to_le_bytes());
         self.put(&settings.gap.to_le_bytes());
         self.put(&settings.travel.to_le_bytes());
         self.put(&settings.sources.to_le_bytes());
+        if body > SETTINGS_BODY {
+            self.put(&settings.hoppers.to_le_bytes());
+        }
     }
 
-    fn counters(&mut self, counters: &Counters) {
-        self.head(COUNTERS_BODY, COUNTERS);
+    fn counters(&mut self, counters: &Counters, settings: &Settings) {
+        self.head(counters_body(settings), COUNTERS);
         self.put(&counters.last.to_le_bytes());
         self.put(&counters.booked.to_le_bytes());
-        self.put(&counters.delivered.to_le_bytes());
+        for count in &counters.delivered[..settings.hopper_count()] {
+            self.put(&count.to_le_bytes());
+        }
     }
 
     fn tile(&mut self, number: usize, tile: &Tile, members: &[Canister]) {
@@ -129,7 +157,7 @@ pub fn load(bytes: &[u8]) -> Answer {
 fn load_into(floor: &mut Floor, bytes: &[u8]) -> Result<(), u8> {
     let mut records = Records { rest: bytes };
     floor.settings = settings_from(records.due(SETTINGS)?)?;
-    floor.counters = counters_from(records.due(COUNTERS)?)?;
+    floor.counters = counters_from(records.due(COUNTERS)?, &floor.settings)?;
     for tile in 0..floor.settings.tile_count() {
         tile_from(floor, tile, records.due(TILE)?)?;
     }
@@ -178,14 +206,22 @@ impl<'a> Records<'a> {
 }
 
 fn settings_from(body: &[u8]) -> Result<Settings, u8> {
+    let several = body.len() == SETTINGS_BODY + HOPPER_SET;
+    let length_fits = several || body.len() == SETTINGS_BODY;
+    demand(length_fits && body[3] == 0, refusal::RECORD_SHAPE)?;
+    let set = match several {
+        true => u64_at(body, SETTINGS_BODY),
+        false => only(body[2]),
+    };
+    let byte_fits = !several || lowest_fits(set, body[2]);
     demand(
-        body.len() == SETTINGS_BODY && body[3] == 0,
+        byte_fits || faults::on(Fault::HopperByteLate),
         refusal::RECORD_SHAPE,
     )?;
     let settings = Settings {
         columns: body[0],
         rows: body[1],
-        hopper: body[2],
+        hoppers: if several { at_least_two(set) } else { set },
         width: u16_at(body, 4),
         length: u16_at(body, 6),
         gap: u16_at(body, 8),
@@ -193,17 +229,38 @@ fn settings_from(body: &[u8]) -> Result<Settings, u8> {
         sources: u64_at(body, 12),
     };
     match settings_refusal(&settings) {
+        refusal::ACCEPTED if !byte_fits => Err(refusal::RECORD_SHAPE),
         refusal::ACCEPTED => Ok(settings),
         refusal => Err(refusal),
     }
 }
 
-fn counters_from(body: &[u8]) -> Result<Counters, u8> {
-    demand(body.len() == COUNTERS_BODY, refusal::RECORD_SHAPE)?;
+/// Whether the hopper byte is the lowest of the set, on the floor or not.
+fn lowest_fits(set: u64, byte: u8) -> bool {
+    let untested = set == 0 && !faults::on(Fault::EmptySetTested);
+    untested || set.trailing_zeros() == u32::from(byte)
+}
+
+/// A long record's set. With fewer than two tiles it counts as empty, which is 2 in its turn.
+fn at_least_two(set: u64) -> u64 {
+    match set.count_ones() {
+        0 => 0,
+        1 if !faults::on(Fault::OneBit) => 0,
+        _ => set,
+    }
+}
+
+fn counters_from(body: &[u8], settings: &Settings) -> Result<Counters, u8> {
+    demand(body.len() == counters_body(settings), refusal::RECORD_SHAPE)?;
+    let mut delivered = [0; MAX_HOPPERS];
+    let counts = body[COUNTERS_BODY..].chunks_exact(DELIVERED_BODY);
+    for (count, bytes) in delivered.iter_mut().zip(counts) {
+        *count = u32_at(bytes, 0);
+    }
     Ok(Counters {
         last: u32_at(body, 0),
         booked: u32_at(body, 4),
-        delivered: u32_at(body, 8),
+        delivered,
     })
 }
 

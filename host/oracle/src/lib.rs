@@ -24,6 +24,6 @@ pub use grid::{Grid, Side, Spot};
 pub use image::{load, write, LONGEST_IMAGE};
 pub use round::round;
 pub use types::{
-    Answer, Canister, Counters, Floor, Reading, Report, RoundAnswer, Settings, Tile, WriteAnswer,
-    MAX_TILES, NONE, NO_SIDE, PLACES,
+    only, Answer, Canister, Counters, Delivery, Floor, Reading, Report, RoundAnswer, Settings,
+    Tile, WriteAnswer, MAX_HOPPERS, MAX_TILES, NONE, NO_SIDE, PLACES,
 };

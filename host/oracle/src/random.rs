@@ -2,7 +2,9 @@
 
 use crate::grid::{Grid, Side, Spot};
 use crate::refusal;
-use crate::types::{Canister, Counters, Floor, Settings, Tile, MAX_TILES, NONE, NO_SIDE, PLACES};
+use crate::types::{
+    Canister, Counters, Floor, Settings, Tile, MAX_HOPPERS, MAX_TILES, NONE, NO_SIDE, PLACES,
+};
 use crate::{check, settings_refusal};
 
 mod calls;
@@ -71,25 +73,46 @@ impl Rng {
 /// Settings that pass 1 to 3, ordinary and extreme.
 pub fn settings(rng: &mut Rng) -> Settings {
     let (columns, rows) = grid(rng);
-    let tiles = u64::from(columns) * u64::from(rows);
-    let hopper = rng.below(tiles) as u8;
-    let others = (u64::MAX >> (MAX_TILES as u64 - tiles)) & !(1 << hopper);
+    let (width, length, gap, travel) = measures(rng);
+    let bare = Settings {
+        columns,
+        rows,
+        hoppers: 0,
+        sources: 0,
+        width,
+        length,
+        gap,
+        travel,
+    };
+    let count = rng.pick(&[1, 1, 1, 2, 2, 3, 4]);
+    let hoppers = hoppers(rng, &bare, count);
+    let others = bare.all_tiles() & !hoppers;
     let sources = match rng.below(8) {
         0 => 0,
         1..=4 => others,
         _ => rng.draw() & others,
     };
-    let (width, length, gap, travel) = measures(rng);
     Settings {
-        columns,
-        rows,
-        hopper,
+        hoppers,
         sources,
-        width,
-        length,
-        gap,
-        travel,
+        ..bare
     }
+}
+
+/// A set of so many tiles, or of all where the floor has fewer. The next one
+/// is anywhere, or as often beside the last.
+pub fn hoppers(rng: &mut Rng, settings: &Settings, count: u32) -> u64 {
+    let tiles = settings.tile_count() as u64;
+    let mut set = 0u64;
+    let mut last = rng.below(tiles);
+    while set.count_ones() < count.min(tiles as u32) {
+        set |= 1 << last;
+        last = match rng.chance(1, 2) {
+            true => rng.below(tiles),
+            false => (last + rng.pick(&[1, u64::from(settings.rows)])) % tiles,
+        };
+    }
+    set
 }
 
 fn grid(rng: &mut Rng) -> (u8, u8) {
@@ -185,11 +208,11 @@ pub fn floor_with(rng: &mut Rng, settings: Settings) -> Floor {
     };
     let stops = rng.pick(&[0, 0, 1, 2, 5, 8]);
     let fill = rng.pick(&[0, 1, 3, 6, 10]);
-    let hopper = usize::from(settings.hopper);
     for spot in Grid::of(&settings).spots() {
-        let running = spot.tile == hopper || !rng.chance(stops, 10);
+        let hopper = settings.is_hopper(spot.tile);
+        let running = hopper || !rng.chance(stops, 10);
         floor.tiles[spot.tile] = tile(rng, &settings, spot, running);
-        if spot.tile != hopper && rng.chance(fill, 10) {
+        if !hopper && rng.chance(fill, 10) {
             place_canisters(rng, &mut floor, spot.tile);
         }
     }
@@ -198,7 +221,7 @@ pub fn floor_with(rng: &mut Rng, settings: Settings) -> Floor {
 }
 
 fn tile(rng: &mut Rng, settings: &Settings, spot: Spot, running: bool) -> Tile {
-    let distance = match spot.tile == usize::from(settings.hopper) {
+    let distance = match settings.is_hopper(spot.tile) {
         true => 0,
         false if !running || rng.chance(1, 5) => NONE,
         false => rng.range(1, settings.tile_count() as u64 - 1) as u8,
@@ -334,7 +357,7 @@ fn number_canisters(rng: &mut Rng, floor: &mut Floor) {
         }
         members.sort_unstable_by_key(|canister| canister.number);
     }
-    floor.counters = counters(rng, held as u32, most);
+    floor.counters = counters(rng, held as u32, most, floor.settings.hopper_count());
 }
 
 /// Fills in rising numbers above 0 and gives the greatest, or 0.
@@ -356,20 +379,36 @@ fn draw_numbers(rng: &mut Rng, numbers: &mut [u32]) -> u32 {
     numbers.last().copied().unwrap_or(0)
 }
 
-fn counters(rng: &mut Rng, held: u32, most: u32) -> Counters {
+fn counters(rng: &mut Rng, held: u32, most: u32, hoppers: usize) -> Counters {
     let last = match rng.below(8) {
         0..=3 => most,
         4..=6 => most + rng.u32(0, 50.min(u32::MAX - most)),
         _ => rng.u32(most, u32::MAX),
     };
-    let delivered = match rng.below(4) {
+    let gone = match rng.below(4) {
         0 => 0,
         1 => last - held,
         _ => rng.u32(0, last - held),
     };
     Counters {
         last,
-        booked: delivered + held,
-        delivered,
+        booked: gone + held,
+        delivered: parts(rng, gone, hoppers),
     }
+}
+
+/// A number in so many parts, one to four, then zeros.
+pub fn parts(rng: &mut Rng, whole: u32, count: usize) -> [u32; MAX_HOPPERS] {
+    let mut parts = [0; MAX_HOPPERS];
+    let mut left = whole;
+    for part in &mut parts[1..count] {
+        *part = match rng.below(4) {
+            0 => 0,
+            1 => left,
+            _ => rng.u32(0, left),
+        };
+        left -= *part;
+    }
+    parts[0] = left;
+    parts
 }

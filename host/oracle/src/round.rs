@@ -29,10 +29,9 @@ pub fn round(floor: &Floor) -> RoundAnswer {
 /// New distances and arrows, all from the old ones.
 pub(crate) fn route(floor: &Floor) -> [Tile; MAX_TILES] {
     let grid = Grid::of(&floor.settings);
-    let hopper = usize::from(floor.settings.hopper);
     let mut tiles = floor.tiles;
     for spot in grid.spots() {
-        if spot.tile != hopper && floor.tiles[spot.tile].running == 1 {
+        if !floor.settings.is_hopper(spot.tile) && floor.tiles[spot.tile].running == 1 {
             let old = match faults::on(Fault::RouteInPlace) {
                 true => &tiles,
                 false => &floor.tiles,
@@ -95,8 +94,8 @@ fn signal(floor: &Floor, tiles: &mut [Tile; MAX_TILES]) -> [u8; MAX_TILES] {
             let (turn, grant) = decide(wants, tiles[spot.tile].token, |side| {
                 has_gap(&floor.settings, floor.members(spot.tile), side)
             });
-            let dropped = faults::on(Fault::HopperTurnDropped)
-                && spot.tile == usize::from(floor.settings.hopper);
+            let dropped =
+                faults::on(Fault::HopperTurnDropped) && floor.settings.is_hopper(spot.tile);
             tiles[spot.tile].token = if dropped { NO_SIDE } else { turn };
             grants[spot.tile] = grant;
         }
@@ -165,7 +164,6 @@ fn has_gap(settings: &Settings, members: &[Canister], side: Side) -> bool {
 /// Moves every canister from the old floor onto a new one.
 fn shift(old: &Floor, tiles: &[Tile; MAX_TILES], grants: &[u8; MAX_TILES]) -> (Floor, Report) {
     let grid = Grid::of(&old.settings);
-    let hopper = usize::from(old.settings.hopper);
     let mut report = Report {
         grants: *grants,
         ..Report::ZERO
@@ -186,10 +184,9 @@ fn shift(old: &Floor, tiles: &[Tile; MAX_TILES], grants: &[u8; MAX_TILES]) -> (F
                 },
                 None => (spot.tile, *canister),
             };
-            if place == hopper {
-                deliver(&mut floor, &mut report, moved.number);
-            } else {
-                floor.insert(place, moved);
+            match old.settings.rank(place) {
+                Some(rank) => deliver(&mut floor, &mut report, rank, moved.number),
+                None => floor.insert(place, moved),
             }
         }
     }
@@ -249,9 +246,19 @@ fn backward(settings: &Settings, along: u16) -> (u16, bool) {
     }
 }
 
-/// Numbers come in rising order, since one tile at most moves into the hopper.
-fn deliver(floor: &mut Floor, report: &mut Report, number: u32) {
-    report.delivered[usize::from(report.count)] = number;
-    report.count += 1;
-    floor.counters.delivered += 1 + u32::from(faults::on(Fault::DeliveredTwice));
+/// Numbers come in rising order, since one tile at most moves into a hopper.
+fn deliver(floor: &mut Floor, report: &mut Report, rank: usize, number: u32) {
+    if rank > 0 && faults::on(Fault::OnlyLowest) {
+        return;
+    }
+    let delivery = &mut report.deliveries[rank];
+    delivery.numbers[usize::from(delivery.count)] = number;
+    delivery.count += 1;
+    let counted = match rank {
+        0 | 1 if faults::on(Fault::CountersSwapped) && floor.settings.hopper_count() > 1 => {
+            1 - rank
+        }
+        _ => rank,
+    };
+    floor.counters.delivered[counted] += 1 + u32::from(faults::on(Fault::DeliveredTwice));
 }

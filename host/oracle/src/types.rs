@@ -5,6 +5,8 @@ use crate::refusal;
 
 /// Most tiles a floor can have.
 pub const MAX_TILES: usize = 64;
+/// Most hoppers a floor can have.
+pub const MAX_HOPPERS: usize = 4;
 /// Canister places of one tile.
 pub const PLACES: usize = 16;
 /// The distance "none".
@@ -25,7 +27,7 @@ pub struct Canister {
 pub struct Tile {
     /// 1 running, 0 stopped.
     pub running: u8,
-    /// Hops to the hopper, 255 for none.
+    /// Hops to the nearest hopper, 255 for none.
     pub distance: u8,
     /// The paper's arrow.
     pub next: u8,
@@ -42,7 +44,8 @@ pub struct Settings {
     pub columns: u8,
     /// H.
     pub rows: u8,
-    pub hopper: u8,
+    /// The hopper set.
+    pub hoppers: u64,
     /// The fill set.
     pub sources: u64,
     /// U, side of a tile.
@@ -60,7 +63,8 @@ pub struct Settings {
 pub struct Counters {
     pub last: u32,
     pub booked: u32,
-    pub delivered: u32,
+    /// One for each hopper in tile order, then zeros.
+    pub delivered: [u32; MAX_HOPPERS],
 }
 
 /// Canisters of tile t are at places 16 t up to 16 t + count.
@@ -73,14 +77,22 @@ pub struct Floor {
     pub canisters: [Canister; MAX_TILES * PLACES],
 }
 
+/// What one hopper took in.
+#[repr(C)]
+#[derive(Clone, Copy, PartialEq, Eq, Debug)]
+pub struct Delivery {
+    /// Rising, then zeros.
+    pub numbers: [u32; 4],
+    pub count: u8,
+}
+
 #[repr(C)]
 #[derive(Clone, Copy, PartialEq, Eq, Debug)]
 pub struct Report {
     /// The side each tile granted, 0 for none.
     pub grants: [u8; MAX_TILES],
-    /// How many numbers were delivered.
-    pub count: u8,
-    pub delivered: [u32; 4],
+    /// One for each hopper in tile order, then zeros.
+    pub deliveries: [Delivery; MAX_HOPPERS],
 }
 
 #[repr(C)]
@@ -150,7 +162,7 @@ impl Settings {
     pub const ZERO: Settings = Settings {
         columns: 0,
         rows: 0,
-        hopper: 0,
+        hoppers: 0,
         sources: 0,
         width: 0,
         length: 0,
@@ -177,16 +189,55 @@ impl Settings {
     }
 
     pub fn is_source(&self, tile: usize) -> bool {
-        tile < MAX_TILES && self.sources >> tile & 1 == 1
+        holds(self.sources, tile)
     }
+
+    pub fn is_hopper(&self, tile: usize) -> bool {
+        holds(self.hoppers, tile)
+    }
+
+    pub fn hopper_count(&self) -> usize {
+        self.hoppers.count_ones() as usize
+    }
+
+    /// The hoppers in tile order, those off the floor too.
+    pub fn hopper_tiles(self) -> impl Iterator<Item = usize> {
+        (0..MAX_TILES).filter(move |tile| self.is_hopper(*tile))
+    }
+
+    /// A hopper's place among the hoppers.
+    pub fn rank(&self, tile: usize) -> Option<usize> {
+        let lower = |tile: usize| self.hoppers & ((1 << tile) - 1);
+        self.is_hopper(tile)
+            .then(|| lower(tile).count_ones() as usize)
+    }
+
+    /// The floor's tiles as a set; C is 1 to 64.
+    pub fn all_tiles(&self) -> u64 {
+        u64::MAX >> (MAX_TILES - self.tile_count())
+    }
+}
+
+/// The set of one tile; empty for a number that no floor has.
+pub fn only(tile: u8) -> u64 {
+    1u64.checked_shl(tile.into()).unwrap_or(0)
+}
+
+fn holds(set: u64, tile: usize) -> bool {
+    tile < MAX_TILES && set >> tile & 1 == 1
 }
 
 impl Counters {
     pub const ZERO: Counters = Counters {
         last: 0,
         booked: 0,
-        delivered: 0,
+        delivered: [0; MAX_HOPPERS],
     };
+
+    /// Deliveries over all hoppers.
+    pub fn delivered_in_all(&self) -> u64 {
+        self.delivered.iter().map(|count| u64::from(*count)).sum()
+    }
 }
 
 impl Floor {
@@ -222,15 +273,28 @@ impl Floor {
     }
 }
 
+impl Delivery {
+    pub const ZERO: Delivery = Delivery {
+        numbers: [0; 4],
+        count: 0,
+    };
+}
+
 impl Report {
     pub const ZERO: Report = Report {
         grants: [NO_SIDE; MAX_TILES],
-        count: 0,
-        delivered: [0; 4],
+        deliveries: [Delivery::ZERO; MAX_HOPPERS],
     };
 
-    pub fn delivered(&self) -> &[u32] {
-        &self.delivered[..usize::from(self.count).min(4)]
+    /// The numbers delivered at the hopper of a rank.
+    pub fn at(&self, rank: usize) -> &[u32] {
+        let delivery = &self.deliveries[rank];
+        &delivery.numbers[..usize::from(delivery.count).min(4)]
+    }
+
+    /// The numbers delivered at any hopper, hopper by hopper.
+    pub fn delivered(&self) -> impl Iterator<Item = u32> + '_ {
+        (0..MAX_HOPPERS).flat_map(|rank| self.at(rank)).copied()
     }
 }
 

@@ -35,7 +35,7 @@ pub fn refused_call(rng: &mut Rng, floor: &Floor) -> Call {
         0 => Call::Stop { tile: outside },
         1 => Call::Repair { tile: outside },
         2 => Call::Stop {
-            tile: floor.settings.hopper.into(),
+            tile: any_hopper(rng, floor),
         },
         _ => Call::Book {
             tile: booking_tile(rng, floor),
@@ -45,6 +45,13 @@ pub fn refused_call(rng: &mut Rng, floor: &Floor) -> Call {
             },
         },
     }
+}
+
+/// One of the hoppers, of which there is one at least.
+fn any_hopper(rng: &mut Rng, floor: &Floor) -> u32 {
+    let rank = rng.below(floor.settings.hopper_count() as u64) as usize;
+    let tile = floor.settings.hopper_tiles().nth(rank);
+    tile.map_or(0, |tile| tile as u32)
 }
 
 /// Any tile number, on the floor or not.

@@ -12,7 +12,7 @@ pub fn garbage_floor(rng: &mut Rng) -> Floor {
     floor.counters = Counters {
         last: rng.draw() as u32,
         booked: rng.draw() as u32,
-        delivered: rng.draw() as u32,
+        delivered: [0; MAX_HOPPERS].map(|_| rng.draw() as u32),
     };
     for tile in &mut floor.tiles {
         *tile = garbage_tile(rng);
@@ -31,7 +31,7 @@ fn garbage_settings(rng: &mut Rng) -> Settings {
     Settings {
         columns: rng.draw() as u8,
         rows: rng.draw() as u8,
-        hopper: rng.draw() as u8,
+        hoppers: rng.draw(),
         sources: rng.draw(),
         width: rng.draw() as u16,
         length: rng.draw() as u16,
@@ -85,8 +85,8 @@ pub(super) fn spoil_settings(rng: &mut Rng, settings: &mut Settings) {
     match rng.below(12) {
         0 => settings.columns = byte,
         1 => settings.rows = byte,
-        2 => settings.hopper = byte,
-        3 => settings.sources ^= 1 << rng.below(64),
+        2 => spoil_hoppers(rng, settings),
+        3 => spoil_sources(rng, settings),
         4 => settings.width = any,
         5 => settings.length = any,
         6 => settings.gap = any,
@@ -98,15 +98,37 @@ pub(super) fn spoil_settings(rng: &mut Rng, settings: &mut Settings) {
     }
 }
 
+/// One hopper more or less, none, another one alone, or any.
+fn spoil_hoppers(rng: &mut Rng, settings: &mut Settings) {
+    let bit = 1 << rng.below(64);
+    match rng.below(6) {
+        0 | 1 => settings.hoppers ^= bit,
+        2 => settings.hoppers &= settings.hoppers.wrapping_sub(1),
+        3 => settings.hoppers |= rng.draw() & rng.draw() & rng.draw(),
+        4 => settings.hoppers = bit,
+        _ => settings.hoppers = 0,
+    }
+}
+
+/// One fill tile more or less, or all hoppers but the lowest among them.
+fn spoil_sources(rng: &mut Rng, settings: &mut Settings) {
+    match rng.chance(1, 3) {
+        true => settings.sources |= settings.hoppers & settings.hoppers.wrapping_sub(1),
+        false => settings.sources ^= 1 << rng.below(64),
+    }
+}
+
 fn spoil_counters(rng: &mut Rng, counters: &mut Counters) {
     let change = rng.pick(&[1, u32::MAX, 0x8000_0000]);
-    match rng.below(4) {
+    let delivered = &mut counters.delivered[rng.below(MAX_HOPPERS as u64) as usize];
+    match rng.below(5) {
         0 => counters.last = counters.last.wrapping_add(change),
         1 => counters.booked = counters.booked.wrapping_add(change),
-        2 => counters.delivered = counters.delivered.wrapping_add(change),
+        2 => *delivered = delivered.wrapping_add(change),
+        3 => counters.delivered.rotate_right(1),
         _ => {
             counters.booked = counters.booked.wrapping_add(change);
-            counters.delivered = counters.delivered.wrapping_add(change);
+            *delivered = delivered.wrapping_add(change);
         }
     }
 }

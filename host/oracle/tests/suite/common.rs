@@ -1,22 +1,42 @@
 //! Short ways to make floors and to work on them.
 
 use oracle::{
-    book, fresh, load, repair, round, stop, well_formed, write, Canister, Floor, RoundAnswer,
-    Settings, LONGEST_IMAGE,
+    book, fresh, load, repair, round, stop, well_formed, write, Canister, Counters, Floor,
+    RoundAnswer, Settings, LONGEST_IMAGE,
 };
 
 /// The settings of the trials: every tile but the hopper a fill tile.
 pub fn plain(columns: u8, rows: u8, hopper: u8) -> Settings {
+    with_hoppers(columns, rows, &[hopper])
+}
+
+/// The same with several hoppers.
+pub fn with_hoppers(columns: u8, rows: u8, hoppers: &[u8]) -> Settings {
     let tiles = u32::from(columns) * u32::from(rows);
+    let hoppers = set(hoppers);
     Settings {
         columns,
         rows,
-        hopper,
-        sources: (u64::MAX >> (64 - tiles)) & !(1 << hopper),
+        hoppers,
+        sources: (u64::MAX >> (64 - tiles)) & !hoppers,
         width: 100,
         length: 30,
         gap: 10,
         travel: 20,
+    }
+}
+
+/// A set of tiles.
+pub fn set(tiles: &[u8]) -> u64 {
+    tiles.iter().map(|tile| 1 << tile).sum()
+}
+
+/// Counters of a floor with one hopper.
+pub fn counters(last: u32, booked: u32, delivered: u32) -> Counters {
+    Counters {
+        last,
+        booked,
+        delivered: [delivered, 0, 0, 0],
     }
 }
 

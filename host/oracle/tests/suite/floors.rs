@@ -22,7 +22,13 @@ const BROKEN: &[(&str, Change)] = &[
     ("other W", |f| f.settings.columns = 4),
     ("lesser W", |f| f.settings.columns = 2),
     ("H 255", |f| f.settings.rows = 255),
-    ("hopper beyond", |f| f.settings.hopper = 6),
+    ("hopper beyond", |f| f.settings.hoppers = 1 << 6),
+    ("another hopper", |f| f.settings.hoppers |= 1 << 3),
+    ("no hopper", |f| f.settings.hoppers = 0),
+    ("counter of no hopper", |f| {
+        f.counters.delivered[1] = 1;
+        f.counters.booked += 1;
+    }),
     ("fill beyond", |f| f.settings.sources |= 1 << 6),
     ("fill of hopper", |f| f.settings.sources |= 1 << 5),
     ("v 30", |f| f.settings.travel = 30),
@@ -35,7 +41,7 @@ const BROKEN: &[(&str, Change)] = &[
     ("hopper canister", |f| {
         f.tiles[5].count = 1;
         f.canisters[80] = canister(1, 0, 0);
-        f.counters.delivered = 0;
+        f.counters.delivered[0] = 0;
         f.counters.booked = 4;
     }),
     ("hopper leftover", |f| f.canisters[80].b = 1),
@@ -79,14 +85,14 @@ const BROKEN: &[(&str, Change)] = &[
     ("above last", |f| f.canisters[32].number = 7),
     ("last below", |f| f.counters.last = 5),
     ("booked above", |f| f.counters.booked += 1),
-    ("delivered above", |f| f.counters.delivered += 1),
+    ("delivered above", |f| f.counters.delivered[0] += 1),
     ("sum wraps", |f| {
-        f.counters.delivered = u32::MAX;
+        f.counters.delivered[0] = u32::MAX;
         f.counters.booked = 2;
     }),
     ("booked above last", |f| {
         f.counters.booked = 7;
-        f.counters.delivered = 4;
+        f.counters.delivered[0] = 4;
     }),
     ("unused place number", |f| f.canisters[2].number = 9),
     ("unused place a", |f| f.canisters[15].a = 1),
@@ -124,7 +130,7 @@ fn these_are_allowed() {
         ("greatest counters", |f| {
             f.counters.last = u32::MAX;
             f.counters.booked = u32::MAX;
-            f.counters.delivered = u32::MAX - 3;
+            f.counters.delivered[0] = u32::MAX - 3;
         }),
         ("canister on a stopped tile", |f| {
             f.tiles[2] = Tile {

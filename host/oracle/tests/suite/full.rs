@@ -6,7 +6,7 @@ fn filled() -> Floor {
     let settings = Settings {
         columns: 8,
         rows: 8,
-        hopper: 27,
+        hoppers: 1 << 27,
         sources: !(1 << 27),
         width: 100,
         length: 10,
@@ -34,8 +34,8 @@ fn the_full_floor_empties_as_stored() {
     while reported < 1008 && rounds < 60_000 {
         let answer = round(&floor);
         assert_eq!(answer.refusal, 0);
-        reported += u32::from(answer.report.count);
-        sum += answer.report.delivered.iter().sum::<u32>();
+        reported += answer.report.delivered().count();
+        sum += answer.report.delivered().sum::<u32>();
         rounds += 1;
         floor = answer.floor;
         if rounds == 100 {

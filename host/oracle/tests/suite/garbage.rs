@@ -84,9 +84,10 @@ fn one_byte_everywhere() {
         };
         floor.canisters = [canister; 1024];
         let s = &mut floor.settings;
-        (s.columns, s.rows, s.hopper) = (byte, byte, byte);
+        (s.columns, s.rows) = (byte, byte);
         (s.width, s.length, s.gap, s.travel) = (pair, pair, pair, pair);
-        s.sources = u64::from_le_bytes([byte; 8]);
+        s.hoppers = u64::from_le_bytes([byte; 8]);
+        s.sources = s.hoppers;
         let mut rng = Rng::new(byte.into());
         try_all(&mut rng, &floor, &mut buffer);
     }

@@ -12,7 +12,7 @@ struct Record {
     gone: BTreeSet<u32>,
     running: Vec<bool>,
     booked: u32,
-    delivered: u32,
+    delivered: [u32; 4],
 }
 
 impl Record {
@@ -42,10 +42,12 @@ impl Record {
             Call::Stop { tile } => self.running[tile as usize] = false,
             Call::Repair { tile } => self.running[tile as usize] = true,
             Call::Round => {
-                assert!(report.delivered().is_sorted_by(|x, y| x < y));
+                for rank in 0..4 {
+                    assert!(report.at(rank).is_sorted_by(|x, y| x < y));
+                    self.delivered[rank] += report.at(rank).len() as u32;
+                }
                 for number in report.delivered() {
-                    assert!(self.gone.insert(*number));
-                    self.delivered += 1;
+                    assert!(self.gone.insert(number));
                 }
                 check_report(floor, &after, &report);
             }
@@ -120,17 +122,19 @@ fn check_report(before: &Floor, after: &Floor, report: &Report) {
     assert!(report.grants[before.settings.tile_count()..]
         .iter()
         .all(|grant| *grant == 0));
-    assert_eq!(
-        report.delivered[report.delivered().len()..],
-        [0; 4][report.delivered().len()..]
-    );
+    for (rank, delivery) in report.deliveries.iter().enumerate() {
+        let count = report.at(rank).len();
+        assert_eq!(usize::from(delivery.count), count);
+        assert_eq!(delivery.numbers[count..], [0; 4][count..]);
+        assert!(count == 0 || rank < before.settings.hopper_count());
+    }
 }
 
-/// Tiles with a live path to the hopper.
+/// Tiles with a live path to a hopper.
 fn live(floor: &Floor) -> Vec<bool> {
     let spots: Vec<_> = Grid::of(&floor.settings).spots().collect();
     let mut live = vec![false; spots.len()];
-    let mut open = vec![usize::from(floor.settings.hopper)];
+    let mut open: Vec<usize> = floor.settings.hopper_tiles().collect();
     while let Some(tile) = open.pop() {
         if !live[tile] && floor.tiles[tile].running == 1 {
             live[tile] = true;
@@ -252,8 +256,8 @@ fn small_floors_come_within_the_bound() {
         let mut rng = Rng::new(seed);
         let mut settings = random::settings(&mut rng);
         (settings.columns, settings.rows) = rng.pick(&[(2, 1), (1, 2), (3, 1), (2, 2), (1, 4)]);
-        let tiles = settings.tile_count() as u64;
-        settings.hopper = rng.below(tiles) as u8;
+        let hoppers = rng.pick(&[1, 1, 2, 3]);
+        settings.hoppers = random::hoppers(&mut rng, &settings, hoppers);
         settings.sources = 0;
         if rounds_across(&settings) > 60 {
             continue;

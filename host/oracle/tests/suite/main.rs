@@ -5,6 +5,8 @@ mod common;
 mod floors;
 mod full;
 mod garbage;
+mod hopper_images;
+mod hoppers;
 mod image;
 mod lists;
 mod naive;

@@ -33,9 +33,11 @@ fn settings_fit(floor: &Floor) -> bool {
     }
     let fill_fits = (0..64i64).all(|t| {
         let held = (s.sources >> t) & 1 == 1;
-        !held || (t < w * h && t != s.hopper as i64)
+        !held || (t < w * h && s.hoppers >> t & 1 == 0)
     });
-    (s.hopper as i64) < w * h
+    let hoppers: Vec<i64> = (0..64).filter(|t| s.hoppers >> t & 1 == 1).collect();
+    (1..=4).contains(&hoppers.len())
+        && hoppers.iter().all(|t| *t < w * h)
         && fill_fits
         && (2..=60_000).contains(&u)
         && v >= 1
@@ -64,7 +66,7 @@ fn tile_fits(floor: &Floor, tile: usize) -> bool {
     if t.running > 1 || t.count > 16 {
         return false;
     }
-    let hopper = tile == floor.settings.hopper as usize;
+    let hopper = floor.settings.hoppers >> tile & 1 == 1;
     if hopper && !(t.running == 1 && t.distance == 0 && t.next == 0 && t.count == 0) {
         return false;
     }
@@ -125,5 +127,16 @@ fn numbers_fit(floor: &Floor) -> bool {
         }
     }
     let c = &floor.counters;
-    c.booked as i64 == c.delivered as i64 + seen.len() as i64 && c.booked <= c.last
+    let mut hoppers = 0;
+    for tile in 0..tiles(floor) {
+        hoppers += (floor.settings.hoppers >> tile & 1) as usize;
+    }
+    let mut gone = 0;
+    for (rank, count) in c.delivered.iter().enumerate() {
+        if rank >= hoppers && *count != 0 {
+            return false;
+        }
+        gone += *count as i64;
+    }
+    c.booked as i64 == gone + seen.len() as i64 && c.booked <= c.last
 }

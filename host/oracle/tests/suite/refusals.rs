@@ -2,8 +2,8 @@
 
 use crate::common::*;
 use oracle::{
-    book, fresh, load, read, repair, round, settings_refusal, stop, write, Answer, Canister, Floor,
-    Report, Settings, Tile, PLACES,
+    book, fresh, load, only, read, repair, round, settings_refusal, stop, write, Answer, Canister,
+    Floor, Report, Settings, Tile, PLACES,
 };
 
 /// A refusal that gives the same floor back.
@@ -40,7 +40,7 @@ fn refusal_1() {
         let settings = Settings {
             columns,
             rows,
-            hopper: 0,
+            hoppers: 1,
             sources: 0,
             ..plain(2, 1, 0)
         };
@@ -52,7 +52,7 @@ fn refusal_1() {
 fn refusal_2() {
     let with = |hopper, sources| {
         fresh_refusal(Settings {
-            hopper,
+            hoppers: only(hopper),
             sources,
             ..plain(3, 2, 0)
         })
@@ -105,14 +105,14 @@ fn refusal_3() {
 fn fresh_order() {
     let bad = Settings {
         columns: 9,
-        hopper: 200,
+        hoppers: 0,
         travel: 0,
         ..plain(2, 1, 1)
     };
     assert_eq!(fresh_refusal(bad), 1);
     let bad = Settings { columns: 2, ..bad };
     assert_eq!(fresh_refusal(bad), 2);
-    let bad = Settings { hopper: 1, ..bad };
+    let bad = Settings { hoppers: 2, ..bad };
     assert_eq!(fresh_refusal(bad), 3);
     let good = Settings { travel: 1, ..bad };
     assert_eq!(fresh_refusal(good), 0);

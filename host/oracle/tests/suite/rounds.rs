@@ -27,12 +27,7 @@ fn a_fresh_floor() {
 #[test]
 fn booking_adds_one() {
     let floor = booked(&booked(&line(2, 1), 0, 9, 0, 0), 0, 12, 50, 50);
-    let expected = Counters {
-        last: 12,
-        booked: 2,
-        delivered: 0,
-    };
-    assert_eq!(floor.counters, expected);
+    assert_eq!(floor.counters, counters(12, 2, 0));
     assert_eq!(floor.members(0), [canister(9, 0, 0), canister(12, 50, 50)]);
 }
 
@@ -85,7 +80,7 @@ fn no_canister_travels_twice() {
         [canister(1, 0, 0), canister(2, 70, 40)]
     );
     assert_eq!(answer.floor.members(2), []);
-    assert_eq!(answer.report.delivered(), [3]);
+    assert_eq!(answer.report.at(0), [3]);
 }
 
 #[test]
@@ -125,7 +120,7 @@ fn no_crossing_at_the_very_edge() {
     let floor = booked(&line(2, 0), 1, 1, 20, 0);
     assert_eq!(after(&floor, 1).members(1), [canister(1, 0, 0)]);
     let floor = booked(&line(2, 0), 1, 1, 19, 0);
-    assert_eq!(turned(&floor).report.delivered(), [1]);
+    assert_eq!(turned(&floor).report.at(0), [1]);
 }
 
 #[test]
@@ -233,9 +228,9 @@ fn four_in_one_round() {
         floor = booked(&floor, 0, number, 75, b);
     }
     let answer = turned(&floor);
-    assert_eq!(answer.report.count, 4);
-    assert_eq!(answer.report.delivered, [3, 4, 8, 9]);
-    assert_eq!(answer.floor.counters.delivered, 4);
+    assert_eq!(answer.report.deliveries[0].count, 4);
+    assert_eq!(answer.report.deliveries[0].numbers, [3, 4, 8, 9]);
+    assert_eq!(answer.floor.counters, counters(9, 4, 4));
 }
 
 #[test]
@@ -248,7 +243,7 @@ fn the_greatest_measures() {
         ..plain(2, 1, 1)
     };
     let floor = booked(&made(settings), 0, 1, 1, 1);
-    assert_eq!(turned(&floor).report.delivered(), [1]);
+    assert_eq!(turned(&floor).report.at(0), [1]);
     let settings = Settings {
         width: 60_000,
         length: 20_000,
@@ -256,7 +251,7 @@ fn the_greatest_measures() {
         ..settings
     };
     let floor = booked(&made(settings), 0, 1, 40_000, 40_000);
-    assert_eq!(turned(&floor).report.delivered(), [1]);
+    assert_eq!(turned(&floor).report.at(0), [1]);
 }
 
 #[test]

@@ -12,17 +12,15 @@ fn walk_to_hopper(start: u16, stands: [u16; 3]) {
     let mut floor = booked(&line(2, 1), 0, 5, start, 0);
     for a in stands {
         let answer = turned(&floor);
-        assert_eq!(answer.report.delivered(), []);
+        assert_eq!(answer.report.at(0), []);
         assert_eq!(answer.report.grants[..2], [0, 1]);
         floor = answer.floor;
         assert_eq!(floor.members(0), [canister(5, a, 0)]);
     }
     let answer = turned(&floor);
-    assert_eq!(answer.report.delivered(), [5]);
-    assert_eq!(answer.report.delivered, [5, 0, 0, 0]);
-    assert_eq!(answer.floor.counters.last, 5);
-    assert_eq!(answer.floor.counters.booked, 1);
-    assert_eq!(answer.floor.counters.delivered, 1);
+    assert_eq!(answer.report.at(0), [5]);
+    assert_eq!(answer.report.deliveries[0].numbers, [5, 0, 0, 0]);
+    assert_eq!(answer.floor.counters, counters(5, 1, 1));
     assert_eq!(answer.floor.members(0), []);
 }
 
