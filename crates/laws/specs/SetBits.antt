@@ -1,17 +1,16 @@
 -- The numbers of a set of bits in rising order, and lists joined over them.
 use mathlib.Core.Path.{_≡_, refl, sym, ap, _∙_, subst}
-use mathlib.Core.Logic.{_⊎_, inl, inr}
 use mathlib.Core.Bool.{Bool, true, false, cond, not, _||_, _&&_, true≢false}
-use mathlib.Core.List.{List, [], _∷_, _++_, map, append-nil, append-assoc, List·Memᴰ}
-use mathlib.Core.List.{List·Permᴰ, List·Permᴰ·nil, List·Permᴰ·trans, Permᴰ·refl, Permᴰ·symm, Permᴰ·append-left, Permᴰ·append-right}
-use Prim.Native.Nat.{ℕ, zero, suc, _+_, _-_, _*_, _/_, _%_, _^_, _≤_, _<_}
+use mathlib.Core.List.{List, [], _∷_, _++_, map, append-nil, append-assoc}
+use mathlib.Core.List.{List·Permᴰ, List·Permᴰ·nil, List·Permᴰ·trans, Permᴰ·refl, Permᴰ·append-left, Permᴰ·append-right}
+use Prim.Native.Nat.{ℕ, zero, suc, _+_, _-_, _/_, _%_, _^_, _≤_, _<_}
 use native.Mathlib.Nat.{div-eq-of-lt, lt-of-lt-of-le, lt-of-le-of-lt, mod-lt, mod-eq-of-lt}
 use native.Mathlib.Numerals.{add-one}
 use native.Mathlib.Omega.{arith}
 use native.Mathlib.Decide.{ℕ-discrete, decLe}
 use lib.Dec.{eqb, lit<}
 use lib.Pow.{pow-pos, pow-mono, mod-pow-add}
-use lib.Bits.{bitAnd, and-shr, and-mod, and-le-l}
+use lib.Bits.{bitAnd, bitXor, and-shr, and-mod, and-le-l, xor-shr, xor-mod}
 use lib.Count.{ones, ones-cat}
 use lib.ListN.{length, getD, length-append}
 use borrow.Author.Tests.{eq-eqb, ne-eqb}
@@ -197,6 +196,22 @@ both-bit x y k =
     (cases (x / 2 ^ k % 2) (y / 2 ^ k % 2) (mod-lt (x / 2 ^ k) (lit< tt)) (mod-lt (y / 2 ^ k) (lit< tt)))
   where
     cases : (a b : ℕ) → a < 2 → b < 2 → eqb (bitAnd a b) 1 ≡ (eqb a 1 && eqb b 1)
+    cases zero zero h l = refl
+    cases zero (suc zero) h l = refl
+    cases (suc zero) zero h l = refl
+    cases (suc zero) (suc zero) h l = refl
+    cases zero (suc (suc b)) h l = absurd (omega arith)
+    cases (suc zero) (suc (suc b)) h l = absurd (omega arith)
+    cases (suc (suc a)) b h l = absurd (omega arith)
+
+-- the numbers of one set that are not in the other
+pub minus-bit : (x y k : ℕ) → bit (bitXor x (bitAnd x y)) k ≡ (not (bit y k) && bit x k)
+unfolding bit
+minus-bit x y k =
+    rw (xor-shr x (bitAnd x y) k, xor-mod (x / 2 ^ k) (bitAnd x y / 2 ^ k) 1, and-shr x y k, and-mod (x / 2 ^ k) (y / 2 ^ k) 1)
+    (cases (x / 2 ^ k % 2) (y / 2 ^ k % 2) (mod-lt (x / 2 ^ k) (lit< tt)) (mod-lt (y / 2 ^ k) (lit< tt)))
+  where
+    cases : (a b : ℕ) → a < 2 → b < 2 → eqb (bitXor a (bitAnd a b)) 1 ≡ (not (eqb b 1) && eqb a 1)
     cases zero zero h l = refl
     cases zero (suc zero) h l = refl
     cases (suc zero) zero h l = refl

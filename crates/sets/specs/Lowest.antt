@@ -7,7 +7,7 @@ use native.Mathlib.Omega.{arith}
 use native.Mathlib.Nat.{mod-lt}
 use lib.Dec.{eqb, lit<}
 use lib.Pow.{shr-shr}
-use lib.ListN.{length, getD}
+use lib.ListN.{getD}
 use lib.Count.{under, trailingZeros}
 use Rattle.laws.specs.Define.{bit, bitsBelow}
 use Rattle.laws.specs.Lists.{map-append}

@@ -1,6 +1,6 @@
 // Sets of tiles as the bits of a word: tile t is in the set s where bit t of s is set.
 ghost use mathlib.Core.Path.{_≡_};
-ghost use mathlib.Core.Bool.{Bool, true, false, cond, _||_, _&&_, not};
+ghost use mathlib.Core.Bool.{true, false, cond, _||_, _&&_, not};
 ghost use Prim.Native.Nat.{ℕ, _-_, _≤_, _<_, _^_};
 ghost use lib.Dec.{eqb, ltb};
 ghost use lib.ListN.{length, getD};
@@ -74,6 +74,13 @@ pub fn meets(s: u64, other: u64) -> bool
     ensures { λ r. ⌜ r ≡ anyOf (bit other) (bitsBelow s 64) ⌝ }
 {
     s & other != 0
+}
+
+// The set without the tiles of the other.
+pub fn minus(s: u64, other: u64) -> u64
+    ensures { λ r. ⌜ ((k : ℕ) → bit r k ≡ (not (bit other k) && bit s k)) ⌝ }
+{
+    s ^ (s & other)
 }
 
 // The lowest tile of the set; 64 where it is empty.

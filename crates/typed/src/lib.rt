@@ -83,7 +83,7 @@ fn all_sources(s: Settings) -> u64 {
         return 0;
     }
     let all = sets::full(n as u8);
-    all ^ (all & s.hoppers)
+    sets::minus(all, s.hoppers)
 }
 
 // The settings that a `fresh` names by its hoppers and the numbers before and after its sets, without fill tiles.

@@ -1,6 +1,5 @@
 use mathlib.Core.Path.{sym}
-use Prim.Native.Nat.{_^_, _<_, _≤_}
-use native.Mathlib.Omega.{arith}
+use Prim.Native.Nat.{_^_, _<_}
 use Rattle.laws.specs.SetBits.{bit-off}
 use borrow.Author.Needs.{needs}
 use Rattle.sets.proofs.holds.Statement.{statement}
