@@ -15,8 +15,8 @@ use Rattle.floor.specs.Settings.{total, spacing, span, hoppersOf, settingsTests
 unfoldable pub sizesWrong : Settings → Bool
 sizesWrong s = ltb (s .columns) 1 || (ltb 8 (s .columns) || (ltb (s .rows) 1 || (ltb 8 (s .rows) || ltb (total s) 2)))
 
-unfoldable pub hopperWrong : Settings → Bool
-hopperWrong s =
+unfoldable pub setsWrong : Settings → Bool
+setsWrong s =
     leb (2 ^ total s) (s .hoppers)
     || (ltb (length (hoppersOf s)) 1 || (ltb 4 (length (hoppersOf s)) || (anyOf (bit (s .sources)) (hoppersOf s) || leb (2 ^ total s) (s .sources))))
 
@@ -44,8 +44,8 @@ or-assoc : (a b c : Bool) → ((a || b) || c) ≡ (a || (b || c))
 or-assoc true b c = refl
 or-assoc false b c = refl
 
-pub refusal-groups : (s : Settings) → settingsRefusal s ≡ cond (sizesWrong s) 1 (cond (hopperWrong s) 2 (cond (measuresWrong s) 3 0))
-unfolding settingsRefusal settingsTests refusal sizesWrong hopperWrong measuresWrong rulesWrong
+pub refusal-groups : (s : Settings) → settingsRefusal s ≡ cond (sizesWrong s) 1 (cond (setsWrong s) 2 (cond (measuresWrong s) 3 0))
+unfolding settingsRefusal settingsTests refusal sizesWrong setsWrong measuresWrong rulesWrong
 refusal-groups s = simp (pick-or, or-assoc) refl
 
 -- ---- what settings that pass the first group are like
@@ -77,13 +77,13 @@ not-ltb m n = go (ltb m n) refl
     go true e = sym (lt-leb n m (ltb-true m n e))
     go false e = sym (le-leb n m (ltb-false m n e))
 
-pub hopper-off : (s : Settings) → ltb (s .hoppers) (2 ^ total s) ≡ false → true ≡ hopperWrong s
-unfolding hopperWrong
-hopper-off s h = rw (le-leb (2 ^ total s) (s .hoppers) (ltb-false (s .hoppers) (2 ^ total s) h))
+pub hoppers-off : (s : Settings) → ltb (s .hoppers) (2 ^ total s) ≡ false → true ≡ setsWrong s
+unfolding setsWrong
+hoppers-off s h = rw (le-leb (2 ^ total s) (s .hoppers) (ltb-false (s .hoppers) (2 ^ total s) h))
 
-pub hopper-on : (s : Settings) {n : ℕ} {own on : Bool} → total s ≤ 64 → ltb (s .hoppers) (2 ^ total s) ≡ true → n ≡ length (bitsBelow (s .hoppers) 64) → own ≡ anyOf (bit (s .sources)) (bitsBelow (s .hoppers) 64)
-    → on ≡ ltb (s .sources) (2 ^ total s) → (ltb n 1 || (ltb 4 n || (own || not on))) ≡ hopperWrong s
-unfolding hopperWrong hoppersOf
-hopper-on s few h e p q =
+pub hoppers-on : (s : Settings) {n : ℕ} {own on : Bool} → total s ≤ 64 → ltb (s .hoppers) (2 ^ total s) ≡ true → n ≡ length (bitsBelow (s .hoppers) 64) → own ≡ anyOf (bit (s .sources)) (bitsBelow (s .hoppers) 64)
+    → on ≡ ltb (s .sources) (2 ^ total s) → (ltb n 1 || (ltb 4 n || (own || not on))) ≡ setsWrong s
+unfolding setsWrong hoppersOf
+hoppers-on s few h e p q =
     let l : s .hoppers < 2 ^ total s = ltb-true (s .hoppers) (2 ^ total s) h in
     rw (e, p, q, bits-within (s .hoppers) (total s) 64 few l, lt-leb (2 ^ total s) (s .hoppers) l, not-ltb (s .sources) (2 ^ total s))

@@ -3,7 +3,7 @@ ghost use mathlib.Core.Path.{_≡_};
 ghost use mathlib.Core.Bool.{false};
 ghost use Prim.Native.Nat.{_<_};
 ghost use Rattle.floor.specs.Settings.{total, settingsRefusal};
-ghost use Rattle.settings.specs.Groups.{sizesWrong, hopperWrong, rulesWrong, measuresWrong};
+ghost use Rattle.settings.specs.Groups.{sizesWrong, setsWrong, rulesWrong, measuresWrong};
 use floor::Settings;
 use sets::meets;
 use sets::size;
@@ -27,9 +27,9 @@ pub fn sizes_wrong(s: Settings) -> bool
 }
 
 // Refusal 2. The hoppers are counted only where all of them are on the floor.
-pub fn hopper_wrong(s: Settings) -> bool
+pub fn sets_wrong(s: Settings) -> bool
     requires { ⌜ sizesWrong s ≡ false ⌝ }
-    ensures { λ r. ⌜ r ≡ hopperWrong s ⌝ }
+    ensures { λ r. ⌜ r ≡ setsWrong s ⌝ }
 {
     let all = s.columns * s.rows;
     if !within(s.hoppers, all) {
@@ -69,7 +69,7 @@ pub fn settings_refusal(s: Settings) -> u8
     if sizes_wrong(s) {
         return 1;
     }
-    if hopper_wrong(s) {
+    if sets_wrong(s) {
         return 2;
     }
     if measures_wrong(s) {

@@ -1,12 +1,12 @@
 use mathlib.Core.Path.{_≡_, sym, _∙_}
 use mathlib.Core.Bool.{true, false}
-use Rattle.settings.specs.Groups.{sizesWrong, hopperWrong, measuresWrong, refusal-groups}
+use Rattle.settings.specs.Groups.{sizesWrong, setsWrong, measuresWrong, refusal-groups}
 use borrow.Author.Needs.{needs}
 use Rattle.settings.proofs.settings_refusal.Statement.{statement}
 use Rattle.settings.proofs.settings_refusal.Tie as tie
 use Rattle.settings.proofs.settings_refusal.Reads as reads
 use Rattle.settings.proofs.settings_refusal.Lts as lts
-use Rattle.settings.proofs.hopper_wrong.Reads as hopper-wrong-reads
+use Rattle.settings.proofs.sets_wrong.Reads as sets-wrong-reads
 use Rattle.settings.proofs.measures_wrong.Reads as measures-wrong-reads
 use Rattle.settings.proofs.sizes_wrong.Reads as sizes-wrong-reads
 
@@ -19,14 +19,14 @@ returns c =
     let e : sizesWrong s ≡ true = sym (c .before .sizes-wrong .ensures) ∙ c .if1 .taken in
     rw (refusal-groups s, e)
 
-hopper-wrong-requires : tie.Need-hopper-wrong-requires
-hopper-wrong-requires c κs = sym (c .before .sizes-wrong .ensures) ∙ c .if1 .left
+sets-wrong-requires : tie.Need-sets-wrong-requires
+sets-wrong-requires c κs = sym (c .before .sizes-wrong .ensures) ∙ c .if1 .left
 
 returns-2 : tie.Need-returns-2
 returns-2 c =
     let s = c .before .before .before .before .args .s in
     let e : sizesWrong s ≡ false = sym (c .before .before .before .sizes-wrong .ensures) ∙ c .before .before .if1 .left in
-    let q : hopperWrong s ≡ true = sym (c .before .hopper-wrong .ensures) ∙ c .if2 .taken in
+    let q : setsWrong s ≡ true = sym (c .before .sets-wrong .ensures) ∙ c .if2 .taken in
     rw (refusal-groups s, e, q)
 
 measures-wrong-requires : tie.Need-measures-wrong-requires
@@ -36,7 +36,7 @@ returns-3 : tie.Need-returns-3
 returns-3 c =
     let s = c .before .before .before .before .before .before .args .s in
     let e : sizesWrong s ≡ false = sym (c .before .before .before .before .before .sizes-wrong .ensures) ∙ c .before .before .before .before .if1 .left in
-    let q : hopperWrong s ≡ false = sym (c .before .before .before .hopper-wrong .ensures) ∙ c .before .before .if2 .left in
+    let q : setsWrong s ≡ false = sym (c .before .before .before .sets-wrong .ensures) ∙ c .before .before .if2 .left in
     let r : measuresWrong s ≡ true = sym (c .before .measures-wrong .ensures) ∙ c .if3 .taken in
     rw (refusal-groups s, e, q, r)
 
@@ -44,7 +44,7 @@ returns-4 : tie.Need-returns-4
 returns-4 c =
     let s = c .before .before .before .before .before .before .args .s in
     let e : sizesWrong s ≡ false = sym (c .before .before .before .before .before .sizes-wrong .ensures) ∙ c .before .before .before .before .if1 .left in
-    let q : hopperWrong s ≡ false = sym (c .before .before .before .hopper-wrong .ensures) ∙ c .before .before .if2 .left in
+    let q : setsWrong s ≡ false = sym (c .before .before .before .sets-wrong .ensures) ∙ c .before .before .if2 .left in
     let r : measuresWrong s ≡ false = sym (c .before .measures-wrong .ensures) ∙ c .if3 .left in
     rw (refusal-groups s, e, q, r)
 
@@ -54,7 +54,7 @@ settings-refusal-spec =
     (tie.spec
     sizes-wrong-requires
     returns
-    hopper-wrong-requires
+    sets-wrong-requires
     returns-2
     measures-wrong-requires
     returns-3

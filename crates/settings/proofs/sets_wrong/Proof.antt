@@ -2,12 +2,12 @@ use borrow.Author.Tests.{not-true, not-false}
 use mathlib.Core.Path.{sym, _∙_}
 use native.Mathlib.Nat.{lt-of-le-of-lt}
 use lib.Dec.{lit<}
-use Rattle.settings.specs.Groups.{few-tiles, hopper-off, hopper-on}
+use Rattle.settings.specs.Groups.{few-tiles, hoppers-off, hoppers-on}
 use borrow.Author.Needs.{needs}
-use Rattle.settings.proofs.hopper_wrong.Statement.{statement}
-use Rattle.settings.proofs.hopper_wrong.Tie as tie
-use Rattle.settings.proofs.hopper_wrong.Reads as reads
-use Rattle.settings.proofs.hopper_wrong.Lts as lts
+use Rattle.settings.proofs.sets_wrong.Statement.{statement}
+use Rattle.settings.proofs.sets_wrong.Tie as tie
+use Rattle.settings.proofs.sets_wrong.Reads as reads
+use Rattle.settings.proofs.sets_wrong.Lts as lts
 use Rattle.sets.proofs.meets.Reads as meets-reads
 use Rattle.sets.proofs.size.Reads as size-reads
 use Rattle.sets.proofs.within.Reads as within-reads
@@ -19,7 +19,7 @@ within-requires : tie.Need-within-requires
 within-requires c κs = few-tiles (c .before .args .s) (c .before .pre)
 
 returns : tie.Need-returns
-returns c = hopper-off (c .before .before .before .args .s) (sym (c .before .within .ensures) ∙ not-true _ (c .if1 .taken))
+returns c = hoppers-off (c .before .before .before .args .s) (sym (c .before .within .ensures) ∙ not-true _ (c .if1 .taken))
 
 size-requires : tie.Need-size-requires
 size-requires c κs = search needs
@@ -33,10 +33,10 @@ within-requires-2 c κs = few-tiles (c .before .before .before .before .before .
 returns-2 : tie.Need-returns-2
 returns-2 c =
     let S = c .before .before .before .before .before .before in
-    hopper-on (S .args .s) (few-tiles (S .args .s) (S .pre)) (sym (c .before .before .before .before .within .ensures) ∙ not-false _ (c .before .before .before .if1 .left)) (c .before .before .size .ensures) (c .before .meets .ensures) (c .within2 .ensures)
+    hoppers-on (S .args .s) (few-tiles (S .args .s) (S .pre)) (sym (c .before .before .before .before .within .ensures) ∙ not-false _ (c .before .before .before .if1 .left)) (c .before .before .size .ensures) (c .before .meets .ensures) (c .within2 .ensures)
 
-pub hopper-wrong-spec : {M : Type 1} → statement M
-hopper-wrong-spec =
+pub sets-wrong-spec : {M : Type 1} → statement M
+sets-wrong-spec =
     tie.close
     (tie.spec
     mul-all
