@@ -10,7 +10,7 @@ use Rattle.floor.specs.declared.Settings.{Settings}
 use Rattle.floor.specs.declared.Tile.{Tile}
 use Rattle.floor.specs.Memory.{zeroFloor}
 use Rattle.floor.specs.Calls.{freshAnswer, bookAnswer, stopAnswer, readAnswer}
-use Rattle.floor.proofs.Calling.{got, several, can, book, stop, rounds, on, tile, distances, next, reportedTo, grant, counted, liveCount, refused, Table, holds}
+use Rattle.floor.proofs.Calling.{got, several, can, book, stop, rounds, tile, distances, next, reportedTo, grant, counted, liveCount, refused, Table, holds}
 
 -- W, H and the hoppers' set; every other tile a fill tile
 unfoldable with : ℕ → ℕ → ℕ → Floor

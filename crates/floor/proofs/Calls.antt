@@ -63,7 +63,7 @@ set-each l t x h P p q u = go (ℕ-discrete u t)
     go (no n) = rw (getD-set-other l t u x noTile n) (q u n)
 
 module _ (m : Model) (S : Sound m) (t : ℕ) (on : t < total (m .settings)) where
-  -- what one tile but the hopper must be like
+  -- what a tile that is no hopper must be like
   record Fine (x : TileState) : Type 0 where
     flag : (x .running ≡ 1) ⊎ (x .running ≡ 0)
     near : 1 ≤ x .distance

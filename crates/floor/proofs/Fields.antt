@@ -155,7 +155,7 @@ module _ (m : Model) (w : Whole m) where
       ap (λ (l : List Canister). membersNext (m .settings) t l (arrivals x g t)) (stays-are t)
       ∙ ap (λ (l : List Canister). membersNext (m .settings) t (stays m t) l) (comes-are t)
 
-  -- the hopper has no canisters, another tile of the floor those that stay and those that come
+  -- a hopper has no canisters, another tile of the floor those that stay and those that come
   round-at : (t : ℕ) → t < total (m .settings) → membersOf (afterRound m) t ≡ membersNext (m .settings) t (stays m t) (comes m t)
   unfolding afterRound move signal route
   round-at t h = ap (λ (y : TileState). y .members) (tab-at (total (m .settings)) (moveTile x g) t noTile h) ∙ moved-members t

@@ -1,5 +1,5 @@
 -- Demand 3 on concrete lists: its premises are met there, and what it promises of them is read off. Then what the words of later statements mean on such lists.
-use mathlib.Core.Path.{_≡_, refl, sym, ap, _∙_, subst}
+use mathlib.Core.Path.{_≡_, refl, sym, subst}
 use mathlib.Core.Logic.{_≢_}
 use mathlib.Core.Bool.{Bool, true, false, cond, not, _&&_, _||_, false≢true}
 use mathlib.Core.List.{List, [], _∷_, _++_, map, List·Memᴰ, List·Memᴰ·head, List·Memᴰ·tail}
@@ -8,7 +8,6 @@ use native.Mathlib.Omega.{arith}
 use lib.Dec.{leb, eqb}
 use lib.ListN.{length, take, replicate}
 use borrow.Author.Tests.{leb-true, eqb-false}
-use Rattle.laws.specs.Define.{allOf}
 use Rattle.laws.specs.Every.{All}
 use Rattle.laws.specs.Tests.{r-ne, and-left, and-right}
 use Rattle.floor.specs.declared.Canister.{Canister}
@@ -22,7 +21,7 @@ use Rattle.floor.specs.Calls.{freshAnswer}
 use Rattle.floor.specs.Bound.{bound}
 use Rattle.floor.specs.Live.{connected, connectedCount}
 use Rattle.floor.specs.Reports.{listedAt}
-use Rattle.floor.specs.Demand3.{Call, book, stop, repair, round, Typed, outcome, floorAfter, bookedIn, reportedIn, runsBy, latest, runsAfter, isRound, Quiet, roundsIn, Promises, Demand3}
+use Rattle.floor.specs.Demand3.{Call, book, stop, repair, round, Typed, outcome, floorAfter, bookedIn, reportedIn, runsBy, latest, runsAfter, isRound, Quiet, roundsIn}
 use Rattle.floor.specs.Together.{stops, repairs, Exchangeable, presses, booking, reportTo, saidIn, BothBooked}
 use Rattle.floor.specs.Fairness.{wants, Waiting, granted, grantsIn, Fair, grantCount, turnOf}
 use Rattle.floor.specs.Arrows.{beyond, FacesNearest, Chooses, Unpressed, Steady, Resting}

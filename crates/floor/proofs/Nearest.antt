@@ -226,7 +226,7 @@ module _ (s : Settings) (run : ℕ → Bool) (d a : ℕ → ℕ) where
   heading-routed : Routed (graphBy s run) d a (λ t. headingBy s run d a t .distance) (λ t. headingBy s run d a t .side)
   heading-routed = record { fixed = λ t h. (ap (λ (x : Heading). x .distance) (heading-fixed t h), ap (λ (x : Heading). x .side) (heading-fixed t h)); chosen = heading-choice }
 
-  -- a tile's heading with the present arrow x; c: it is the hopper or stopped
+  -- a tile's heading with the present arrow x; c: it is a hopper or stopped
   abbrev made : ℕ → Bool → ℕ → Heading
   made t c x = cond c (record { distance = d t; side = x }) (onward (total s) (taken (λ k. d (neighbour s k t)) x))
 

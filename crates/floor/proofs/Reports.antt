@@ -8,16 +8,13 @@ use lib.ListN.{length, getD, drop, replicate, List·getD-eq-default}
 use Rattle.laws.specs.Define.{tab, cat}
 use Rattle.laws.specs.Every.{All, Pairs}
 use Rattle.laws.specs.Tables.{tab-length}
-use Rattle.floor.specs.declared.Delivery.{Delivery}
-use Rattle.floor.specs.declared.Floor.{Floor}
 use Rattle.floor.specs.declared.Report.{Report}
 use Rattle.floor.specs.declared.Settings.{Settings}
 use Rattle.floor.specs.Settings.{hoppersOf}
 use Rattle.floor.specs.Model.{Model, numbersOn}
 use Rattle.floor.specs.Memory.{view}
-use Rattle.floor.specs.Well.{wellFormed}
-use Rattle.floor.specs.Calls.{afterRound, delivered, deliveryOf, noDelivery, reportOf, roundAnswer}
-use Rattle.floor.specs.Reports.{listed, Listing, Lists, Reports}
+use Rattle.floor.specs.Calls.{afterRound, delivered, deliveryOf, noDelivery, reportOf}
+use Rattle.floor.specs.Reports.{Listing, Lists, Reports}
 use Rattle.floor.proofs.Sound.{Sound}
 use Rattle.floor.proofs.Pack.{well-sound}
 use Rattle.floor.proofs.Rows.{view-settings}

@@ -209,7 +209,7 @@ module _ (g : Graph) where
       λ h. let k : d t ≤ g .size - 1 = I t (g .size - 1) (omega (arith, size-pos)) .1 h in omega (arith, size-pos),
     )
 
-    -- the hopper and stopped tiles: at any time
+    -- hoppers and stopped tiles: at any time
     hop-right : {d : ℕ → ℕ} → Formed d → (t j : ℕ) → g .hop t ≡ true → d t ≤ j ↔ reach j t ≡ true
     hop-right {d} F t j p = (λ _. reach-hop j t p, λ _. omega (arith, F .at-hop t p))
 
@@ -295,7 +295,7 @@ module _ (g : Graph) where
       pub right-stays : Right d → Right d′
       right-stays I t j c = right-next (g .size) (λ t j _ c. I t j c) t j (omega arith) c
 
-      -- ---- arrows, where the hopper and stopped tiles have none
+      -- ---- arrows, where hoppers and stopped tiles have none
       module _ (hop-none : (t : ℕ) → g .hop t ≡ true → a t ≡ 0) (stop-none : (t : ℕ) → g .run t ≡ false → a t ≡ 0) where
         pub arrow : (t : ℕ) → 0 < a′ t → Arrow d d′ a′ t
         arrow t h = go (kind t)

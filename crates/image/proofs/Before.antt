@@ -1,21 +1,20 @@
 -- "With one hopper, images keep their bytes": the image of document 01, what is written now, and what is read of it.
-use mathlib.Core.Path.{_≡_, refl, ap, _∙_, subst}
-use mathlib.Core.Bool.{true, false}
-use mathlib.Core.List.{List, [], _∷_, _++_, append-nil}
+use mathlib.Core.Path.{_≡_, subst}
+use mathlib.Core.Bool.{true}
+use mathlib.Core.List.{List, [], _∷_, _++_}
 use Prim.Native.Nat.{ℕ}
 use lib.ListN.{length, getD}
-use Rattle.laws.specs.Define.{tab, bitsBelow}
+use Rattle.laws.specs.Define.{tab}
 use Rattle.wire.specs.Bytes.{bytesOf}
 use Rattle.floor.specs.declared.Settings.{Settings}
 use Rattle.floor.specs.declared.Counters.{Counters}
 use Rattle.floor.specs.declared.Floor.{Floor}
-use Rattle.floor.specs.Settings.{total, hoppersOf}
 use Rattle.floor.specs.Model.{Model}
 use Rattle.floor.specs.Memory.{view}
 use Rattle.floor.specs.Well.{wellFormed}
-use Rattle.floor.proofs.Sound.{Measured, Sound}
+use Rattle.floor.proofs.Sound.{Measured}
 use Rattle.floor.proofs.Pack.{well-sound}
-use Rattle.image.specs.Image.{lowest, oneTile, several, hopperCount, recordOf, settingsBody, countersBody, tilesBytes, encode, loadAnswer}
+use Rattle.image.specs.Image.{oneTile, hopperCount, recordOf, settingsBody, countersBody, tilesBytes, encode, loadAnswer}
 use Rattle.image.proofs.Hoppers.{byte-again, not-several, one-counted}
 use Rattle.image.proofs.Promises.{written-loads}
 

@@ -1,16 +1,16 @@
 -- The hopper set of an image: one tile by its number, several as a set.
 use mathlib.Core.Path.{_≡_, refl, sym, ap, _∙_, subst}
-use mathlib.Core.Bool.{Bool, true, false, cond, not, _&&_, _||_}
-use mathlib.Core.List.{List, [], _∷_, _++_, map, append-nil}
+use mathlib.Core.Bool.{Bool, true, false, cond, _||_}
+use mathlib.Core.List.{List, [], _∷_, map}
 use Prim.Native.Nat.{ℕ, zero, suc, _+_, _*_, _/_, _%_, _^_, _≤_, _<_}
 use native.Mathlib.Omega.{arith}
 use native.Mathlib.Nat.{mod-eq-of-lt, mod-lt}
 use native.Mathlib.Decide.{decLe}
-use lib.Dec.{eqb, ltb, lit<}
-use lib.Pow.{pow-lt, pow-mono, pow-pos, mod-pow-add}
-use lib.Bits.{bitOr, or-zero-l}
+use lib.Dec.{eqb, lit<}
+use lib.Pow.{pow-lt, pow-mono, mod-pow-add}
+use lib.Bits.{or-zero-l}
 use lib.ListN.{length, getD}
-use borrow.Author.Tests.{eq-eqb, ne-eqb, lt-ltb, le-ltb, ltb-true, ltb-false}
+use borrow.Author.Tests.{eq-eqb, ne-eqb, lt-ltb, le-ltb, ltb-false}
 use Rattle.laws.specs.Define.{sum, bit, bitsBelow, refusal}
 use Rattle.laws.specs.Tests.{refusal-none, refusal-all-false}
 use Rattle.laws.specs.Every.{All}

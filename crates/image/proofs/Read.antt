@@ -14,7 +14,7 @@ use Rattle.floor.specs.Well.{sound, wellFormed}
 use Rattle.floor.proofs.Sound.{Measured}
 use Rattle.floor.proofs.Pack.{view-pack, fits-pack}
 use Rattle.image.specs.Image.{hopperCount, tileWidths, lengthIn, bodyIn, restIn, settingsIn, tileIn, tilesIn, modelIn, recordFault, tilesFault, fault}
-use Rattle.image.proofs.Records.{orElse-none, Whole, whole}
+use Rattle.image.proofs.Records.{orElse-none, whole}
 use Rattle.image.proofs.Again.{canisters-length, tile-good, settings-good}
 
 -- ---- the settings pass 1 to 3

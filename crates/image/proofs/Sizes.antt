@@ -15,7 +15,7 @@ use Rattle.floor.specs.declared.Settings.{Settings}
 use Rattle.floor.specs.declared.Counters.{Counters}
 use Rattle.floor.specs.Settings.{total, hoppersOf}
 use Rattle.floor.specs.Model.{TileState, Model, noTile}
-use Rattle.image.specs.Image.{settingsWidths, settingsValues, lowest, hopperCount, several, countersWidths, countersValues, tileWidths, tileValues, canisterWidths, canisterValues, settingsBody, countersBody, canistersBody, tileBody, tilesBytes, encode}
+use Rattle.image.specs.Image.{settingsWidths, lowest, hopperCount, several, countersWidths, countersValues, tileWidths, tileValues, canisterWidths, canisterValues, settingsBody, countersBody, canistersBody, tileBody, tilesBytes, encode}
 use Rattle.image.proofs.Records.{record-length}
 
 pub settings-size : (s : Settings) → length (settingsBody s) ≡ cond (several s) 28 20

@@ -1,7 +1,6 @@
 // Numbers as little-endian bytes in a slice: what stands at a place, and how it is written there.
 ghost use mathlib.Core.Path.{_≡_};
-ghost use mathlib.Core.List.{List};
-ghost use Prim.Native.Nat.{ℕ, _+_, _≤_};
+ghost use Prim.Native.Nat.{_+_, _≤_};
 ghost use lib.ListN.{length, drop};
 ghost use Rattle.wire.specs.Bytes.{le, bytes};
 ghost use Rattle.wire.specs.Put.{put};
