@@ -34,6 +34,13 @@ pub fn fresh(columns: u8, rows: u8, hopper: u8, sources: u64) -> Floor {
     answer.floor
 }
 
+// A set of hoppers.
+pub fn several(columns: u8, rows: u8, hoppers: u64, sources: u64) -> Answer {
+    let mut s = settings(columns, rows, 0, sources, 20);
+    s.hoppers = hoppers;
+    calls::fresh(s)
+}
+
 // What booking canister `number` at (a, b) answers.
 pub fn book(f: Floor, tile: u32, number: u32, a: u16, b: u16) -> Answer {
     let c = Canister {

@@ -1,5 +1,6 @@
-// The trials: document 01's small floors and a full floor, through the compiled calls.
+// The trials: document 01's small floors, floors with several hoppers and a full floor, through the compiled calls.
 mod full;
+mod hoppers;
 mod small;
 
 use tally::Tally;
@@ -7,6 +8,7 @@ use tally::Tally;
 fn main() {
     let start = Tally { good: 0, bad: 0 };
     let a = small::all(start);
-    let b = full::all(a);
-    tally::end(b);
+    let b = hoppers::all(a);
+    let c = full::all(b);
+    tally::end(c);
 }
