@@ -1,5 +1,7 @@
 // Floors that aren't well formed: every call that takes a floor answers 30 and gives the same floor, zeros for a reading, the same
 // bytes for a writing.
+mod hoppers;
+
 use floor::Canister;
 use floor::Delivery;
 use floor::Floor;
@@ -259,7 +261,17 @@ fn canister_name(kind: u8) {
     }
 }
 
-// One damage, six calls.
+// Six calls on a damaged floor, whose name is written before.
+fn refused(t: Tally, f: Floor) -> Tally {
+    let ok = all_refuse(f);
+    if ok {
+        tally::text(b": ok\n");
+    } else {
+        tally::text(b": not 30 with the same floor from every call\n");
+    }
+    tally::count(t, ok)
+}
+
 fn one(t: Tally, f: Floor, kind: u8) -> Tally {
     tally::text(b"malformed, ");
     if kind < 10 {
@@ -267,13 +279,13 @@ fn one(t: Tally, f: Floor, kind: u8) -> Tally {
     } else {
         canister_name(kind);
     }
-    let ok = all_refuse(damaged(f, kind));
-    if ok {
-        tally::text(b": ok\n");
-    } else {
-        tally::text(b": not 30 with the same floor from every call\n");
-    }
-    tally::count(t, ok)
+    refused(t, damaged(f, kind))
+}
+
+fn one_of_several(t: Tally, f: Floor, kind: u8) -> Tally {
+    tally::text(b"malformed, ");
+    hoppers::name(kind);
+    refused(t, hoppers::damaged(f, kind))
 }
 
 // The floor before it is damaged: the calls accept it.
@@ -321,8 +333,20 @@ fn all(t: Tally) -> Tally {
     zero(next)
 }
 
+fn several(t: Tally) -> Tally {
+    let f = hoppers::sound_floor();
+    let mut next = hoppers::accepted(t, f);
+    let mut kind: u8 = 0;
+    while kind < 9 {
+        next = one_of_several(next, f, kind);
+        kind += 1;
+    }
+    next
+}
+
 fn main() {
     let start = Tally { good: 0, bad: 0 };
-    let done = all(start);
+    let one_hopper = all(start);
+    let done = several(one_hopper);
     tally::end(done);
 }
