@@ -1,8 +1,8 @@
--- The answers of fresh and of reading, refused and accepted, as the definitions give them.
-use mathlib.Core.Path.{_≡_, sym, _∙_}
+-- The answers of fresh and of reading, refused and accepted, and of a refused round, as the definitions give them.
+use mathlib.Core.Path.{_≡_, sym, ap, _∙_}
 use mathlib.Core.Logic.{_≢_}
-use mathlib.Core.Bool.{true}
-use mathlib.Core.List.{List}
+use mathlib.Core.Bool.{true, false}
+use mathlib.Core.List.{List, []}
 use Prim.Native.Nat.{ℕ}
 use lib.ListN.{getD}
 use borrow.Author.Tests.{eq-eqb, ne-eqb}
@@ -13,10 +13,14 @@ use Rattle.floor.specs.declared.Tile.{Tile}
 use Rattle.floor.specs.declared.Floor.{Floor}
 use Rattle.floor.specs.declared.Answer.{Answer}
 use Rattle.floor.specs.declared.Reading.{Reading}
+use Rattle.floor.specs.declared.Report.{Report}
+use Rattle.floor.specs.declared.Rounded.{Rounded}
 use Rattle.floor.specs.Settings.{settingsRefusal, settingsPass}
 use Rattle.floor.specs.Model.{tileOf, membersOf}
 use Rattle.floor.specs.Memory.{zeroCanister, zeroFloor, view, head, pack}
-use Rattle.floor.specs.Calls.{refusalOf, freshFloor, freshAnswer, readTests, readAnswer}
+use Rattle.floor.specs.Well.{wellFormed}
+use Rattle.floor.specs.Calls.{refusalOf, freshFloor, freshAnswer, readTests, readAnswer, zeroReport, roundAnswer}
+use Rattle.book.proofs.Answers.{malformed}
 use Rattle.calls.specs.Refused.{unreadWith}
 
 -- ---- fresh
@@ -42,3 +46,8 @@ pub read-accepted : (f : Floor) (t : ℕ) (h : Tile) (items : List Canister) →
     → _≡_ {A = Reading} (record { refusal = 0; tile = h; members = items }) (readAnswer f t)
 unfolding readAnswer
 read-accepted f t h items e p q = rw (e, p, q)
+
+-- ---- a round
+pub round-refused : (f : Floor) (r : Report) → wellFormed f ≡ false → r ≡ zeroReport → _≡_ {A = Rounded} (record { refusal = 30; floor = f; report = r }) (roundAnswer f)
+unfolding roundAnswer
+round-refused f r w e = rw (malformed f [] w) (ap (λ (x : Report). record { refusal = 30; floor = f; report = x }) e)

@@ -22,9 +22,8 @@ use floor::Settings;
 use floor::Side;
 use floor::Tile;
 use floor::zero_floor;
-use motion::move_floor;
+use motion::run_round;
 use settings::settings_refusal;
-use signal::turned;
 use soundness::well_formed;
 
 // A fresh floor; refused, the all-zero floor.
@@ -167,19 +166,5 @@ pub fn round(floor: Floor) -> Rounded
             report: report,
         };
     }
-    let next = turned(floor);
-    let tiles = next.tiles;
-    let grants = next.grants;
-    let moved = move_floor(floor, tiles, grants);
-    let after = moved.floor;
-    let deliveries = moved.deliveries;
-    let report = Report {
-        grants: grants,
-        deliveries: deliveries,
-    };
-    Rounded {
-        refusal: 0,
-        floor: after,
-        report: report,
-    }
+    run_round(floor)
 }

@@ -16,15 +16,11 @@ use floor::Counters;
 use floor::Delivery;
 use floor::Floor;
 use floor::Members;
+use floor::Report;
+use floor::Rounded;
 use floor::Settings;
 use members::sift;
 use sets::holds;
-
-// What Move gives: the floor, and what came to each hopper, the hoppers in tile order.
-pub struct Moved {
-    pub floor: Floor,
-    pub deliveries: [Delivery; 4],
-}
 
 // What the hoppers took in so far: how many of them were found, and what came to each.
 pub struct Takings {
@@ -125,18 +121,23 @@ pub fn raise(c: Counters, d: [Delivery; 4]) -> Counters
     }
 }
 
-// The answer, the counters raised by those that came.
-pub fn finish(f: Floor, came: Takings) -> Moved
+// A round's answer, the counters raised by those that came.
+pub fn finish(f: Floor, came: Takings, grants: [u8; 64]) -> Rounded
     requires { ⌜ ((k : ℕ) → k < 4 → getD (f .counters .delivered) k 0 + getD (came .deliveries) k noDelivery .count < 2 ^ 32) ⌝ }
-    ensures { λ r. ⌜ (r .floor ≡ withCame f (came .deliveries)) × (r .deliveries ≡ came .deliveries) ⌝ }
+    ensures { λ r. ⌜ r ≡ record { refusal = 0; floor = withCame f (came .deliveries); report = record { grants = grants; deliveries = came .deliveries } } ⌝ }
 {
     let d = came.deliveries;
     let old = f.counters;
     let counters = raise(old, d);
     let mut out = f;
     out.counters = counters;
-    Moved {
-        floor: out,
+    let report = Report {
+        grants: grants,
         deliveries: d,
+    };
+    Rounded {
+        refusal: 0,
+        floor: out,
+        report: report,
     }
 }

@@ -1,4 +1,4 @@
-use mathlib.Core.Path.{refl, ap}
+use mathlib.Core.Path.{ap}
 use Rattle.floor.specs.declared.Counters.{Counters}
 use borrow.Author.Needs.{needs}
 use Rattle.ways.proofs.finish.Statement.{statement}
@@ -12,8 +12,15 @@ raise-requires c κs = search needs
 
 returns : tie.Need-returns
 returns c =
-    let f = c .before .before .before .args .f in
-    (ap (λ (x : Counters). record { settings = f .settings; counters = x; tiles = f .tiles; canisters = f .canisters }) (c .raise .ensures), refl)
+    let a = c .before .before .before .args in
+    let f = a .f in
+    ap
+    (λ (x : Counters). record {
+      refusal = 0;
+      floor = record { settings = f .settings; counters = x; tiles = f .tiles; canisters = f .canisters };
+      report = record { grants = a .grants; deliveries = a .came .deliveries };
+    })
+    (c .raise .ensures)
 
 pub finish-spec : {M : Type 1} → statement M
 finish-spec = tie.close (tie.spec raise-requires returns)
