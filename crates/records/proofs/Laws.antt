@@ -5,8 +5,8 @@ use mathlib.Core.List.{List, [], _∷_, _++_, append-assoc, append-nil}
 use Prim.Native.Nat.{ℕ, zero, suc, _+_, _*_, _≤_, _<_}
 use native.Mathlib.Omega.{arith}
 use native.Mathlib.Numerals.{add-one}
-use lib.ListN.{length, take, getD, replicate, length-append, length-replicate}
-use lib.Seq.{length-take-le, take-suc}
+use lib.ListN.{length, take, drop, getD, replicate, length-append, length-drop, length-replicate}
+use lib.Seq.{length-take-le, take-suc, getD-drop}
 use Rattle.wire.specs.Bytes.{bytes, bytesOf, bytes-length, row-length}
 use Rattle.laws.specs.Define.{tab}
 use Rattle.laws.specs.Tables.{tab-length}
@@ -96,19 +96,20 @@ canisters-one : (c : Canister) → canistersBody (c ∷ []) ≡ canisterBytes c
 unfolding canistersBody
 canisters-one c = append-nil (canisterBytes c)
 
-pub canisters-upto : (l : List Canister) (k : ℕ) → k ≤ length l → length (canistersBody (take k l)) ≡ 8 * k
+canisters-upto : (l : List Canister) (k : ℕ) → k ≤ length l → length (canistersBody (take k l)) ≡ 8 * k
 canisters-upto l k h = canisters-size (take k l) ∙ rw (length-take-le k l h)
 
 canisters-turn : (l : List Canister) (k : ℕ) (z : Canister) → k < length l → canistersBody (take (k + 1) l) ≡ canistersBody (take k l) ++ canisterBytes (getD l k z)
 canisters-turn l k z h = rw (add-one, take-suc l k z h, canisters-append, canisters-one)
 
--- a turn of the loop
-pub put-turn : (s₀ s s′ : List ℕ) (at k : ℕ) (l : List Canister) (z : Canister) → k < length l → at + 8 * k + 8 ≤ length s₀
-    → s ≡ put s₀ at (canistersBody (take k l)) → s′ ≡ put s (at + 8 * k) (canisterBytes (getD l k z)) → s′ ≡ put s₀ at (canistersBody (take (k + 1) l))
-put-turn s₀ s s′ at k l z h r p q =
-    let n : length (canistersBody (take k l)) ≡ 8 * k = canisters-upto l k (omega arith) in
-    let c : length (canisterBytes (getD l k z)) ≡ 8 = canister-size (getD l k z) in
-    rw (canisters-turn l k z h) (put-two s₀ s s′ at (at + 8 * k) (canistersBody (take k l)) (canisterBytes (getD l k z)) (omega arith) (omega arith) p q)
+-- a turn of the loop over the canisters from place i on
+pub put-turn : (s₀ s s′ : List ℕ) (at i k : ℕ) (l : List Canister) (z : Canister) → i + k < length l → at + 8 * k + 8 ≤ length s₀
+    → s ≡ put s₀ at (canistersBody (take k (drop i l))) → s′ ≡ put s (at + 8 * k) (canisterBytes (getD l (i + k) z)) → s′ ≡ put s₀ at (canistersBody (take (k + 1) (drop i l)))
+put-turn s₀ s s′ at i k l z h r p q =
+    let m : k < length (drop i l) = rw length-drop (omega arith) in
+    let n : length (canistersBody (take k (drop i l))) ≡ 8 * k = canisters-upto (drop i l) k (omega arith) in
+    let c : length (canisterBytes (getD l (i + k) z)) ≡ 8 = canister-size (getD l (i + k) z) in
+    rw (canisters-turn (drop i l) k z m, getD-drop i l k z) (put-two s₀ s s′ at (at + 8 * k) (canistersBody (take k (drop i l))) (canisterBytes (getD l (i + k) z)) (omega arith) (omega arith) p q)
 
 -- a tile's record is its front and its canisters
 pub tile-record : (t : ℕ) (h : Tile) (l : List Canister) → length l ≡ h .count → frontBytes t h ++ canistersBody l ≡ recordOf 3 (tileBody t (stateFrom h l))

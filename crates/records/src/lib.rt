@@ -2,11 +2,10 @@
 ghost use mathlib.Core.Path.{_≡_};
 ghost use mathlib.Core.List.{_++_};
 ghost use Prim.Native.Nat.{_+_, _*_, _≤_};
-ghost use lib.ListN.{length, take};
+ghost use lib.ListN.{length};
 ghost use Rattle.wire.specs.Bytes.{bytes};
 ghost use Rattle.wire.specs.Put.{put};
-ghost use Rattle.floor.specs.Memory.{stateFrom};
-ghost use Rattle.image.specs.Image.{several, recordOf, settingsBody, countersBody, tileBody};
+ghost use Rattle.image.specs.Image.{several, recordOf, settingsBody, countersBody};
 ghost use Rattle.records.specs.Parts.{canisterBytes, headBytes, frontBytes};
 use floor::Canister;
 use floor::Counters;
@@ -98,7 +97,7 @@ pub fn put_counters(s: &mut [u8], at: usize, x: Counters, h: u8)
 }
 
 // A canister.
-fn put_canister(s: &mut [u8], at: usize, c: Canister)
+pub fn put_canister(s: &mut [u8], at: usize, c: Canister)
     requires { ⌜ at + 8 ≤ length (now s) ⌝ }
     ensures { λ r. ⌜ now (s .exit) ≡ put (now (s .entry)) at (canisterBytes c) ⌝ }
 {
@@ -108,26 +107,11 @@ fn put_canister(s: &mut [u8], at: usize, c: Canister)
 }
 
 // The record of tile t before its canisters.
-fn put_front(s: &mut [u8], at: usize, t: u8, h: Tile)
+pub fn put_front(s: &mut [u8], at: usize, t: u8, h: Tile)
     requires { ⌜ (at + 10 ≤ length (now s)) × (h .count ≤ 16) ⌝ }
     ensures { λ r. ⌜ now (s .exit) ≡ put (now (s .entry)) at (frontBytes t h) ⌝ }
 {
     put_pair(s, at, 6 + 8 * (h.count as u16), 3);
     put_three(s, at + 4, t, h.running, h.distance);
     put_three(s, at + 7, h.next.code, h.token.code, h.count);
-}
-
-// The record of tile t; its canisters stand in the first places of `items`.
-pub fn put_tile(s: &mut [u8], at: usize, t: u8, h: Tile, items: [Canister; 16])
-    requires { ⌜ (at + 10 + 8 * h .count ≤ length (now s)) × (h .count ≤ 16) ⌝ }
-    ensures { λ r. ⌜ now (s .exit) ≡ put (now (s .entry)) at (recordOf 3 (tileBody t (stateFrom h (take (h .count) items)))) ⌝ }
-{
-    put_front(s, at, t, h);
-    let n = h.count as usize;
-    let mut k = 0usize;
-    while k < n {
-        let c = items[k];
-        put_canister(s, at + 10 + 8 * k, c);
-        k = k + 1;
-    }
 }

@@ -5,24 +5,26 @@ use mathlib.Core.List.{List, [], _++_, append-assoc, append-nil}
 use Prim.Native.Nat.{ℕ, zero, suc, _+_, _-_, _*_, _≤_, _<_}
 use native.Mathlib.Omega.{arith}
 use native.Mathlib.Numerals.{add-one}
-use lib.ListN.{length, take, drop, length-append, length-drop}
+use lib.ListN.{length, take, drop, getD, length-append, length-drop}
 use lib.Seq.{length-take-le}
 use lib.Dec.{ltb}
 use Rattle.laws.specs.Define.{tab, bitsBelow}
 use Rattle.laws.specs.SetBits.{bits-within}
 use Rattle.laws.specs.Tables.{tab-same}
 use Rattle.wire.specs.Bytes.{bytes}
-use Rattle.wire.specs.Put.{put, put-two}
+use Rattle.wire.specs.Put.{put, put-three}
 use Rattle.floor.specs.declared.Canister.{Canister}
 use Rattle.floor.specs.declared.Tile.{Tile}
 use Rattle.floor.specs.declared.Floor.{Floor}
 use Rattle.floor.specs.Settings.{total, hoppersOf}
-use Rattle.floor.specs.Memory.{stateOf, view}
+use Rattle.floor.specs.Memory.{zeroTile, stateOf, view}
 use Rattle.floor.specs.Well.{wellFormed}
 use Rattle.floor.proofs.Pack.{few-on, well-few, well-fits, well-lengths, well-measured}
-use Rattle.image.specs.Image.{hopperCount, several, recordOf, settingsBody, countersBody, tileBody, tilesBytes, encode}
+use Rattle.image.specs.Image.{hopperCount, several, recordOf, settingsBody, countersBody, canistersBody, tileBody, tilesBytes, encode}
 use Rattle.image.proofs.Records.{record-length}
-use Rattle.image.proofs.Sizes.{settings-size, counters-size, tile-size}
+use Rattle.image.proofs.Sizes.{settings-size, counters-size, canisters-size, tile-size}
+use Rattle.records.specs.Parts.{frontBytes}
+use Rattle.records.proofs.Laws.{front-length, tile-record}
 use Rattle.writer.specs.Upto.{countAt, tileFor, tileRecord, upto}
 
 -- ---- the tiles, one after the other
@@ -35,11 +37,11 @@ module _ (hs : List Tile) (cs : List Canister) where
   unfolding upto
   upto-more t = rw add-one
 
+  canisters-count : (t : ℕ) → 16 * t + 16 ≤ length cs → countAt hs t ≤ 16 → length (take (countAt hs t) (drop (16 * t) cs)) ≡ countAt hs t
+  canisters-count t h k = let m : countAt hs t ≤ length (drop (16 * t) cs) = rw length-drop (omega arith) in length-take-le (countAt hs t) (drop (16 * t) cs) m
+
   record-size : (t : ℕ) → 16 * t + 16 ≤ length cs → countAt hs t ≤ 16 → length (tileRecord hs cs t) ≡ 10 + 8 * countAt hs t
-  record-size t h k =
-      let m : countAt hs t ≤ length (drop (16 * t) cs) = rw length-drop (omega arith) in
-      let e : length (take (countAt hs t) (drop (16 * t) cs)) ≡ countAt hs t = length-take-le (countAt hs t) (drop (16 * t) cs) m in
-      rw (record-length 3 (tileBody t (tileFor hs cs t)), tile-size t (tileFor hs cs t), e) (omega arith)
+  record-size t h k = rw (record-length 3 (tileBody t (tileFor hs cs t)), tile-size t (tileFor hs cs t), canisters-count t h k) (omega arith)
 
   pub at-turn : (from at t : ℕ) → 16 * t + 16 ≤ length cs → countAt hs t ≤ 16 → at ≡ from + length (upto hs cs t) → at + 10 + 8 * countAt hs t ≡ from + length (upto hs cs (t + 1))
   at-turn from at t l k e = let n = record-size t l k in rw (upto-more t, length-append) (omega arith)
@@ -59,12 +61,17 @@ module _ (hs : List Tile) (cs : List Canister) where
       let m : length (upto hs cs (t + 1)) ≤ length (upto hs cs c) = rw e at (upto-mono (t + 1) (c - (t + 1))) in
       omega arith
 
-  -- a turn of the loop
-  pub tiles-turn : (s₀ s s′ : List ℕ) (from at t : ℕ) → 16 * t + 16 ≤ length cs → countAt hs t ≤ 16 → at + 10 + 8 * countAt hs t ≤ length s₀ → at ≡ from + length (upto hs cs t)
-      → s ≡ put s₀ from (upto hs cs t) → s′ ≡ put s at (tileRecord hs cs t) → s′ ≡ put s₀ from (upto hs cs (t + 1))
-  tiles-turn s₀ s s′ from at t l k r e p q =
-      let n = record-size t l k in
-      rw (upto-more t) (put-two s₀ s s′ from at (upto hs cs t) (tileRecord hs cs t) (omega arith) e p q)
+  -- a turn of the loop over the tiles: the front of a record and its canisters
+  pub tiles-turn : (s₀ s s₁ s′ : List ℕ) (from at t : ℕ) → 16 * t + 16 ≤ length cs → countAt hs t ≤ 16 → at + 10 + 8 * countAt hs t ≤ length s₀ → at ≡ from + length (upto hs cs t)
+      → s ≡ put s₀ from (upto hs cs t) → s₁ ≡ put s at (frontBytes t (getD hs t zeroTile)) → s′ ≡ put s₁ (at + 10) (canistersBody (take (countAt hs t) (drop (16 * t) cs)))
+      → s′ ≡ put s₀ from (upto hs cs (t + 1))
+  tiles-turn s₀ s s₁ s′ from at t l k r e p q u =
+      let h = getD hs t zeroTile in
+      let ds = take (countAt hs t) (drop (16 * t) cs) in
+      let c = canisters-count t l k in
+      let f = front-length t h in
+      let n : length (canistersBody ds) ≡ 8 * countAt hs t = canisters-size ds ∙ rw c in
+      rw (upto-more t, ← tile-record t h ds c) (put-three s₀ s s₁ s′ from at (at + 10) (upto hs cs t) (frontBytes t h) (canistersBody ds) (omega arith) e (omega arith) p q u)
 
   -- then the end
   upto-tiles : (t n : ℕ) → upto hs cs t ++ tilesBytes t (tab n (λ k. tileFor hs cs (t + k))) ≡ upto hs cs (t + n) ++ recordOf 4 []

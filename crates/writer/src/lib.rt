@@ -12,32 +12,31 @@ ghost use Rattle.writer.specs.Upto.{countAt, upto};
 use floor::Canister;
 use floor::Floor;
 use floor::Tile;
+use records::put_canister;
 use records::put_counters;
+use records::put_front;
 use records::put_pair;
 use records::put_settings;
-use records::put_tile;
 use sets::size;
 
-// The records of the first c tiles; the answer is the place after them. The sixteen places of a tile are copied once.
+// The records of the first c tiles; the answer is the place after them. Each canister is written straight from its place.
 fn put_tiles(s: &mut [u8], from: usize, tiles: [Tile; 64], all: [Canister; 1024], c: usize) -> usize
     requires { ⌜ (c ≤ 64) × (from + length (upto tiles all c) ≤ length (now s)) × ((t : ℕ) → t < c → countAt tiles t ≤ 16) ⌝ }
     ensures { λ r. ⌜ (r ≡ from + length (upto tiles all c)) × (now (s .exit) ≡ put (now (s .entry)) from (upto tiles all c)) ⌝ }
 {
-    let zero = Canister {
-        number: 0,
-        a: 0,
-        b: 0,
-    };
     let mut at = from;
     let mut t = 0usize;
     while t < c {
         let h = tiles[t];
-        let mut items = [zero; 16];
-        for k in 0usize..16 {
-            items[k] = all[16 * t + k];
+        put_front(s, at, t as u8, h);
+        let n = h.count as usize;
+        let mut k = 0usize;
+        while k < n {
+            let x = all[16 * t + k];
+            put_canister(s, at + 10 + 8 * k, x);
+            k = k + 1;
         }
-        put_tile(s, at, t as u8, h, items);
-        at = at + 10 + 8 * (h.count as usize);
+        at = at + 10 + 8 * n;
         t = t + 1;
     }
     at

@@ -1,13 +1,9 @@
-use mathlib.Core.Path.{_≡_, refl, sym, ap, _∙_}
-use mathlib.Core.List.{List}
+use mathlib.Core.Path.{_≡_, refl, sym, _∙_}
 use Prim.Native.Nat.{ℕ, _+_, _*_, _-_, _≤_, _<_}
 use native.Mathlib.Omega.{arith}
-use lib.ListN.{length, take, drop, getD, length-set}
-use lib.Seq.{take-take, take-all}
-use Rattle.laws.specs.Tables.{copy-turn}
-use Rattle.floor.specs.declared.Canister.{Canister}
-use Rattle.floor.specs.Memory.{zeroTile, zeroCanister, stateFrom}
-use Rattle.image.specs.Image.{recordOf, tileBody}
+use lib.ListN.{length, take, drop}
+use Rattle.image.specs.Image.{canistersBody}
+use Rattle.records.proofs.Laws.{put-turn}
 use Rattle.writer.proofs.Laws.{at-turn, tiles-turn, upto-room}
 use Rattle.writer.specs.Upto.{countAt, upto}
 use Rattle.wire.specs.Put.{put, put-none}
@@ -16,20 +12,21 @@ use Rattle.writer.proofs.put_tiles.Statement.{statement}
 use Rattle.writer.proofs.put_tiles.Tie as tie
 use Rattle.writer.proofs.put_tiles.Reads as reads
 use Rattle.writer.proofs.put_tiles.Lts as lts
-use Rattle.records.proofs.put_tile.Reads as put-tile-reads
+use Rattle.records.proofs.put_canister.Reads as put-canister-reads
+use Rattle.records.proofs.put_front.Reads as put-front-reads
 
 abbrev Inv-loop2 : tie.InvT-loop2
-Inv-loop2 s from c tiles all zero at t h items₀ k₀ items k = (k ≤ 16) × (t < 64) × (length items ≡ 16) × (length all ≡ 1024) × (take k items ≡ take k (drop (16 * t) all))
+Inv-loop2 s₀ from c tiles all at t n k₀ s k = (k ≤ n) × (n ≤ 16) × (at + 10 + 8 * n ≤ length s₀) × (length s ≡ length s₀) × (t < 64) × (length all ≡ 1024) × (s ≡ put s₀ (at + 10) (canistersBody (take k (drop (16 * t) all))))
 
 abbrev μ-loop2 : tie.MeasureT-loop2
-μ-loop2 s from c tiles all zero at t h items₀ k₀ items k = 16 - k
+μ-loop2 s₀ from c tiles all at t n k₀ s k = n - k
 
 abbrev Inv-loop : tie.InvT-loop
-Inv-loop s₀ from c tiles all zero at₀ t₀ s at t =
+Inv-loop s₀ from c tiles all at₀ t₀ s at t =
     (t ≤ c) × (c ≤ 64) × (length all ≡ 1024) × (length tiles ≡ 64) × (length s ≡ length s₀) × (from + length (upto tiles all c) ≤ length s₀) × (at ≡ from + length (upto tiles all t)) × (s ≡ put s₀ from (upto tiles all t)) × ((u : ℕ) → u < c → countAt tiles u ≤ 16)
 
 abbrev μ-loop : tie.MeasureT-loop
-μ-loop s₀ from c tiles all zero at₀ t₀ s at t = c - t
+μ-loop s₀ from c tiles all at₀ t₀ s at t = c - t
 
 loop-holds : tie.Need-loop-holds Inv-loop2 μ-loop2 Inv-loop μ-loop
 unfolding upto
@@ -43,26 +40,57 @@ mul-h c = search needs
 array-copy-out-h : tie.Need-array-copy-out-h Inv-loop2 μ-loop2 Inv-loop μ-loop
 array-copy-out-h c = search needs
 
+cast-put-front : tie.Need-cast-put-front Inv-loop2 μ-loop2 Inv-loop μ-loop
+cast-put-front c = search needs
+
+put-front-requires : tie.Need-put-front-requires Inv-loop2 μ-loop2 Inv-loop μ-loop
+put-front-requires c κs =
+    let l = c .before .before .before .loop in
+    let g = c .before .before .before .before .before .args in
+    let w : l .t < g.c = c .before .before .loop-test .taken in
+    let k : countAt g.t3 (l .t) ≤ 16 = l .inv .8 (l .t) w in
+    let h : 16 * l .t + 16 ≤ length g.t4 = omega arith in
+    let r = upto-room g.t3 g.t4 (l .t) g.c w h k in
+    (omega arith, k)
+
+cast-n : tie.Need-cast-n Inv-loop2 μ-loop2 Inv-loop μ-loop
+cast-n c = search needs
+
 loop2-holds : tie.Need-loop2-holds Inv-loop2 μ-loop2 Inv-loop μ-loop
-loop2-holds c = let l = c .before .before .loop in (omega arith, omega arith, refl, l .inv .2, refl)
+unfolding canistersBody
+loop2-holds c =
+    let l = c .before .before .before .before .before .before .before .loop in
+    let g = c .before .before .before .before .before .before .before .before .before .args in
+    let w : l .t < g.c = c .before .before .before .before .before .before .loop-test .taken in
+    let k : countAt g.t3 (l .t) ≤ 16 = l .inv .8 (l .t) w in
+    let h : 16 * l .t + 16 ≤ length g.t4 = omega arith in
+    let r = upto-room g.t3 g.t4 (l .t) g.c w h k in
+    let p = c .before .before .before .put-front in
+    (omega arith, k, omega (arith, p .kept .0), refl, omega arith, l .inv .2, sym (put-none (p .last .0) (l .at + 10)))
 
-mul-items : tie.Need-mul-items Inv-loop2 μ-loop2 Inv-loop μ-loop
-mul-items c = search needs
+mul-x : tie.Need-mul-x Inv-loop2 μ-loop2 Inv-loop μ-loop
+mul-x c = search needs
 
-add-items : tie.Need-add-items Inv-loop2 μ-loop2 Inv-loop μ-loop
-add-items c = search needs
+add-x : tie.Need-add-x Inv-loop2 μ-loop2 Inv-loop μ-loop
+add-x c = search needs
 
-mul-items-2 : tie.Need-mul-items-2 Inv-loop2 μ-loop2 Inv-loop μ-loop
-mul-items-2 c = search needs
+mul-x-2 : tie.Need-mul-x-2 Inv-loop2 μ-loop2 Inv-loop μ-loop
+mul-x-2 c = search needs
 
-array-copy-out-items : tie.Need-array-copy-out-items Inv-loop2 μ-loop2 Inv-loop μ-loop
-array-copy-out-items c = search needs
+array-copy-out-x : tie.Need-array-copy-out-x Inv-loop2 μ-loop2 Inv-loop μ-loop
+array-copy-out-x c = search needs
 
-mul-items-3 : tie.Need-mul-items-3 Inv-loop2 μ-loop2 Inv-loop μ-loop
-mul-items-3 c = search needs
+add-put-canister : tie.Need-add-put-canister Inv-loop2 μ-loop2 Inv-loop μ-loop
+add-put-canister c = search needs
 
-array-set-from-items : tie.Need-array-set-from-items Inv-loop2 μ-loop2 Inv-loop μ-loop
-array-set-from-items c = search needs
+mul-put-canister : tie.Need-mul-put-canister Inv-loop2 μ-loop2 Inv-loop μ-loop
+mul-put-canister c = search needs
+
+add-put-canister-2 : tie.Need-add-put-canister-2 Inv-loop2 μ-loop2 Inv-loop μ-loop
+add-put-canister-2 c = search needs
+
+put-canister-requires : tie.Need-put-canister-requires Inv-loop2 μ-loop2 Inv-loop μ-loop
+put-canister-requires c κs = search needs
 
 add-k : tie.Need-add-k Inv-loop2 μ-loop2 Inv-loop μ-loop
 add-k c = search needs
@@ -72,56 +100,27 @@ loop2-less c = search needs
 
 loop2-again : tie.Need-loop2-again Inv-loop2 μ-loop2 Inv-loop μ-loop
 loop2-again c =
-    let l = c .before .before .loop2 in
-    let o = c .before .before .before .before .before .loop in
-    let g = c .before .before .before .before .before .before .before .args in
-    (omega arith, l .inv .1, simp length-set (l .inv .2), l .inv .3, copy-turn (l .items) g.t4 (16 * o .t) (l .k) zeroCanister (omega arith) (omega arith) (l .inv .4))
-
-cast-put-tile : tie.Need-cast-put-tile Inv-loop2 μ-loop2 Inv-loop μ-loop
-cast-put-tile c = search needs
-
-put-tile-requires : tie.Need-put-tile-requires Inv-loop2 μ-loop2 Inv-loop μ-loop
-put-tile-requires c κs =
-    let l = c .before .before .before .before .before .loop in
-    let g = c .before .before .before .before .before .before .before .args in
-    let w : l .t < g.c = c .before .before .before .before .loop-test .taken in
-    let k : countAt g.t3 (l .t) ≤ 16 = l .inv .8 (l .t) w in
-    let h : 16 * l .t + 16 ≤ length g.t4 = omega arith in
-    let r = upto-room g.t3 g.t4 (l .t) g.c w h k in
-    (omega arith, k)
+    let i = c .before .before .before .before .before .before .loop2 in
+    let o = c .before .before .before .before .before .before .before .before .before .before .before .before .before .before .loop in
+    let g = c .before .before .before .before .before .before .before .before .before .before .before .before .before .before .before .before .args in
+    let p = c .before .before .put-canister in (
+      omega arith,
+      i .inv .1,
+      i .inv .2,
+      p .kept .0 ∙ i .inv .3,
+      i .inv .4,
+      i .inv .5,
+      put-turn (c .before .before .before .before .before .before .before .before .before .before .put-front .last .0) (i .s) _ (o .at + 10) (16 * o .t) (i .k) g.t4 _ (omega arith) (omega arith) (i .inv .6) (p .ensures),
+    )
 
 add-at : tie.Need-add-at Inv-loop2 μ-loop2 Inv-loop μ-loop
-add-at c =
-    let l = c .before .before .before .before .before .before .before .before .loop in
-    let g = c .before .before .before .before .before .before .before .before .before .before .args in
-    let w : l .t < g.c = c .before .before .before .before .before .before .before .loop-test .taken in
-    let k : countAt g.t3 (l .t) ≤ 16 = l .inv .8 (l .t) w in
-    let h : 16 * l .t + 16 ≤ length g.t4 = omega arith in
-    let r = upto-room g.t3 g.t4 (l .t) g.c w h k in
-    omega arith
-
-cast-at : tie.Need-cast-at Inv-loop2 μ-loop2 Inv-loop μ-loop
-cast-at c = search needs
+add-at c = search needs
 
 mul-at : tie.Need-mul-at Inv-loop2 μ-loop2 Inv-loop μ-loop
-mul-at c =
-    let l = c .before .before .before .before .before .before .before .before .before .loop in
-    let g = c .before .before .before .before .before .before .before .before .before .before .before .args in
-    let w : l .t < g.c = c .before .before .before .before .before .before .before .before .loop-test .taken in
-    let k : countAt g.t3 (l .t) ≤ 16 = l .inv .8 (l .t) w in
-    let h : 16 * l .t + 16 ≤ length g.t4 = omega arith in
-    let r = upto-room g.t3 g.t4 (l .t) g.c w h k in
-    omega arith
+mul-at c = search needs
 
 add-at-2 : tie.Need-add-at-2 Inv-loop2 μ-loop2 Inv-loop μ-loop
-add-at-2 c =
-    let l = c .before .before .before .before .before .before .before .before .before .loop in
-    let g = c .before .before .before .before .before .before .before .before .before .before .before .args in
-    let w : l .t < g.c = c .before .before .before .before .before .before .before .before .loop-test .taken in
-    let k : countAt g.t3 (l .t) ≤ 16 = l .inv .8 (l .t) w in
-    let h : 16 * l .t + 16 ≤ length g.t4 = omega arith in
-    let r = upto-room g.t3 g.t4 (l .t) g.c w h k in
-    omega arith
+add-at-2 c = search needs
 
 add-t : tie.Need-add-t Inv-loop2 μ-loop2 Inv-loop μ-loop
 add-t c = search needs
@@ -136,23 +135,18 @@ loop-again c =
     let w : l .t < g.c = c .before .before .before .before .before .before .before .before .loop-test .taken in
     let k : countAt g.t3 (l .t) ≤ 16 = l .inv .8 (l .t) w in
     let h : 16 * l .t + 16 ≤ length g.t4 = omega arith in
-    let r = upto-room g.t3 g.t4 (l .t) g.c w h k in
-    let i = c .before .before .before .before .before .before .loop2 in
-    let z : i .k ≡ 16 = omega arith in
-    let b : i .items ≡ take 16 (drop (16 * l .t) g.t4) = sym (take-all 16 (i .items) (omega arith)) ∙ rw z at (i .inv .4) in
-    let n = countAt g.t3 (l .t) in
-    let q : take n (i .items) ≡ take n (drop (16 * l .t) g.t4) = ap (take n) b ∙ take-take n 16 (drop (16 * l .t) g.t4) k in
-    let put-of : List Canister → List ℕ = λ x. put (l .s) (l .at) (recordOf 3 (tileBody (l .t) (stateFrom (getD g.t3 (l .t) zeroTile) x))) in
-    let e = c .before .before .before .put-tile .kept .0 in
-    let p = c .before .before .before .put-tile .ensures in (
+    let p = c .before .before .before .before .before .put-front in
+    let i = c .before .loop2 in
+    let z : i .k ≡ countAt g.t3 (l .t) = omega arith in
+    let q : i .s ≡ put (p .last .0) (l .at + 10) (canistersBody (take (countAt g.t3 (l .t)) (drop (16 * l .t) g.t4))) = rw z at (i .inv .6) in (
       omega arith,
       l .inv .1,
       l .inv .2,
       l .inv .3,
-      e ∙ l .inv .4,
+      i .inv .3 ∙ p .kept .0 ∙ l .inv .4,
       l .inv .5,
       at-turn g.t3 g.t4 g.from (l .at) (l .t) h k (l .inv .6),
-      tiles-turn g.t3 g.t4 (g.s .now) (l .s) _ g.from (l .at) (l .t) h k (omega arith) (l .inv .6) (l .inv .7) (p ∙ ap put-of q),
+      tiles-turn g.t3 g.t4 (g.s .now) (l .s) (p .last .0) _ g.from (l .at) (l .t) h k (omega arith) (l .inv .6) (l .inv .7) (p .ensures) q,
       l .inv .8,
     )
 
@@ -177,20 +171,22 @@ put-tiles-spec =
     loop-holds
     mul-h
     array-copy-out-h
+    cast-put-front
+    put-front-requires
+    cast-n
     loop2-holds
-    mul-items
-    add-items
-    mul-items-2
-    array-copy-out-items
-    mul-items-3
-    array-set-from-items
+    mul-x
+    add-x
+    mul-x-2
+    array-copy-out-x
+    add-put-canister
+    mul-put-canister
+    add-put-canister-2
+    put-canister-requires
     add-k
     loop2-less
     loop2-again
-    cast-put-tile
-    put-tile-requires
     add-at
-    cast-at
     mul-at
     add-at-2
     add-t
