@@ -1,15 +1,17 @@
 -- What is promised of images: loading what was written, writing what was loaded, the longest image, and bytes missing or left over.
-use mathlib.Core.Path.{_≡_, refl, ap, _∙_}
+use mathlib.Core.Path.{_≡_, refl, sym, ap, _∙_}
 use mathlib.Core.Logic.{_≢_}
-use mathlib.Core.Bool.{true, false, not}
+use mathlib.Core.Bool.{Bool, true, false, not, _&&_}
 use mathlib.Core.List.{List, [], _∷_, _++_}
 use Prim.Native.Nat.{ℕ, _+_, _≤_, _<_}
 use native.Mathlib.Omega.{arith}
-use borrow.Author.Tests.{ne-eqb, le-ltb, lt-ltb}
+use native.Mathlib.Decide.{ℕ-discrete}
+use lib.Dec.{eqb}
+use borrow.Author.Tests.{eqb-true, eq-eqb, ne-eqb, le-ltb, lt-ltb, not-true, not-false}
 use lib.ListN.{length, take, drop}
 use lib.Seq.{take-append-seam}
 use Rattle.laws.specs.Define.{refusal}
-use Rattle.laws.specs.Tests.{test-none}
+use Rattle.laws.specs.Tests.{and-left, and-right, test-none}
 use Rattle.wire.specs.Bytes.{Bytes}
 use Rattle.wire.specs.Put.{put}
 use Rattle.floor.specs.declared.Floor.{Floor}
@@ -110,21 +112,36 @@ module _ (xs : List ℕ) (a : loadAnswer xs .refusal ≡ 0) where
       none = write-none (loadAnswer xs .floor) (length buffer) loaded-well (rw (loaded-writes b) h)
 
 -- ---- loading, in the order of the code: the records first, then 12 of the floor in memory
-pub load-refuses : (xs : List ℕ) → recordsAnswer xs .refusal ≢ 0 → recordsAnswer xs ≡ loadAnswer xs
+load-refuses : (xs : List ℕ) → recordsAnswer xs .refusal ≢ 0 → recordsAnswer xs ≡ loadAnswer xs
 unfolding recordsAnswer loadAnswer answerBy
 load-refuses xs n = rw (load-fault xs (fault xs) refl n)
 
-pub load-accepts : (xs : List ℕ) → recordsAnswer xs .refusal ≡ 0 → wellFormed (recordsAnswer xs .floor) ≡ true → recordsAnswer xs ≡ loadAnswer xs
+load-accepts : (xs : List ℕ) → recordsAnswer xs .refusal ≡ 0 → wellFormed (recordsAnswer xs .floor) ≡ true → recordsAnswer xs ≡ loadAnswer xs
 unfolding recordsAnswer loadAnswer loadRefusal answerBy refusal
 load-accepts xs z w =
     let e : wellFormed (pack (modelIn xs)) ≡ true = rw z at w in
     rw (z, ← well-read xs z, e)
 
-pub load-malformed : (xs : List ℕ) → recordsAnswer xs .refusal ≡ 0 → wellFormed (recordsAnswer xs .floor) ≡ false → record { refusal = 12; floor = zeroFloor } ≡ loadAnswer xs
+load-malformed : (xs : List ℕ) → recordsAnswer xs .refusal ≡ 0 → wellFormed (recordsAnswer xs .floor) ≡ false → record { refusal = 12; floor = zeroFloor } ≡ loadAnswer xs
 unfolding recordsAnswer loadAnswer loadRefusal answerBy refusal
 load-malformed xs z w =
     let e : wellFormed (pack (modelIn xs)) ≡ false = rw z at w in
     rw (z, ← well-read xs z, e)
+
+-- as the code asks: r is what the records give, b whether its floor is well formed
+pub load-12 : (xs : List ℕ) (r : Answer) (b : Bool) → r ≡ recordsAnswer xs → b ≡ wellFormed (r .floor) → (eqb (r .refusal) 0 && not b) ≡ true → record { refusal = 12; floor = zeroFloor } ≡ loadAnswer xs
+load-12 xs r b e q h =
+    let z = eqb-true (r .refusal) 0 (and-left (eqb (r .refusal) 0) (not b) h) in
+    load-malformed xs (ap (λ (a : Answer). a .refusal) (sym e) ∙ z) (ap (λ (a : Answer). wellFormed (a .floor)) (sym e) ∙ sym q ∙ not-true b (and-right (eqb (r .refusal) 0) (not b) h))
+
+pub load-other : (xs : List ℕ) (r : Answer) (b : Bool) → r ≡ recordsAnswer xs → b ≡ wellFormed (r .floor) → (eqb (r .refusal) 0 && not b) ≡ false → r ≡ loadAnswer xs
+load-other xs r b e q h = go (ℕ-discrete (r .refusal) 0)
+  where
+    go : Dec (r .refusal ≡ 0) → r ≡ loadAnswer xs
+    go (yes z) =
+        let w : b ≡ true = not-false b (rw (eq-eqb (r .refusal) 0 z) at h) in
+        e ∙ load-accepts xs (ap (λ (a : Answer). a .refusal) (sym e) ∙ z) (ap (λ (a : Answer). wellFormed (a .floor)) (sym e) ∙ sym q ∙ w)
+    go (no n) = e ∙ load-refuses xs (λ z. n (ap (λ (a : Answer). a .refusal) e ∙ z))
 
 -- ---- writing, in the order of the code: 30, 13, then the bytes
 pub write-malformed : (f : Floor) (buffer : List ℕ) → wellFormed f ≡ false → (record { refusal = 30; length = 0 } ≡ writeAnswer f (length buffer)) × (buffer ≡ written f buffer)

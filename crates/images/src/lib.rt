@@ -11,20 +11,18 @@ use soundness::well_formed;
 use writer::image_length;
 use writer::write_image;
 
-// The floor of an image; refused, the all-zero floor.
+// The floor of an image; refused, the all-zero floor, which the check then looks at too. One way out: each costs a copy.
 pub fn load(bytes: &[u8]) -> Answer
     ensures { λ r. ⌜ r ≡ loadAnswer (now (bytes .entry)) ⌝ }
 {
     let r = read_image(bytes);
-    if r.refusal != 0 {
-        return r;
-    }
     let f = r.floor;
     let well = well_formed(f);
-    if !well {
-        return refused(12);
+    let mut out = r;
+    if (r.refusal == 0) & !well {
+        out = refused(12);
     }
-    r
+    out
 }
 
 // Writes the image of a floor to the front of the buffer; refused, not a byte changes.
