@@ -149,6 +149,8 @@ fn no_report() -> Report
     };
     Report {
         grants: [0; 64],
+        reasons: [0; 64],
+        missing: [0; 64],
         deliveries: [none; 4],
     }
 }

@@ -9,16 +9,16 @@ use native.Mathlib.Omega.{arith}
 use borrow.Author.Tests.{not-true}
 use Rattle.laws.specs.Define.{keep}
 use Rattle.laws.specs.Every.{All, Pairs}
-use Rattle.laws.specs.Lists.{all-of, all-imp, all-map, all-both, all-true, all-keep, pairs-map, pairs-keep, keep-split, map-append, map-perm, map-map, map-cong, perm-of}
+use Rattle.laws.specs.Lists.{all-of, all-imp, all-map, all-both, all-keep, pairs-map, pairs-keep, keep-split, map-append, map-perm, map-map, map-cong, perm-of}
 use Rattle.floor.specs.declared.Canister.{Canister}
 use Rattle.floor.specs.declared.Settings.{Settings}
 use Rattle.floor.specs.Sides.{sides, opposite}
 use Rattle.floor.specs.Settings.{spacing}
 use Rattle.floor.specs.Model.{numbers}
-use Rattle.floor.specs.Signal.{clear, hasGap}
+use Rattle.floor.specs.Signal.{missing}
 use Rattle.floor.specs.Move.{crosses, shift, land, staying, leaving}
 use Rattle.floor.proofs.Sound.{Measured, Inside, Differ, Apart}
-use Rattle.floor.proofs.Geometry.{room, shift-number, land-number, shift-none, cross-none, clear-room, cross-room, stay-room, shift-room, shift-across, shift-inside, shift-other, land-inside, land-room, land-across, apart-along, along-apart}
+use Rattle.floor.proofs.Geometry.{room, shift-number, land-number, shift-none, cross-none, lack-room, cross-room, stay-room, shift-room, shift-across, shift-inside, shift-other, land-inside, land-room, land-across, apart-along, along-apart}
 
 -- ---- whatever the side
 -- along none all stay as they are
@@ -84,9 +84,10 @@ module _ (s : Settings) (g : Measured s) where
   Leaves k c = Inside s c × (crosses s k c ≡ true)
 
   -- a gap towards side k: all are d from that border
-  pub gap-room : {k : ℕ} (l : List Canister) → List·Memᴰ k sides → hasGap s k l ≡ true → All (λ c. spacing s ≤ room s k c) l
-  unfolding hasGap
-  gap-room {k} l mk h = all-imp (λ c. clear s k c ≡ true) (λ c. spacing s ≤ room s k c) l (clear-room s g mk) (all-true (clear s k) l h)
+  pub gap-room : {k : ℕ} (l : List Canister) → List·Memᴰ k sides → missing s k l ≡ 0 → All (λ c. spacing s ≤ room s k c) l
+  unfolding missing
+  gap-room {k} [] mk h = tt
+  gap-room {k} (c ∷ l) mk h = (lack-room s g mk c (omega (arith, h)), gap-room l mk (omega (arith, h)))
 
   module _ {k : ℕ} (mk : List·Memᴰ k sides) (l : List Canister) (i : All (Inside s) l) where
     pub stays-room : (c : Canister) → Stays k c → s .travel ≤ room s k c

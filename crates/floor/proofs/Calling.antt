@@ -19,8 +19,9 @@ use Rattle.floor.specs.Model.{runsOf, numbersOn}
 use Rattle.floor.specs.Memory.{zeroFloor, stateOf, view, head, places, rows, build, pack, isZeroCanister, isZeroTile, headFits, tileFits, tilesFit, fits}
 use Rattle.floor.specs.Well.{hopperSound, runningSound, stoppedSound, faces, headSound, inside, apart, inOrder, membersSound, tileSound, numbersSound, countersSound, sound, wellFormed}
 use Rattle.floor.specs.Route.{nearer, nearest, liesAt, kept, onward, headingOf, routeTile, route}
-use Rattle.floor.specs.Signal.{requests, clear, hasGap, signalWith, signalBy, signalTile, shownOf, signalOf, signal}
+use Rattle.floor.specs.Signal.{requests, lack, missing, signalWith, signalBy, signalTile, shownOf, signalOf, signal}
 use Rattle.floor.specs.Move.{wayOf, crosses, shift, land, staying, leaving, insert, insertEach, membersNext, arrivals, moveTile, deliveredBy, raised, move}
+use Rattle.floor.specs.Reasons.{reasonTests, aheadOf, reasonOf, missingOf}
 use Rattle.floor.specs.Calls.{refusalOf, answer, freshTile, freshFloor, freshAnswer, bookTests, booked, bookAnswer, stopTests, stopped, stopAnswer, repairTests, repaired, repairAnswer, afterRound, delivered, deliveryOf, reportOf, zeroReport, roundAnswer, readTests, readAnswer}
 use Rattle.floor.specs.Reports.{listedAt}
 use Rattle.floor.specs.Bound.{crossing, bound}
@@ -92,6 +93,10 @@ reported f = reportedTo 0 f
 unfoldable pub grant : ℕ → Floor → List ℕ
 grant t f = let r = roundAnswer f in r .refusal ∷ getD (r .report .grants) t 0 ∷ []
 
+-- the reasons of the tiles below n, then the millimetres missing
+unfoldable pub why : ℕ → Floor → List ℕ
+why n f = let r = roundAnswer f in r .refusal ∷ take n (r .report .reasons) ++ take n (r .report .missing)
+
 -- K, the canisters on tiles with a live path; the bound (C - 1) × (1 + K × M)
 unfoldable pub liveCount : Floor → ℕ
 liveCount f = let m = view f in connectedCount m (runsOf m)
@@ -135,7 +140,7 @@ refused r f = r .refusal ∷ cond (sameFloor (r .floor) f) 1 0 ∷ []
 unfoldable pub refusedRound : Floor → List ℕ
 refusedRound f =
     let r = roundAnswer f in
-    r .refusal ∷ cond (sameFloor (r .floor) f) 1 0 ∷ cond (same (join (map (λ d. d .count ∷ d .numbers) (r .report .deliveries)) ++ r .report .grants) (replicate 84 0)) 1 0 ∷ []
+    r .refusal ∷ cond (sameFloor (r .floor) f) 1 0 ∷ cond (same (join (map (λ d. d .count ∷ d .numbers) (r .report .deliveries)) ++ r .report .grants ++ r .report .reasons ++ r .report .missing) (replicate 212 0)) 1 0 ∷ []
 
 -- of a reading: the refusal, then 1 where the tile and its sixteen places are zeros
 unfoldable pub refusedReading : Reading → List ℕ
@@ -146,13 +151,13 @@ abbrev pub Table : Type 0
 Table = List (List ℕ × List ℕ)
 
 unfoldable pub holds : Table → Bool
-unfolding got several settings fresh can book stop repair rounds flat on tile distances next turn listedAt reportedTo reported grant counts counted same setUp heads sameFloor refused refusedRound refusedReading
+unfolding got several settings fresh can book stop repair rounds flat on tile distances next turn listedAt reportedTo reported grant why counts counted same setUp heads sameFloor refused refusedRound refusedReading
     tab cat allOf anyOf pairsOf allBelow keep firstOf sum bit bitsBelow join refusal
     sides opposite after following chosen isHopper hoppersOf settingsTests settingsRefusal settingsPass neighbour numbersOn
     zeroFloor stateOf view head places rows build pack isZeroCanister isZeroTile headFits tileFits tilesFit fits
     hopperSound runningSound stoppedSound faces headSound inside apart inOrder membersSound tileSound numbersSound countersSound sound wellFormed
-    nearer nearest liesAt kept onward headingOf routeTile route requests clear hasGap signalWith signalBy signalTile shownOf signalOf signal
-    wayOf crosses shift land staying leaving insert insertEach membersNext arrivals moveTile deliveredBy raised move
+    nearer nearest liesAt kept onward headingOf routeTile route requests lack missing signalWith signalBy signalTile shownOf signalOf signal
+    wayOf crosses shift land staying leaving insert insertEach membersNext arrivals moveTile deliveredBy raised move reasonTests aheadOf reasonOf missingOf
     refusalOf answer freshTile freshFloor freshAnswer bookTests booked bookAnswer stopTests stopped stopAnswer repairTests repaired repairAnswer
     afterRound delivered deliveryOf reportOf zeroReport roundAnswer readTests readAnswer crossing bound reached connected connectedCount liveCount boundOf
 holds table = allOf (λ r. same (r .0) (r .1)) table

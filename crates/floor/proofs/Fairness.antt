@@ -24,7 +24,7 @@ use Rattle.floor.specs.Model.{TileState, Model, noTile, tileOf, runsOf, 
 use Rattle.floor.specs.Memory.{view}
 use Rattle.floor.specs.Well.{wellFormed}
 use Rattle.floor.specs.Route.{route}
-use Rattle.floor.specs.Signal.{hasGap, signalBy, grantOf}
+use Rattle.floor.specs.Signal.{missing, signalBy, grantOf}
 use Rattle.floor.specs.Calls.{stopped, repaired, stopTests, afterRound, reportOf, roundAnswer}
 use Rattle.floor.specs.Demand3.{Call, book, stop, repair, round, Typed, isRound, roundsIn, outcome, floorAfter}
 use Rattle.floor.specs.Fairness.{wants, Waiting, granted, grantsIn, Fair, grantCount, turnOf, NobodyWaits, Fairness}
@@ -82,7 +82,7 @@ module _ (m : Model) (S : Sound m) (t k : ℕ) (on : t < total (m .settings)) (h
 
 -- ---- a round's report
 module _ (f : Floor) (w : wellFormed f ≡ true) (t : ℕ) where
-  granted-on : t < total (view f .settings) → granted f t ≡ grantOf (route (view f)) t
+  pub granted-on : t < total (view f .settings) → granted f t ≡ grantOf (route (view f)) t
   unfolding granted roundAnswer reportOf
   granted-on on = rw (round-accepted f w) (tab-at 64 (grantOf (route (view f))) t 0 (omega (arith, well-sound f w .measured .few)))
 
@@ -116,7 +116,7 @@ module _ (f : Floor) (w : wellFormed f ≡ true) (t : ℕ) where
       chosen-wants (wants (view f) t) (tokenOf (view f) t) (chosen-some (wants (view f) t) (wants-none (view f) n t) j (wants-side (view f) n t j h) h (tokenOf (view f) t))
 
   -- what a running tile grants
-  grants-turn : runsOf (view f) t ≡ true → granted f t ≡ cond (wants (view f) t (turnOf (view f) t) && hasGap (f .settings) (turnOf (view f) t) (membersOf (view f) t)) (turnOf (view f) t) 0
+  grants-turn : runsOf (view f) t ≡ true → granted f t ≡ cond (wants (view f) t (turnOf (view f) t) && eqb (missing (f .settings) (turnOf (view f) t) (membersOf (view f) t)) 0) (turnOf (view f) t) 0
   unfolding turnOf view
   grants-turn r =
       let n = well-sound f w .len in

@@ -5,12 +5,12 @@ use mathlib.Core.Bool.{true, false}
 use mathlib.Core.List.{List·Memᴰ}
 use Prim.Native.Nat.{ℕ, zero, suc, _-_, _≤_, _<_}
 use native.Mathlib.Omega.{arith}
-use borrow.Author.Tests.{leb-true, ltb-true, ltb-false}
+use borrow.Author.Tests.{ltb-true, ltb-false}
 use Rattle.floor.specs.declared.Canister.{Canister}
 use Rattle.floor.specs.declared.Settings.{Settings}
 use Rattle.floor.specs.Sides.{bySide, sides, opposite}
 use Rattle.floor.specs.Settings.{spacing, span}
-use Rattle.floor.specs.Signal.{clear}
+use Rattle.floor.specs.Signal.{lack}
 use Rattle.floor.specs.Move.{crosses, shift, land}
 use Rattle.floor.proofs.Sound.{Measured, Inside, Differ, Apart}
 use Rattle.floor.proofs.Grid.{each-side}
@@ -61,10 +61,10 @@ cross-none s c = refl
 
 module _ (s : Settings) (g : Measured s) where
   -- ---- clear, crossing, shift and landing, by the room
-  pub clear-room : {k : ℕ} → List·Memᴰ k sides → (c : Canister) → clear s k c ≡ true → spacing s ≤ room s k c
-  unfolding clear room
-  clear-room m = each-side (λ k. (c : Canister) → clear s k c ≡ true → spacing s ≤ room s k c)
-      (λ c h. omega (arith, leb-true)) (λ c h. omega (arith, leb-true)) (λ c h. omega (arith, leb-true)) (λ c h. omega (arith, leb-true)) m
+  pub lack-room : {k : ℕ} → List·Memᴰ k sides → (c : Canister) → lack s k c ≡ 0 → spacing s ≤ room s k c
+  unfolding lack room
+  lack-room m = each-side (λ k. (c : Canister) → lack s k c ≡ 0 → spacing s ≤ room s k c)
+      (λ c h. omega arith) (λ c h. omega arith) (λ c h. omega arith) (λ c h. omega arith) m
 
   pub cross-room : {k : ℕ} → List·Memᴰ k sides → (c : Canister) → crosses s k c ≡ true → room s k c < s .travel
   unfolding crosses room

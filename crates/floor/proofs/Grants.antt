@@ -5,16 +5,16 @@ use mathlib.Core.Bool.{Bool, true, false, cond, _&&_}
 use mathlib.Core.List.{List, [], List·Memᴰ}
 use Prim.Native.Nat.{ℕ, zero, suc, _<_}
 use native.Mathlib.Omega.{arith}
-use lib.Dec.{ltb}
-use borrow.Author.Tests.{lt-ltb}
-use Rattle.laws.specs.Define.{allOf, anyOf, firstOf}
+use lib.Dec.{ltb, eqb}
+use borrow.Author.Tests.{lt-ltb, eqb-true}
+use Rattle.laws.specs.Define.{anyOf, firstOf}
 use Rattle.laws.specs.Tests.{by-test, not-both, and-right}
 use Rattle.laws.specs.Search.{any-mem, first-mem, first-none}
 use Rattle.floor.specs.declared.Canister.{Canister}
 use Rattle.floor.specs.declared.Settings.{Settings}
 use Rattle.floor.specs.declared.Signal.{Signal}
 use Rattle.floor.specs.Sides.{sides, after, following, chosen}
-use Rattle.floor.specs.Signal.{hasGap, signalWith, signalBy}
+use Rattle.floor.specs.Signal.{missing, signalWith, signalBy}
 use Rattle.floor.proofs.Grid.{side-after}
 
 -- ---- the token among the sides that want
@@ -55,26 +55,26 @@ module _ (s : Settings) (running : Bool) (token : ℕ) (l : List Canister) (p : 
   abbrev given : Signal
   given = signalBy s running token l p
 
-  pub grant-told : 0 < given .grant → (running ≡ true) × (p (given .grant) ≡ true) × (hasGap s (given .grant) l ≡ true)
+  pub grant-told : 0 < given .grant → (running ≡ true) × (p (given .grant) ≡ true) × (missing s (given .grant) l ≡ 0)
   unfolding signalBy signalWith
-  grant-told h = go running refl (ltb 0 k && hasGap s k l) refl
+  grant-told h = go running refl (ltb 0 k && eqb (missing s k l) 0) refl
     where
       k : ℕ
       k = chosen p token
 
-      go : (r : Bool) → running ≡ r → (b : Bool) → (ltb 0 k && hasGap s k l) ≡ b → (running ≡ true) × (p (given .grant) ≡ true) × (hasGap s (given .grant) l ≡ true)
+      go : (r : Bool) → running ≡ r → (b : Bool) → (ltb 0 k && eqb (missing s k l) 0) ≡ b → (running ≡ true) × (p (given .grant) ≡ true) × (missing s (given .grant) l ≡ 0)
       go false e b q = absurd (omega (arith, rw e at h))
       go true e false q = absurd (omega (arith, rw (e, q) at h))
-      go true e true q = rw (e, q) (refl, chosen-wants p token (rw (e, q) at h), and-right (ltb 0 k) (hasGap s k l) q)
+      go true e true q = rw (e, q) (refl, chosen-wants p token (rw (e, q) at h), eqb-true (missing s k l) 0 (and-right (ltb 0 k) (eqb (missing s k l) 0) q))
 
   pub token-told : running ≡ true → 0 < given .token → p (given .token) ≡ true
   unfolding signalBy signalWith
-  token-told r h = go (ltb 0 k && hasGap s k l) refl
+  token-told r h = go (ltb 0 k && eqb (missing s k l) 0) refl
     where
       k : ℕ
       k = chosen p token
 
-      go : (b : Bool) → (ltb 0 k && hasGap s k l) ≡ b → p (given .token) ≡ true
+      go : (b : Bool) → (ltb 0 k && eqb (missing s k l) 0) ≡ b → p (given .token) ≡ true
       go true q = rw (r, q) (following-wants p _ (rw (r, q) at h))
       go false q = rw (r, q) (chosen-wants p token (rw (r, q) at h))
 
@@ -84,15 +84,15 @@ module _ (s : Settings) (running : Bool) (token : ℕ) (l : List Canister) (p : 
 
   -- an empty running tile that some side wants to enter grants one
   pub grant-some : running ≡ true → l ≡ [] → p 0 ≡ false → (j : ℕ) → List·Memᴰ j sides → p j ≡ true → 0 < given .grant
-  unfolding signalBy signalWith hasGap allOf
+  unfolding signalBy signalWith missing
   grant-some r e z j mj h =
       let c = chosen-some p z j mj h token in
       rw (r, e, lt-ltb 0 (chosen p token) c) c
 
   -- a running tile grants the chosen side, exactly if that side wants and the tile has the gap for it
-  pub grant-chosen : running ≡ true → p 0 ≡ false → given .grant ≡ cond (p (chosen p token) && hasGap s (chosen p token) l) (chosen p token) 0
+  pub grant-chosen : running ≡ true → p 0 ≡ false → given .grant ≡ cond (p (chosen p token) && eqb (missing s (chosen p token) l) 0) (chosen p token) 0
   unfolding signalBy signalWith
-  grant-chosen r z = go (p k && hasGap s k l) refl
+  grant-chosen r z = go (p k && eqb (missing s k l) 0) refl
     where
       k : ℕ
       k = chosen p token
@@ -101,6 +101,6 @@ module _ (s : Settings) (running : Bool) (token : ℕ) (l : List Canister) (p : 
       wanted zero e = sym z
       wanted (suc x) e = lt-ltb 0 (suc x) (omega arith) ∙ sym (ap p (sym e) ∙ chosen-wants p token (omega arith))
 
-      go : (b : Bool) → (p k && hasGap s k l) ≡ b → given .grant ≡ cond (p k && hasGap s k l) k 0
+      go : (b : Bool) → (p k && eqb (missing s k l) 0) ≡ b → given .grant ≡ cond (p k && eqb (missing s k l) 0) k 0
       go true q = rw (r, wanted k refl, q)
       go false q = rw (r, wanted k refl, q)

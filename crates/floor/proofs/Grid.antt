@@ -143,3 +143,24 @@ neighbour-back s pos mk t h = each-side (λ k. neighbour s k t < total s → nei
         let e = taken (ltb (t + s .rows) (total s)) (t + s .rows) (total s) k in
         let q : t + s .rows - s .rows ≡ t = omega arith in
         rw (e, le-leb (s .rows) (t + s .rows) (omega arith), q)
+
+-- a neighbour is another tile
+pub neighbour-other : (s : Settings) → 1 ≤ s .rows → {k : ℕ} → List·Memᴰ k sides → (t : ℕ) → neighbour s k t < total s → neighbour s k t ≢ t
+unfolding neighbour
+neighbour-other s pos mk t = each-side (λ k. neighbour s k t < total s → neighbour s k t ≢ t) west south north east mk
+  where
+    west : neighbour s 1 t < total s → neighbour s 1 t ≢ t
+    west k =
+        let e = taken (leb (s .rows) t) (t - s .rows) (total s) k in
+        rw e (λ q. absurd (omega (arith, leb-true (s .rows) t e)))
+
+    south : neighbour s 2 t < total s → neighbour s 2 t ≢ t
+    south k =
+        let e = taken (ltb 0 (t % s .rows)) (t - 1) (total s) k in
+        rw e (λ q. absurd (omega (arith, ltb-true 0 (t % s .rows) e, div-add-mod' t (s .rows))))
+
+    north : neighbour s 3 t < total s → neighbour s 3 t ≢ t
+    north k = rw (taken (ltb (t % s .rows + 1) (s .rows)) (t + 1) (total s) k) (λ q. absurd (omega arith))
+
+    east : neighbour s 4 t < total s → neighbour s 4 t ≢ t
+    east k = rw (taken (ltb (t + s .rows) (total s)) (t + s .rows) (total s) k) (λ q. absurd (omega arith))

@@ -55,7 +55,7 @@ module _ (m : Model) (S : Sound m) where
   stop-turn : (t : ℕ) → runsOf m t ≡ false → signalOf (route m) t .token ≡ 0
   stop-turn t r = token-still m (S .len) t r ∙ S .stop-token t r
 
-  arrow-faces : (t : ℕ) → Faces (m .settings) t (nextOf (route m) t)
+  pub arrow-faces : (t : ℕ) → Faces (m .settings) t (nextOf (route m) t)
   arrow-faces t = go (decLe 1 (nextOf (route m) t))
     where
       go : Dec (0 < nextOf (route m) t) → Faces (m .settings) t (nextOf (route m) t)

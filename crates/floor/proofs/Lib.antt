@@ -36,8 +36,14 @@ pub mod Touching
 pub mod Tokens
 pub mod Fairness
 pub mod Arrows
+pub mod Reasons
+pub mod Shifting
+pub mod Standing
 pub mod Numbering
 pub mod Calling
+pub mod Shown
+pub mod Walked
+pub mod Made
 pub mod Trials
 pub mod Samples
 pub mod Instances

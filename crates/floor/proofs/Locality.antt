@@ -1,17 +1,23 @@
 -- Each tile decides from its four neighbours: two floors with equal settings that agree on a tile and on its neighbours give that tile the same outcome of each step.
-use mathlib.Core.Path.{_≡_, sym, ap, _∙_}
-use mathlib.Core.List.{List}
-use Prim.Native.Nat.{ℕ, _<_}
+use mathlib.Core.Path.{_≡_, refl, sym, ap, _∙_}
+use mathlib.Core.Bool.{Bool, true, false, cond, not, _&&_}
+use mathlib.Core.List.{List, [], _∷_}
+use Prim.Native.Nat.{ℕ, _+_, _<_}
+use lib.Dec.{ltb, eqb}
 use lib.ListN.{length}
+use Rattle.laws.specs.Define.{refusal}
 use Rattle.laws.specs.Tables.{tab-at}
 use Rattle.floor.specs.declared.Canister.{Canister}
 use Rattle.floor.specs.declared.Settings.{Settings}
+use Rattle.floor.specs.declared.Signal.{Signal}
+use Rattle.floor.specs.Sides.{chosen, following}
 use Rattle.floor.specs.Settings.{total}
 use Rattle.floor.specs.Grid.{neighbour, around}
-use Rattle.floor.specs.Model.{TileState, Model, noTile, tileOf, distanceOf, withMembers}
+use Rattle.floor.specs.Model.{TileState, Model, noTile, tileOf, runs, distanceOf, withMembers}
 use Rattle.floor.specs.Route.{routeTile, route}
-use Rattle.floor.specs.Signal.{signalTile, shownNext, shownOf, signalOf}
+use Rattle.floor.specs.Signal.{missing, signalWith, signalBy, signalTile, shownNext, shownOf, signalOf}
 use Rattle.floor.specs.Move.{wayOf, staying, membersNext, arriving, arrivals, moveTile}
+use Rattle.floor.specs.Reasons.{reasonTests, aheadOf, reasonOf, missingOf}
 
 -- a and b agree on t and on what lies beside it; where there is no neighbour, both read no tile
 pub record Agree (s : Settings) {A : Type 0} (a b : ℕ → A) (t : ℕ) : Type 0 where
@@ -60,3 +66,53 @@ module _ (m n : Model) (t : ℕ) (same : m .settings ≡ n .settings) (h : Agree
         ∙ ap (λ (a : ℕ). withMembers (tileOf n t) (membersNext (m .settings) t (staying (m .settings) (wayOf (tileOf n t .next) a) (tileOf n t .members)) (arrivals m g t))) (k .beside (tileOf n t .next))
         ∙ ap (λ (l : List Canister). withMembers (tileOf n t) (membersNext (m .settings) t (staying (m .settings) (wayOf (tileOf n t .next) (e (neighbour (m .settings) (tileOf n t .next) t))) (tileOf n t .members)) l)) arrivals-local
         ∙ ap (λ (s : Settings). withMembers (tileOf n t) (membersNext s t (staying s (wayOf (tileOf n t .next) (e (neighbour s (tileOf n t .next) t))) (tileOf n t .members)) (arrivals n e t))) same
+
+-- ---- why a tile stood
+-- the millimetres missing at a tile: by its turn, and by itself
+by-turn : (s : Settings) (running : Bool) (token : ℕ) (l : List Canister) (p : ℕ → Bool) → let g = signalBy s running token l p in g .missing ≡ cond running (missing s (g .turn) l) 0
+unfolding signalBy signalWith
+by-turn s false token l p = refl
+by-turn s true token l p = go (ltb 0 k && eqb (missing s k l) 0)
+  where
+    k : ℕ
+    k = chosen p token
+
+    given : Bool → Signal
+    given b = cond b (record { token = following p k; grant = k; turn = k; missing = missing s k l }) (record { token = k; grant = 0; turn = k; missing = missing s k l })
+
+    go : (b : Bool) → given b .missing ≡ missing s (given b .turn) l
+    go true = refl
+    go false = refl
+
+missing-turn : (m : Model) (u : ℕ) → signalOf m u .missing ≡ cond (runs (tileOf m u)) (missing (m .settings) (signalOf m u .turn) (tileOf m u .members)) 0
+unfolding signalOf signalTile
+missing-turn m u = by-turn (m .settings) (runs (tileOf m u)) (tileOf m u .token) (tileOf m u .members) _
+
+-- a tile's reason and its millimetres depend on itself and on the tile that its arrow leads to, and on that one's neighbours only through its turn
+module _ (m n : Model) (t : ℕ) (same : m .settings ≡ n .settings) (own : tileOf m t ≡ tileOf n t) where
+  abbrev facing : ℕ
+  facing = neighbour (m .settings) (tileOf m t .next) t
+
+  -- from the turn a and the millimetres b of the tile ahead
+  reasonBy : Settings → TileState → ℕ → ℕ → ℕ
+  reasonBy s x a b = cond (ltb t (total s)) (refusal (reasonTests x (record { token = 0; grant = 0; turn = a; missing = b }))) 0
+
+  module _ (next : tileOf m facing ≡ tileOf n facing) (turn : signalOf m facing .turn ≡ signalOf n facing .turn) where
+    lacks : signalOf m facing .missing ≡ signalOf n facing .missing
+    lacks = missing-turn m facing ∙ (λ i. cond (runs (next i)) (missing (same i) (turn i) (next i .members)) 0) ∙ sym (missing-turn n facing)
+
+    pub reason-local : reasonOf m t ≡ reasonOf n t
+    unfolding reasonOf aheadOf reasonTests reasonBy
+    reason-local =
+        (λ i. reasonBy (m .settings) (tileOf m t) (turn i) (lacks i))
+        ∙ (λ i. reasonBy (same i) (own i) (signalOf n (neighbour (same i) (own i .next) t) .turn) (signalOf n (neighbour (same i) (own i .next) t) .missing))
+
+    pub missing-local : missingOf m t ≡ missingOf n t
+    unfolding missingOf aheadOf
+    missing-local =
+        (λ i. cond (eqb (reason-local i) 5) (lacks i) 0)
+        ∙ (λ i. cond (eqb (reasonOf n t) 5) (signalOf n (neighbour (same i) (own i .next) t) .missing) 0)
+
+  -- that turn depends on the tile ahead and its neighbours
+  pub turn-local : Agree (m .settings) (tileOf m) (tileOf n) facing → signalOf m facing .turn ≡ signalOf n facing .turn
+  turn-local h = ap (λ (x : Signal). x .turn) (signal-local m n facing same h)

@@ -17,7 +17,7 @@ use Rattle.floor.specs.Settings.{total}
 use Rattle.floor.specs.Grid.{neighbour}
 use Rattle.floor.specs.Model.{TileState, Model, runsOf, distanceOf, nextOf, tokenOf, membersOf}
 use Rattle.floor.specs.Route.{route}
-use Rattle.floor.specs.Signal.{requests, hasGap, signalBy, signalTile, shownOf, signalOf, grantOf}
+use Rattle.floor.specs.Signal.{requests, missing, signalBy, signalTile, shownOf, signalOf, grantOf}
 use Rattle.floor.specs.Move.{wayOf, leaving}
 use Rattle.floor.specs.Fairness.{wants}
 use Rattle.floor.proofs.Sound.{Sound}
@@ -94,12 +94,12 @@ module _ (m : Model) (w : Whole m) where
   -- what a grant tells
   pub record Granting (t : ℕ) : Type 0 where
     pub wanting : Wanting m t (grantOf (route m) t)
-    pub wide : hasGap (m .settings) (grantOf (route m) t) (membersOf m t) ≡ true
+    pub wide : missing (m .settings) (grantOf (route m) t) (membersOf m t) ≡ 0
     pub runs : runsOf m t ≡ true
 
   pub granting : (t : ℕ) → 0 < grantOf (route m) t → Granting t
   granting t h =
-      let told = subst (λ (x : Signal). 0 < x .grant → (runsOf m t ≡ true) × (wants m t (x .grant) ≡ true) × (hasGap (m .settings) (x .grant) (membersOf m t) ≡ true)) (sym (signal-is t))
+      let told = subst (λ (x : Signal). 0 < x .grant → (runsOf m t ≡ true) × (wants m t (x .grant) ≡ true) × (missing (m .settings) (x .grant) (membersOf m t) ≡ 0)) (sym (signal-is t))
       (grant-told (m .settings) (runsOf m t) (tokenOf m t) (membersOf m t) (wants m t)) h in
       record { wanting = wants-told t (grantOf (route m) t) (told .1); wide = told .2; runs = told .0 }
 
@@ -118,7 +118,7 @@ way-told a b h = go (ltb 0 a && eqb (a + b) 5) refl
     go true e = rw e (refl, eqb-true (a + b) 5 (and-right (ltb 0 a) (eqb (a + b) 5) e))
     go false e = absurd (omega (arith, rw e at h))
 
-way-of : (a b : ℕ) → 0 < a → a + b ≡ 5 → wayOf a b ≡ a
+pub way-of : (a b : ℕ) → 0 < a → a + b ≡ 5 → wayOf a b ≡ a
 unfolding wayOf
 way-of a b h e = rw (lt-ltb 0 a h, eq-eqb (a + b) 5 e)
 

@@ -14,7 +14,7 @@ use Rattle.floor.specs.Settings.{spacing}
 use Rattle.floor.specs.Grid.{neighbour}
 use Rattle.floor.specs.Model.{Model, membersOf}
 use Rattle.floor.specs.Route.{route}
-use Rattle.floor.specs.Signal.{grantOf, hasGap}
+use Rattle.floor.specs.Signal.{grantOf, missing}
 use Rattle.floor.specs.Move.{staying, leaving}
 use Rattle.floor.proofs.Sound.{Inside, Apart, Sound}
 use Rattle.floor.proofs.Grid.{side-pos, opposite-opposite, opposite-side}
@@ -128,7 +128,7 @@ module _ (m : Model) (S : Sound m) where
       let M = moving m S t (omega (arith, e, side-pos mk)) in
       let same : grantOf (route m) u ≡ opposite k = subst (λ (j : ℕ). grantOf (route m) (neighbour (m .settings) j t) ≡ opposite j) e (M .meets) in
       let G = granting m (S .len) u (omega (arith, same, side-pos (opposite-side mk))) in
-      let wide : hasGap (m .settings) (opposite k) (membersOf m u) ≡ true = subst (λ (j : ℕ). hasGap (m .settings) j (membersOf m u) ≡ true) same (G .wide) in
+      let wide : missing (m .settings) (opposite k) (membersOf m u) ≡ 0 = subst (λ (j : ℕ). missing (m .settings) j (membersOf m u) ≡ 0) same (G .wide) in
       K .takes ∙ ap (λ (j : ℕ). leaving (m .settings) j (membersOf m u)) (K .way)
       ∙ leaving-empty (m .settings) (S .measured) (opposite-side mk) (membersOf m u) (S .inside u) (gap-room (m .settings) (S .measured) (membersOf m u) (opposite-side mk) wide)
 

@@ -6,14 +6,14 @@ use mathlib.Core.List.{List, [], _∷_, List·Memᴰ}
 use Prim.Native.Nat.{ℕ, _+_, _-_, _%_, _<_}
 use native.Mathlib.Omega.{arith}
 use native.Mathlib.Decide.{ℕ-discrete}
-use lib.Dec.{ltb}
+use lib.Dec.{ltb, eqb}
 use Rattle.laws.specs.Define.{firstOf}
 use Rattle.laws.specs.Tests.{not-both}
 use Rattle.floor.specs.declared.Canister.{Canister}
 use Rattle.floor.specs.declared.Settings.{Settings}
 use Rattle.floor.specs.declared.Signal.{Signal}
 use Rattle.floor.specs.Sides.{sides, after, following, chosen}
-use Rattle.floor.specs.Signal.{hasGap, signalWith, signalBy}
+use Rattle.floor.specs.Signal.{missing, signalWith, signalBy}
 use Rattle.floor.proofs.Grid.{at1, at2, at3, at4, each-side, side-pos}
 
 -- steps from side x on to side k
@@ -94,9 +94,9 @@ module _ (s : Settings) (running : Bool) (token : ℕ) (l : List Canister) (p : 
   -- where another side j is granted, the token is then nearer to k
   pub first-grant : j ≢ k → List·Memᴰ j sides → given .grant ≡ j → Nearer k j (given .token)
   unfolding signalBy signalWith
-  first-grant n mj e = go (ltb 0 x && hasGap s x l) refl
+  first-grant n mj e = go (ltb 0 x && eqb (missing s x l) 0) refl
     where
-      go : (b : Bool) → (ltb 0 x && hasGap s x l) ≡ b → Nearer k j (given .token)
+      go : (b : Bool) → (ltb 0 x && eqb (missing s x l) 0) ≡ b → Nearer k j (given .token)
       go true q =
           let i : x ≡ j = rw (run, q) at e in
           rw (run, q, i) (following-nearer p mk mj wk n)
@@ -105,7 +105,7 @@ module _ (s : Settings) (running : Bool) (token : ℕ) (l : List Canister) (p : 
   -- from then on k is granted, or j is not and the token stays nearer
   pub next-grant : j ≢ 0 → Nearer k j token → (given .grant ≡ k) ⊎ ((given .grant ≢ j) × Nearer k j (given .token))
   unfolding signalBy signalWith
-  next-grant n N = go (ltb 0 x && hasGap s x l) refl
+  next-grant n N = go (ltb 0 x && eqb (missing s x l) 0) refl
     where
       near : Nearer k j x
       near = chosen-nearer p k j token mk wk N
@@ -116,6 +116,6 @@ module _ (s : Settings) (running : Bool) (token : ℕ) (l : List Canister) (p : 
           let M = following-nearer p mk (near .0) wk e in
           inr (λ i. absurd (omega (arith, near .1, ap (steps k) i)), (M .0, omega (arith, M .1, near .1)))
 
-      go : (b : Bool) → (ltb 0 x && hasGap s x l) ≡ b → (given .grant ≡ k) ⊎ ((given .grant ≢ j) × Nearer k j (given .token))
+      go : (b : Bool) → (ltb 0 x && eqb (missing s x l) 0) ≡ b → (given .grant ≡ k) ⊎ ((given .grant ≢ j) × Nearer k j (given .token))
       go true q = rw (run, q) (pick (ℕ-discrete x k))
       go false q = rw (run, q) (inr (λ e. n (sym e), near))

@@ -20,6 +20,7 @@ use Rattle.floor.specs.Well.{inside, apart, wellFormed}
 use Rattle.floor.specs.Route.{route}
 use Rattle.floor.specs.Signal.{signal, grantOf}
 use Rattle.floor.specs.Move.{insert, move, deliveredBy}
+use Rattle.floor.specs.Reasons.{reasonOf, missingOf}
 
 -- "30. The floor handed in isn't well formed. First in every call that takes one."
 unfoldable pub refusalOf : Floor → List (Bool × ℕ) → ℕ
@@ -93,16 +94,16 @@ delivered m = let r = route m in let s = signal r in deliveredBy s (grantOf r)
 unfoldable pub deliveryOf : List ℕ → Delivery
 deliveryOf l = record { numbers = tab 4 (λ k. getD l k 0); count = length l }
 
--- "The report gives every tile's grant and the delivered numbers"; "Deliveries are listed for each hopper, at most four apiece"
+-- "The report gives every tile's grant and the delivered numbers"; "Deliveries are listed for each hopper, at most four apiece"; and why each tile stood
 unfoldable pub reportOf : Model → Report
-reportOf m = let ds = delivered m in record { grants = tab 64 (grantOf (route m)); deliveries = tab 4 (λ k. deliveryOf (getD ds k [])) }
+reportOf m = let ds = delivered m in record { grants = tab 64 (grantOf (route m)); reasons = tab 64 (reasonOf (route m)); missing = tab 64 (missingOf (route m)); deliveries = tab 4 (λ k. deliveryOf (getD ds k [])) }
 
 -- "a report of zeros"
 abbrev pub noDelivery : Delivery
 noDelivery = record { numbers = replicate 4 0; count = 0 }
 
 unfoldable pub zeroReport : Report
-zeroReport = record { grants = replicate 64 0; deliveries = replicate 4 noDelivery }
+zeroReport = record { grants = replicate 64 0; reasons = replicate 64 0; missing = replicate 64 0; deliveries = replicate 4 noDelivery }
 
 -- "A round: 30."
 unfoldable pub roundAnswer : Floor → Rounded

@@ -4,7 +4,7 @@ use mathlib.Core.Logic.{_≢_}
 use mathlib.Core.Bool.{Bool, true, false, cond, _&&_}
 use mathlib.Core.List.{List, [], _∷_, _++_, List·Memᴰ}
 use Prim.Native.Nat.{ℕ, _≤_}
-use lib.Dec.{ltb}
+use lib.Dec.{ltb, eqb}
 use lib.ListN.{length, getD}
 use Rattle.laws.specs.Define.{keep}
 use Rattle.laws.specs.Every.{All}
@@ -15,7 +15,7 @@ use Rattle.floor.specs.Model.{Model, runsOf, tokenOf, membersOf}
 use Rattle.floor.specs.Memory.{view}
 use Rattle.floor.specs.Well.{wellFormed}
 use Rattle.floor.specs.Route.{route}
-use Rattle.floor.specs.Signal.{requests, hasGap, shownOf}
+use Rattle.floor.specs.Signal.{requests, missing, shownOf}
 use Rattle.floor.specs.Calls.{roundAnswer}
 use Rattle.floor.specs.Demand3.{Call, stop, Typed, outcome, floorAfter, isRound, roundsIn}
 
@@ -59,7 +59,7 @@ pub record NobodyWaits (f : Floor) : Type 0 where
   pub three : (cs : List Call) → All Typed cs → (t k : ℕ) → Waiting f cs t k → ¬ (List·Memᴰ k (grantsIn f cs t)) → grantCount (grantsIn f cs t) ≤ 3
   -- a running tile grants the side whose turn it is, exactly if that side wants and the tile has the gap for it; if any side wants, that one does
   pub grants : (t : ℕ) → runsOf (view f) t ≡ true
-      → granted f t ≡ cond (wants (view f) t (turnOf (view f) t) && hasGap (f .settings) (turnOf (view f) t) (membersOf (view f) t)) (turnOf (view f) t) 0
+      → granted f t ≡ cond (wants (view f) t (turnOf (view f) t) && eqb (missing (f .settings) (turnOf (view f) t) (membersOf (view f) t)) 0) (turnOf (view f) t) 0
   pub turn-wants : (t j : ℕ) → wants (view f) t j ≡ true → wants (view f) t (turnOf (view f) t) ≡ true
 
 -- the theorem: for every well-formed floor

@@ -7,6 +7,7 @@ pub mod Well
 pub mod Route
 pub mod Signal
 pub mod Move
+pub mod Reasons
 pub mod Calls
 pub mod Reports
 pub mod Bound
@@ -15,3 +16,4 @@ pub mod Demand3
 pub mod Together
 pub mod Fairness
 pub mod Arrows
+pub mod Standing

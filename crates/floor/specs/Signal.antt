@@ -1,10 +1,10 @@
 -- Signal ("running tiles, hopper too").
 use mathlib.Core.Bool.{Bool, false, cond, _&&_}
-use mathlib.Core.List.{List}
-use Prim.Native.Nat.{ℕ, _+_}
-use lib.Dec.{leb, ltb, eqb}
+use mathlib.Core.List.{List, [], _∷_}
+use Prim.Native.Nat.{ℕ, _+_, _-_, max}
+use lib.Dec.{ltb, eqb}
 use lib.ListN.{length}
-use Rattle.laws.specs.Define.{tab, allOf}
+use Rattle.laws.specs.Define.{tab}
 use Rattle.floor.specs.declared.Canister.{Canister}
 use Rattle.floor.specs.declared.Settings.{Settings}
 use Rattle.floor.specs.declared.Signal.{Signal}
@@ -21,21 +21,24 @@ shownNext count next = cond (ltb 0 count) next 0
 unfoldable pub requests : ℕ → ℕ → ℕ → ℕ → ℕ → Bool
 requests west south north east = bySide false (eqb west 4) (eqb south 3) (eqb north 2) (eqb east 1)
 
--- "a ≥ d for a west turn, b ≥ d for south, b + l + d ≤ U for north, a + l + d ≤ U for east"
-unfoldable pub clear : Settings → ℕ → Canister → Bool
-clear s k c = bySide false (leb (spacing s) (c .a)) (leb (spacing s) (c .b)) (leb (c .b + s .length + spacing s) (s .width)) (leb (c .a + s .length + spacing s) (s .width)) k
+-- how many millimetres a canister is short of the gap at side k: "a ≥ d for a west turn, b ≥ d for south, b + l + d ≤ U for north, a + l + d ≤ U for east"
+unfoldable pub lack : Settings → ℕ → Canister → ℕ
+lack s k c = bySide 0 (spacing s - c .a) (spacing s - c .b) (c .b + s .length + spacing s - s .width) (c .a + s .length + spacing s - s .width) k
 
--- "The gap: every canister here has …"
-unfoldable pub hasGap : Settings → ℕ → List Canister → Bool
-hasGap s k l = allOf (clear s k) l
+-- "The gap test now says how many millimetres are missing, the worst canister's, 0 for a gap"
+unfoldable pub missing : Settings → ℕ → List Canister → ℕ
+missing s k [] = 0
+missing s k (c ∷ l) = max (lack s k c) (missing s k l)
 
 -- k the turn just chosen. "None wants: turn none, no grant." "With the gap the tile grants that side, and its turn passes to the first wanting side strictly after it, coming round to itself if it is alone. Without, no grant, and the turn stays."
 unfoldable pub signalWith : Settings → List Canister → (ℕ → Bool) → ℕ → Signal
-signalWith s l p k = cond (ltb 0 k && hasGap s k l) (record { token = following p k; grant = k }) (record { token = k; grant = 0 })
+signalWith s l p k =
+    let n = missing s k l in
+    cond (ltb 0 k && eqb n 0) (record { token = following p k; grant = k; turn = k; missing = n }) (record { token = k; grant = 0; turn = k; missing = n })
 
 -- one tile's, from what its neighbours show; a stopped tile keeps its turn and grants nothing
 unfoldable pub signalBy : Settings → Bool → ℕ → List Canister → (ℕ → Bool) → Signal
-signalBy s running token l p = cond running (signalWith s l p (chosen p token)) (record { token = token; grant = 0 })
+signalBy s running token l p = cond running (signalWith s l p (chosen p token)) (record { token = token; grant = 0; turn = token; missing = 0 })
 
 unfoldable pub signalTile : Settings → TileState → ℕ → ℕ → ℕ → ℕ → Signal
 signalTile s x west south north east = signalBy s (runs x) (x .token) (x .members) (requests west south north east)

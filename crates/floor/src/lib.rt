@@ -139,10 +139,13 @@ pub struct Delivery {
     pub count: u8,
 }
 
-// What a round reports: the side that each tile granted, and what came to each hopper, the hoppers in tile order, then zeros.
+// What a round reports: the side that each tile granted; why each tile stood, 6 where it moved, and the millimetres missing
+// beside reason 5; and what came to each hopper, the hoppers in tile order, then zeros.
 #[repr(C)]
 pub struct Report {
     pub grants: [u8; 64],
+    pub reasons: [u8; 64],
+    pub missing: [u16; 64],
     pub deliveries: [Delivery; 4],
 }
 
@@ -183,10 +186,13 @@ pub struct Heading {
     pub side: u8,
 }
 
-// What Signal gives a tile: its new token, and the side that it grants.
+// What Signal gives a tile: its new token, the side that it grants, the turn before it passed on, and the millimetres that
+// are missing there.
 pub struct Signal {
     pub token: u8,
     pub grant: u8,
+    pub turn: u8,
+    pub missing: u32,
 }
 
 // The all-zero floor.

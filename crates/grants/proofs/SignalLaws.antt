@@ -1,19 +1,22 @@
 -- One tile of Signal, branch by branch: the sides that want, the side chosen, the gap, the outcome.
-use mathlib.Core.Path.{_≡_, refl}
+use mathlib.Core.Path.{_≡_, refl, sym, _∙_}
 use mathlib.Core.Logic.{_≢_}
 use mathlib.Core.Bool.{Bool, true, false, cond}
-use mathlib.Core.List.{List, [], _∷_}
-use Prim.Native.Nat.{ℕ, zero, suc, _+_, _≤_, _<_}
+use mathlib.Core.List.{List, [], _∷_, _++_}
+use Prim.Native.Nat.{ℕ, zero, suc, _+_, _-_, max, _≤_, _<_}
 use native.Mathlib.Omega.{arith}
-use lib.Dec.{leb, eqb}
-use borrow.Author.Tests.{lt-ltb}
+use lib.Dec.{eqb}
+use lib.ListN.{length, getD, take}
+use lib.Seq.{take-suc}
+use native.Mathlib.Numerals.{add-one}
+use borrow.Author.Tests.{lt-ltb, ne-eqb}
 use Rattle.laws.specs.Define.{firstOf}
 use Rattle.floor.specs.declared.Canister.{Canister}
 use Rattle.floor.specs.declared.Settings.{Settings}
 use Rattle.floor.specs.declared.Signal.{Signal}
 use Rattle.floor.specs.Sides.{after, following, chosen, inSet}
 use Rattle.floor.specs.Settings.{spacing}
-use Rattle.floor.specs.Signal.{requests, clear, hasGap, signalWith, signalBy}
+use Rattle.floor.specs.Signal.{requests, lack, missing, signalWith, signalBy}
 use Rattle.floor.proofs.SideTables.{setOf, set-of}
 
 -- ---- the sides that want
@@ -51,48 +54,67 @@ pub chosen-next : (p : ℕ → Bool) (k : ℕ) → p k ≡ false → following p
 unfolding chosen
 chosen-next p k h = rw h
 
--- ---- a canister that leaves the gap at a side
+-- ---- what a canister is short of the gap at a side
 module _ (s : Settings) (k : ℕ) (c : Canister) where
-  pub clear-west : k ≡ 1 → leb (spacing s) (c .a) ≡ clear s k c
-  unfolding clear
-  clear-west e = rw e
+  pub lack-west : k ≡ 1 → spacing s - c .a ≡ lack s k c
+  unfolding lack
+  lack-west e = rw e
 
-  pub clear-south : k ≡ 2 → leb (spacing s) (c .b) ≡ clear s k c
-  unfolding clear
-  clear-south e = rw e
+  pub lack-south : k ≡ 2 → spacing s - c .b ≡ lack s k c
+  unfolding lack
+  lack-south e = rw e
 
-  pub clear-north : k ≡ 3 → leb (c .b + s .length + spacing s) (s .width) ≡ clear s k c
-  unfolding clear
-  clear-north e = rw e
+  pub lack-north : k ≡ 3 → c .b + s .length + spacing s - s .width ≡ lack s k c
+  unfolding lack
+  lack-north e = rw e
 
-  pub clear-east : k ≡ 4 → leb (c .a + s .length + spacing s) (s .width) ≡ clear s k c
-  unfolding clear
-  clear-east e = rw e
+  pub lack-east : k ≡ 4 → c .a + s .length + spacing s - s .width ≡ lack s k c
+  unfolding lack
+  lack-east e = rw e
 
-pub clear-none : (s : Settings) (k : ℕ) (c : Canister) → k ≢ 1 → k ≢ 2 → k ≢ 3 → k ≢ 4 → false ≡ clear s k c
-unfolding clear
-clear-none s zero c w so n e = refl
-clear-none s (suc zero) c w so n e = absurd (w refl)
-clear-none s (suc (suc zero)) c w so n e = absurd (so refl)
-clear-none s (suc (suc (suc zero))) c w so n e = absurd (n refl)
-clear-none s (suc (suc (suc (suc zero)))) c w so n e = absurd (e refl)
-clear-none s (suc (suc (suc (suc (suc k))))) c w so n e = refl
+pub lack-none : (s : Settings) (k : ℕ) (c : Canister) → k ≢ 1 → k ≢ 2 → k ≢ 3 → k ≢ 4 → 0 ≡ lack s k c
+unfolding lack
+lack-none s zero c w so n e = refl
+lack-none s (suc zero) c w so n e = absurd (w refl)
+lack-none s (suc (suc zero)) c w so n e = absurd (so refl)
+lack-none s (suc (suc (suc zero))) c w so n e = absurd (n refl)
+lack-none s (suc (suc (suc (suc zero)))) c w so n e = absurd (e refl)
+lack-none s (suc (suc (suc (suc (suc k))))) c w so n e = refl
+
+-- ---- the worst canister's: at first none, then one canister after another
+pub missing-zero : (s : Settings) (k : ℕ) (l : List Canister) → 0 ≡ missing s k (take 0 l)
+unfolding missing
+missing-zero s k l = refl
+
+missing-snoc : (s : Settings) (k : ℕ) (l : List Canister) (c : Canister) → missing s k (l ++ (c ∷ [])) ≡ max (missing s k l) (lack s k c)
+unfolding missing
+missing-snoc s k [] c = omega arith
+missing-snoc s k (x ∷ l) c = omega (arith, missing-snoc s k l c)
+
+pub missing-step : (s : Settings) (side : ℕ) (l : List Canister) (k : ℕ) (z : Canister) {w r : ℕ} → k < length l → w ≡ missing s side (take k l) → r ≡ lack s side (getD l k z) → max w r ≡ missing s side (take (k + 1) l)
+missing-step s side l k z h e q = rw (e, q, add-one, take-suc l k z h) (sym (missing-snoc s side (take k l) (getD l k z)))
+
+-- nothing is missing at the side none
+missing-none : (s : Settings) (l : List Canister) → missing s 0 l ≡ 0
+unfolding missing lack
+missing-none s [] = refl
+missing-none s (c ∷ l) = omega (arith, missing-none s l)
 
 -- ---- one tile
 module _ (s : Settings) (running : Bool) (token : ℕ) (l : List Canister) (p : ℕ → Bool) where
-  pub signal-stopped : running ≡ false → _≡_ {A = Signal} (record { token = token; grant = 0 }) (signalBy s running token l p)
+  pub signal-stopped : running ≡ false → _≡_ {A = Signal} (record { token = token; grant = 0; turn = token; missing = 0 }) (signalBy s running token l p)
   unfolding signalBy
   signal-stopped r = rw r
 
-  pub signal-none : running ≡ true → chosen p token ≡ 0 → _≡_ {A = Signal} (record { token = 0; grant = 0 }) (signalBy s running token l p)
+  pub signal-none : running ≡ true → chosen p token ≡ 0 → _≡_ {A = Signal} (record { token = 0; grant = 0; turn = 0; missing = 0 }) (signalBy s running token l p)
   unfolding signalBy signalWith
-  signal-none r e = rw (r, e)
+  signal-none r e = rw (r, e, missing-none s l)
 
   module _ (k : ℕ) (r : running ≡ true) (e : chosen p token ≡ k) (some : k ≢ 0) where
-    pub signal-grants : {next : ℕ} → next ≡ following p k → hasGap s k l ≡ true → _≡_ {A = Signal} (record { token = next; grant = k }) (signalBy s running token l p)
+    pub signal-grants : {next : ℕ} → next ≡ following p k → missing s k l ≡ 0 → _≡_ {A = Signal} (record { token = next; grant = k; turn = k; missing = 0 }) (signalBy s running token l p)
     unfolding signalBy signalWith
     signal-grants q g = rw (q, r, e, lt-ltb 0 k (omega arith), g)
 
-    pub signal-stays : hasGap s k l ≡ false → _≡_ {A = Signal} (record { token = k; grant = 0 }) (signalBy s running token l p)
+    pub signal-stays : {n : ℕ} → n ≡ missing s k l → n ≢ 0 → _≡_ {A = Signal} (record { token = k; grant = 0; turn = k; missing = n }) (signalBy s running token l p)
     unfolding signalBy signalWith
-    signal-stays g = rw (r, e, lt-ltb 0 k (omega arith), g)
+    signal-stays q g = rw (q, r, e, lt-ltb 0 k (omega arith), ne-eqb (missing s k l) 0 (λ z. g (q ∙ z)))

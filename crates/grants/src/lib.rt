@@ -2,12 +2,12 @@
 
 ghost use mathlib.Core.Path.{_≡_};
 ghost use mathlib.Core.Bool.{cond};
-ghost use Prim.Native.Nat.{_≤_, _<_};
+ghost use Prim.Native.Nat.{_-_, max, _≤_, _<_};
 ghost use lib.ListN.{take};
 ghost use Rattle.floor.specs.Sides as S;
 ghost use Rattle.floor.specs.Sides.{inSet};
 ghost use Rattle.floor.specs.Signal as G;
-ghost use Rattle.floor.specs.Signal.{requests, hasGap};
+ghost use Rattle.floor.specs.Signal.{requests};
 ghost use Rattle.grants.specs.TileSignal.{signalFrom};
 use floor::Canister;
 use floor::Members;
@@ -40,9 +40,23 @@ pub fn chosen(set: u8, token: Side) -> Side
     token.following(set)
 }
 
-// Whether a canister leaves the gap at a side.
-pub fn clear(s: Settings, side: Side, c: Canister) -> bool
-    ensures { λ r. ⌜ r ≡ G.clear s (side .code) c ⌝ }
+// x less y; nothing where y is more.
+fn less(x: u32, y: u32) -> u32
+    ensures { λ r. ⌜ r ≡ x - y ⌝ }
+{
+    if y < x { x - y } else { 0 }
+}
+
+// The greater of two.
+fn worse(x: u32, y: u32) -> u32
+    ensures { λ r. ⌜ r ≡ max x y ⌝ }
+{
+    if x < y { y } else { x }
+}
+
+// How many millimetres a canister is short of the gap at a side.
+pub fn lack(s: Settings, side: Side, c: Canister) -> u32
+    ensures { λ r. ⌜ r ≡ G.lack s (side .code) c ⌝ }
 {
     let length = s.length as u32;
     let spacing = length + s.gap as u32;
@@ -51,27 +65,27 @@ pub fn clear(s: Settings, side: Side, c: Canister) -> bool
     let b = c.b as u32;
     let k = side.code;
     match k {
-        1 => spacing <= a,
-        2 => spacing <= b,
-        3 => b + length + spacing <= width,
-        4 => a + length + spacing <= width,
-        _ => false,
+        1 => less(spacing, a),
+        2 => less(spacing, b),
+        3 => less(b + length + spacing, width),
+        4 => less(a + length + spacing, width),
+        _ => 0,
     }
 }
 
-// Whether every canister does.
-pub fn has_gap(s: Settings, side: Side, members: Members) -> bool
+// How many millimetres are missing at a side: the worst canister's, 0 for a gap.
+pub fn missing(s: Settings, side: Side, members: Members) -> u32
     requires { ⌜ members .count ≤ 16 ⌝ }
-    ensures { λ r. ⌜ r ≡ hasGap s (side .code) (take (members .count) (members .items)) ⌝ }
+    ensures { λ r. ⌜ r ≡ G.missing s (side .code) (take (members .count) (members .items)) ⌝ }
 {
     let n = members.count as usize;
     let items = members.items;
-    let mut ok = true;
+    let mut worst = 0u32;
     for k in 0usize..n {
-        let one = clear(s, side, items[k]);
-        ok = ok & one;
+        let one = lack(s, side, items[k]);
+        worst = worse(worst, one);
     }
-    ok
+    worst
 }
 
 // One tile, from what its four neighbours show. A stopped tile keeps its turn and grants nothing.
@@ -92,23 +106,34 @@ pub fn signal_tile(
         return Signal {
             token: token.code,
             grant: 0,
+            turn: token.code,
+            missing: 0,
         };
     }
     let set = requesting(west, south, north, east);
     let side = chosen(set, token);
     if side.code == 0 {
-        return Signal { token: 0, grant: 0 };
+        return Signal {
+            token: 0,
+            grant: 0,
+            turn: 0,
+            missing: 0,
+        };
     }
-    let free = has_gap(s, side, members);
-    if free {
+    let short = missing(s, side, members);
+    if short == 0 {
         let after = side.following(set);
         return Signal {
             token: after.code,
             grant: side.code,
+            turn: side.code,
+            missing: 0,
         };
     }
     Signal {
         token: side.code,
         grant: 0,
+        turn: side.code,
+        missing: short,
     }
 }

@@ -335,3 +335,40 @@ cat-all P (suc n) f t l h = go (ℕ-discrete t n) (cat-all P n f t)
     go : Dec (t ≡ n) → (t < n → All P (cat n f) → All P (f t)) → All P (f t)
     go (yes e) ih = subst (λ k. All P (f k)) (sym e) (all-left P (f n) (cat n f) h)
     go (no e) ih = ih (omega arith) (all-right P (f n) (cat n f) h)
+
+-- ---- members
+pub mem-map : {A B : Type 0} (f : A → B) {x : A} {l : List A} → List·Memᴰ x l → List·Memᴰ (f x) (map f l)
+mem-map f (List·Memᴰ·head e) = List·Memᴰ·head (ap f e)
+mem-map f (List·Memᴰ·tail h) = List·Memᴰ·tail (mem-map f h)
+
+pub mem-perm : {A : Type 0} {l k : List A} → List·Permᴰ l k → (x : A) → List·Memᴰ x l → List·Memᴰ x k
+mem-perm {A} {l} {k} p x h = all-mem (λ y. List·Memᴰ y k) h (all-perm (λ y. List·Memᴰ y k) (Permᴰ·symm p) (all-of (λ y. List·Memᴰ y k) k (λ y q. q)))
+
+pub mem-keep : {A : Type 0} (p : A → Bool) {x : A} (l : List A) → p x ≡ true → List·Memᴰ x l → List·Memᴰ x (keep p l)
+unfolding keep
+mem-keep p (y ∷ l) e (List·Memᴰ·head q) = rw (ap p (sym q) ∙ e) (List·Memᴰ·head q)
+mem-keep {A} p {x} (y ∷ l) e (List·Memᴰ·tail h) = go (p y) (mem-keep p l e h)
+  where
+    go : (b : Bool) → List·Memᴰ x (keep p l) → List·Memᴰ x (cond b (y ∷ keep p l) (keep p l))
+    go true k = List·Memᴰ·tail k
+    go false k = k
+
+-- an element of the first list and one of the second
+pub pairs-between : {A : Type 0} (R : A → A → Type 0) (l k : List A) → Pairs R (l ++ k) → {x y : A} → List·Memᴰ x l → List·Memᴰ y k → R x y
+pairs-between R (z ∷ l) k h {x} {y} (List·Memᴰ·head e) q = subst (λ w. R w y) (sym e) (all-mem (R z) q (all-right (R z) l k (h .0)))
+pairs-between R (z ∷ l) k h (List·Memᴰ·tail p) q = pairs-between R l k (h .1) p q
+
+pub mem-cat : {A : Type 0} (n : ℕ) (f : ℕ → List A) (t : ℕ) → t < n → {x : A} → List·Memᴰ x (f t) → List·Memᴰ x (cat n f)
+mem-cat n f t h {x} p = all-mem (λ y. List·Memᴰ y (cat n f)) p (cat-all (λ y. List·Memᴰ y (cat n f)) n f t h (all-of (λ y. List·Memᴰ y (cat n f)) (cat n f) (λ y q. q)))
+
+-- elements of two of the lists
+pub cat-between : {A : Type 0} (R : A → A → Type 0) → ((x y : A) → R x y → R y x) → (n : ℕ) (f : ℕ → List A) (t u : ℕ) → t < n → u < n → t ≢ u → Pairs R (cat n f) → {x y : A} → List·Memᴰ x (f t) → List·Memᴰ y (f u) → R x y
+unfolding cat
+cat-between R sy zero f t u ht hu ne P p q = absurd (omega arith)
+cat-between R sy (suc n) f t u ht hu ne P {x} {y} p q = go (ℕ-discrete t n) (ℕ-discrete u n) (λ a b. cat-between R sy n f t u a b ne (pairs-right R (f n) (cat n f) P) p q)
+  where
+    go : Dec (t ≡ n) → Dec (u ≡ n) → (t < n → u < n → R x y) → R x y
+    go (yes a) (yes b) ih = absurd (ne (a ∙ sym b))
+    go (yes a) (no b) ih = pairs-between R (f n) (cat n f) P (subst (λ i. List·Memᴰ x (f i)) a p) (mem-cat n f u (omega arith) q)
+    go (no a) (yes b) ih = sy y x (pairs-between R (f n) (cat n f) P (subst (λ i. List·Memᴰ y (f i)) b q) (mem-cat n f t (omega arith) p))
+    go (no a) (no b) ih = ih (omega arith) (omega arith)

@@ -256,3 +256,27 @@ meets-any x y n h = go (anyOf (bit y) (bitsBelow x n)) refl
     go true e = ap not (ne-eqb (bitAnd x y) 0 (λ z. not-both e (none-any (bit y) (bitsBelow x n) (meet z))))
     go false e =
         ap not (eq-eqb (bitAnd x y) 0 (sym small ∙ no-bits (bitAnd x y) n (λ t l. both-bit x y t ∙ apart e t l (bit x t) refl)))
+
+-- ---- the place of a number in the list: the numbers before it
+bits-split : (x n t : ℕ) → t < n → bit x t ≡ true → (r : List ℕ) × (bitsBelow x n ≡ bitsBelow x t ++ (t ∷ r))
+unfolding bitsBelow
+bits-split x zero t h e = absurd (omega arith)
+bits-split x (suc n) t h e = go (ℕ-discrete t n) (λ l. bits-split x n t l e)
+  where
+    more : List ℕ
+    more = cond (bit x n) (n ∷ []) []
+
+    go : Dec (t ≡ n) → (t < n → (r : List ℕ) × (bitsBelow x n ≡ bitsBelow x t ++ (t ∷ r))) → (r : List ℕ) × (bitsBelow x n ++ cond (bit x n) (n ∷ []) [] ≡ bitsBelow x t ++ (t ∷ r))
+    go (yes q) ih = ([], rw (sym q, e))
+    go (no q) ih =
+        let s = ih (omega arith) in
+        (s .0 ++ more, ap (λ (l : List ℕ). l ++ more) (s .1) ∙ append-assoc (bitsBelow x t) (t ∷ s .0) more)
+
+map-place : {A : Type 0} (f : ℕ → A) (z : A) (l : List ℕ) (t : ℕ) (r : List ℕ) → getD (map f (l ++ (t ∷ r))) (length l) z ≡ f t
+map-place f z [] t r = refl
+map-place f z (y ∷ l) t r = map-place f z l t r
+
+pub bits-place : {A : Type 0} (f : ℕ → A) (z : A) (x n t : ℕ) → t < n → bit x t ≡ true → getD (map f (bitsBelow x n)) (length (bitsBelow x t)) z ≡ f t
+bits-place f z x n t h e =
+    let s = bits-split x n t h e in
+    ap (λ (l : List ℕ). getD (map f l) (length (bitsBelow x t)) z) (s .1) ∙ map-place f z (bitsBelow x t) t (s .0)

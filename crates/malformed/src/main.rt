@@ -85,6 +85,8 @@ fn empty_delivery(d: Delivery) -> bool {
 
 fn empty_report(r: Report) -> bool {
     let grants = r.grants;
+    let reasons = r.reasons;
+    let missing = r.missing;
     let d = r.deliveries;
     let mut all = empty_delivery(d[0])
         & empty_delivery(d[1])
@@ -92,7 +94,7 @@ fn empty_report(r: Report) -> bool {
         & empty_delivery(d[3]);
     let mut k: usize = 0;
     while k < 64 {
-        all = all & (grants[k] == 0);
+        all = all & (grants[k] == 0) & (reasons[k] == 0) & (missing[k] == 0);
         k += 1;
     }
     all

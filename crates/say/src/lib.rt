@@ -359,12 +359,59 @@ pub fn cell(at: u8, t: Tile) {
     }
 }
 
+// What a reason says.
+fn reason(n: u8, lack: u16) {
+    match n {
+        1 => text(b" stood: stopped"),
+        3 => text(b" stood: no arrow"),
+        4 => text(b" stood: the turn ahead was another's"),
+        5 => {
+            text(b" stood: no gap ahead, ");
+            number(lack as u64);
+            text(b" mm missing");
+        }
+        _ => text(b" moved"),
+    }
+}
+
+// Why tile t stood, one line; nothing of an empty tile, nor where no tile is. Gives whether there was a line.
+fn why_tile(t: usize, n: u8, lack: u16) -> bool {
+    if (n == 0) | (n == 2) {
+        return false;
+    }
+    text(b"      tile ");
+    number(t as u64);
+    reason(n, lack);
+    text(b"\n");
+    true
+}
+
+// Why the tiles stood in round `at`, by its report.
+pub fn why(at: u64, reasons: [u8; 64], missing: [u16; 64]) {
+    text(b"why: in round ");
+    number(at);
+    text(b"\n");
+    let mut some = false;
+    let mut t: usize = 0;
+    while t < 64 {
+        let told = why_tile(t, reasons[t], missing[t]);
+        some = some | told;
+        t += 1;
+    }
+    if !some {
+        text(b"      all tiles were empty\n");
+    }
+}
+
 pub fn help() {
     text(b"help: fresh W H HOPPERS FILL U l r v   (FILL: all, none, or tiles as 0,2,3)\n");
     text(b"      HOPPER: a tile, or up to four as 0,3\n");
     text(b"      fresh! with the same words: also where the floor holds canisters\n");
     text(b"      book TILE NUMBER A B | stop TILE | repair TILE | round | rounds N | read TILE\n");
     text(b"      show | help | quit | # a remark\n");
+    text(
+        b"      why: of each tile that wasn't empty in the last round, that it moved or why it stood\n",
+    );
     text(b"      tile = column x H + row, from the south-west; rounds takes at most 100000\n");
     text(b"      show: north row first; each tile as number:canisters arrow distance\n");
     text(b"      XX stopped, - no arrow, -- no distance\n");

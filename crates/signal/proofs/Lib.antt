@@ -1,3 +1,4 @@
 pub mod PassLaws
+pub mod ReasonLaws
 pub mod SignalFloor
 pub mod AfterRoute

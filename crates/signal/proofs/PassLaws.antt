@@ -1,9 +1,12 @@
 -- Signal as a pass: a tile's signal from what was read, and the grants given one after another.
-use mathlib.Core.Path.{_≡_, refl, _∙_}
+use mathlib.Core.Path.{_≡_, sym, ap, _∙_}
 use mathlib.Core.List.{List}
-use Prim.Native.Nat.{ℕ, suc, _+_, _<_}
+use Prim.Native.Nat.{ℕ, suc, _+_, _≤_, _<_}
 use native.Mathlib.Omega.{arith}
 use native.Mathlib.Decide.{decLe}
+use lib.Dec.{ltb}
+use borrow.Author.Tests.{lt-ltb, le-ltb}
+use mathlib.Core.Bool.{cond}
 use lib.ListN.{getD, set, take, replicate, length-set, getD-replicate, length-replicate, List·getD-eq-default}
 use Rattle.laws.specs.Tables.{upto-turn, rest-turn}
 use Rattle.floor.specs.declared.Canister.{Canister}
@@ -35,13 +38,34 @@ zeros-from n i = go (decLe (suc i) n)
     go (yes h) = getD-replicate n i 0 0 h
     go (no h) = List·getD-eq-default (replicate n 0) 0 (omega (arith, length-replicate {A = ℕ} n 0))
 
-module _ (g : ℕ → ℕ) where
-  pub granted-none : Granted 0 g (replicate 64 0)
-  granted-none = (refl, λ i h. absurd (omega arith), λ i h. zeros-from 64 i)
+module _ (N : ℕ) (g : ℕ → ℕ) where
+  pub granted-none : Granted N 0 g (replicate N 0)
+  granted-none = (length-replicate {A = ℕ} N 0, λ i h. absurd (omega arith), λ i h. zeros-from N i)
 
-  pub granted-turn : (gs : List ℕ) (t v : ℕ) → t < 64 → Granted t g gs → v ≡ g t → Granted (t + 1) g (set gs t v)
+  pub granted-turn : (gs : List ℕ) (t v : ℕ) → t < N → Granted N t g gs → v ≡ g t → Granted N (t + 1) g (set gs t v)
   granted-turn gs t v h r e =
       (length-set gs t v ∙ r .0, upto-turn t g 0 gs v (omega (arith, r .0)) (r .1) e, rest-turn t (λ _. 0) 0 gs v (r .2))
 
-  pub granted-end : (gs : List ℕ) (t n : ℕ) → t ≡ n → Granted t g gs → Granted n g gs
+  -- where g gives 0, nothing needs to be written
+  pub granted-skip : (gs : List ℕ) (t : ℕ) → Granted N t g gs → 0 ≡ g t → Granted N (t + 1) g gs
+  granted-skip gs t r e = (r .0, λ i h. go i h (decLe (suc i) t), λ i h. r .2 i (omega arith))
+    where
+      go : (i : ℕ) → i < t + 1 → Dec (i < t) → getD gs i 0 ≡ g i
+      go i h (yes l) = r .1 i l
+      go i h (no l) =
+          let q : i ≡ t = omega arith in
+          r .2 i (omega arith) ∙ e ∙ ap g (sym q)
+
+  pub granted-end : (gs : List ℕ) (t n : ℕ) → t ≡ n → Granted N t g gs → Granted N n g gs
   granted-end gs t n e r = (r .0, λ i h. r .1 i (omega (arith, e)), λ i h. r .2 i (omega (arith, e)))
+
+  -- what is read of them, beyond the last one too
+  pub granted-within : (gs : List ℕ) (n : ℕ) → Granted N n g gs → (u : ℕ) → getD gs u 0 ≡ within n g 0 u
+  unfolding within
+  granted-within gs n r u = go (decLe (suc u) n)
+    where
+      go : Dec (u < n) → getD gs u 0 ≡ cond (ltb u n) (g u) 0
+      go (yes h) = r .1 u h ∙ rw (lt-ltb u n h)
+      go (no h) =
+          let q : n ≤ u = omega arith in
+          r .2 u q ∙ rw (le-ltb u n q)

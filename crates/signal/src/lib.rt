@@ -1,8 +1,9 @@
 // Signal, the second step of a round: which side each tile grants, and its new turn.
 
 ghost use mathlib.Core.Path.{_≡_};
-ghost use mathlib.Core.Bool.{true};
-ghost use Prim.Native.Nat.{_≤_};
+ghost use mathlib.Core.Bool.{true, cond};
+ghost use lib.Dec.{eqb};
+ghost use Prim.Native.Nat.{_^_, _≤_, _<_};
 ghost use Rattle.laws.specs.Define.{tab};
 ghost use Rattle.laws.specs.Tables.{Upto};
 ghost use Rattle.floor.specs.Settings.{total};
@@ -10,9 +11,10 @@ ghost use Rattle.floor.specs.Memory.{retiled, view, pack};
 ghost use Rattle.floor.specs.Well.{wellFormed};
 ghost use Rattle.floor.specs.Route as R;
 ghost use Rattle.floor.specs.Signal as G;
+ghost use Rattle.floor.specs.Reasons as W;
 ghost use Rattle.floor.specs.Signal.{shownNext};
 ghost use Rattle.route.specs.Routed.{Ranged, Redone, within};
-ghost use Rattle.signal.specs.Signalling.{Ready, Roomy, Granted, shownIn, tokened, tileAt, grantAt};
+ghost use Rattle.signal.specs.Signalling.{Ready, Roomy, Slight, Granted, shownIn, tokened, tileAt, grantAt, ownReason, aheadReason, reasonAt, besideAt};
 use floor::Canister;
 use floor::Floor;
 use floor::Members;
@@ -22,10 +24,13 @@ use floor::Tile;
 use grants::signal_tile;
 use route::route_pass;
 
-// The tiles with their new tokens, and every tile's grant.
+// What Route and Signal give of a floor: the tiles with their new tokens, every tile's grant, why each tile stood, 6 where it
+// moved, and the millimetres missing beside 5.
 pub struct Signals {
     pub tiles: [Tile; 64],
     pub grants: [u8; 64],
+    pub reasons: [u8; 64],
+    pub missing: [u16; 64],
 }
 
 // What stands in an unused place.
@@ -71,15 +76,57 @@ fn with_token(tile: Tile, k: u8) -> Tile
     }
 }
 
-// All tiles together. A tile's sixteen places are read in this loop: the large array is handed to no helper.
+// Why a tile stood, as far as it tells by itself: stopped, empty, no arrow; else 0.
+fn own_reason(tile: Tile) -> u8
+    ensures { λ r. ⌜ r ≡ ownReason tile ⌝ }
+{
+    if tile.running != 1 {
+        return 1;
+    }
+    if tile.count == 0 {
+        return 2;
+    }
+    if tile.next.code == 0 {
+        return 3;
+    }
+    0
+}
+
+// Why a tile with an arrow stood, from the turn of the tile that the arrow leads to and the millimetres missing there; 6
+// where it moved.
+fn ahead_reason(next: u8, turn: u8, lack: u32) -> u8
+    ensures { λ r. ⌜ r ≡ aheadReason next turn lack ⌝ }
+{
+    if next as u32 + turn as u32 != 5 {
+        return 4;
+    }
+    if 0 < lack {
+        return 5;
+    }
+    6
+}
+
+// The millimetres beside a reason.
+fn beside(why: u8, lack: u32) -> u16
+    requires { ⌜ lack < 2 ^ 16 ⌝ }
+    ensures { λ r. ⌜ r ≡ cond (eqb why 5) lack 0 ⌝ }
+{
+    if why == 5 { lack as u16 } else { 0 }
+}
+
+// All tiles together. A tile's sixteen places are read in the first loop: the large array is handed to no helper. In the
+// second each tile tells why it stood, by itself or by the tile ahead of it, from that one's turn before it passed on and the
+// millimetres missing there; at the number of no tile both are none.
 pub fn signal_pass(s: Settings, tiles: [Tile; 64], canisters: [Canister; 1024]) -> Signals
-    requires { ⌜ Ranged s × Ready s tiles × Roomy s tiles ⌝ }
-    ensures { λ r. ⌜ Redone (total s) (tileAt s tiles canisters) tiles (r .tiles) × Granted (total s) (grantAt s tiles canisters) (r .grants) ⌝ }
+    requires { ⌜ Ranged s × Ready s tiles × Roomy s tiles × Slight s tiles canisters ⌝ }
+    ensures { λ r. ⌜ Redone (total s) (tileAt s tiles canisters) tiles (r .tiles) × Granted 64 (total s) (grantAt s tiles canisters) (r .grants) × Granted 64 (total s) (reasonAt s tiles canisters) (r .reasons) × Granted 64 (total s) (besideAt s tiles canisters) (r .missing) ⌝ }
 {
     let all = s.columns as usize * s.rows as usize;
     let show = shown(s, tiles);
     let mut out = tiles;
     let mut grants = [0u8; 64];
+    let mut turns = [0u8; 65];
+    let mut lacks = [0u32; 65];
     for t in 0usize..all {
         let mut items = [UNUSED; 16];
         for k in 0usize..16 {
@@ -98,17 +145,40 @@ pub fn signal_pass(s: Settings, tiles: [Tile; 64], canisters: [Canister; 1024]) 
         let one = signal_tile(s, tile.running, token, members, west, south, north, east);
         out[t] = with_token(tile, one.token);
         grants[t] = one.grant;
+        turns[t] = one.turn;
+        lacks[t] = one.missing;
+    }
+    let mut reasons = [0u8; 64];
+    let mut missing = [0u16; 64];
+    let mut i: usize = 0;
+    while i < all {
+        let tile = tiles[i];
+        let own = own_reason(tile);
+        if own != 0 {
+            reasons[i] = own;
+            i += 1;
+        } else {
+            let next = tile.next;
+            let ahead = next.neighbour(s, i);
+            let lack = lacks[ahead];
+            let why = ahead_reason(next.code, turns[ahead], lack);
+            reasons[i] = why;
+            missing[i] = beside(why, lack);
+            i += 1;
+        }
     }
     Signals {
         tiles: out,
         grants: grants,
+        reasons: reasons,
+        missing: missing,
     }
 }
 
 // Route, then Signal: what they give of a floor, whose canisters stay.
 pub fn turned(f: Floor) -> Signals
     requires { ⌜ wellFormed f ≡ true ⌝ }
-    ensures { λ r. ⌜ (retiled f (r .tiles) ≡ pack (G.signal (R.route (view f)))) × (r .grants ≡ tab 64 (G.grantOf (R.route (view f)))) ⌝ }
+    ensures { λ r. ⌜ (retiled f (r .tiles) ≡ pack (G.signal (R.route (view f)))) × (r .grants ≡ tab 64 (G.grantOf (R.route (view f)))) × (r .reasons ≡ tab 64 (W.reasonOf (R.route (view f)))) × (r .missing ≡ tab 64 (W.missingOf (R.route (view f)))) ⌝ }
 {
     let s = f.settings;
     let tiles = f.tiles;

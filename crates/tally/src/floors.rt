@@ -15,6 +15,10 @@ fn from_byte(x: u8) -> u64 {
     x as u64
 }
 
+fn from_short(x: u16) -> u64 {
+    x as u64
+}
+
 // "U 100, l 30, r 10", travel v, with the given fill set.
 pub fn settings(columns: u8, rows: u8, hopper: u8, sources: u64, travel: u16) -> Settings {
     Settings {
@@ -121,4 +125,21 @@ pub fn grant(f: Floor, n: u8) -> u64 {
     let answer = calls::round(after);
     let report = answer.report;
     from_byte(report.grants[1])
+}
+
+// Why tiles 0, 1 and 2 stood in the round after n rounds, then the millimetres missing beside each.
+pub fn stood(f: Floor, n: u8) -> [u64; 6] {
+    let after = rounds(f, n);
+    let answer = calls::round(after);
+    let report = answer.report;
+    let why = report.reasons;
+    let lack = report.missing;
+    [
+        from_byte(why[0]),
+        from_byte(why[1]),
+        from_byte(why[2]),
+        from_short(lack[0]),
+        from_short(lack[1]),
+        from_short(lack[2]),
+    ]
 }

@@ -1,4 +1,4 @@
-// The trials: document 01's small floors, floors with several hoppers and a full floor, through the compiled calls.
+// The trials: document 01's small floors, those of [6], floors with several hoppers and a full floor, through the compiled calls.
 mod full;
 mod hoppers;
 mod small;

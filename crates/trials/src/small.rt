@@ -158,6 +158,32 @@ fn ties_and_turns(t: Tally) -> Tally {
     )
 }
 
+// Document 02's [6].
+fn reasons(t: Tally) -> Tally {
+    let f = floors::booked(floors::fresh(3, 1, 1, 5), 0, 5, 0, 0);
+    let both = floors::booked(f, 2, 6, 0, 0);
+    let waited = trial(
+        t,
+        b"W 3, hopper 1: tile 0 moves, tile 2 waits for its turn",
+        floors::stood(both, 0),
+        [6, 2, 4, 0, 0, 0],
+    );
+    let g = floors::booked(floors::fresh(3, 1, 2, 3), 0, 5, 0, 0);
+    let row = floors::booked(g, 1, 6, 0, 0);
+    let early = trial(
+        waited,
+        b"W 3, hopper 2: tile 0 has no arrow yet",
+        floors::stood(row, 0),
+        [3, 6, 2, 0, 0, 0],
+    );
+    trial(
+        early,
+        b"then no gap, 20 missing",
+        floors::stood(row, 1),
+        [5, 6, 2, 20, 0, 0],
+    )
+}
+
 // "The fresh W 2 floor has an image of 64 bytes; an empty image is 9."
 fn image(t: Tally) -> Tally {
     let f = floors::fresh(2, 1, 1, 1);
@@ -188,5 +214,6 @@ pub fn all(t: Tally) -> Tally {
     let d = westward(c);
     let e = distances(d);
     let f = ties_and_turns(e);
-    image(f)
+    let g = reasons(f);
+    image(g)
 }

@@ -10,9 +10,12 @@ use floor::Settings;
 use parse::Numbers;
 use parse::Sources;
 
-// The floor, how many lines were read, how many rounds it went, whether a fresh has made it, whether to go on.
+// The floor, what the last round's report says of each tile, how many lines were read, how many rounds the floor went, whether
+// a fresh has made it, whether to go on.
 pub struct Session {
     pub floor: Floor,
+    pub reasons: [u8; 64],
+    pub missing: [u16; 64],
     pub lines: u64,
     pub rounds: u64,
     pub made: bool,
@@ -37,6 +40,8 @@ pub fn begin() -> Session {
     let floor = none.floor;
     Session {
         floor: floor,
+        reasons: [0; 64],
+        missing: [0; 64],
         lines: 0,
         rounds: 0,
         made: false,
@@ -206,10 +211,14 @@ fn step(s: Session) -> Stepped {
     let answer = calls::round(floor);
     let report = answer.report;
     let deliveries = report.deliveries;
+    let reasons = report.reasons;
+    let missing = report.missing;
     let mut next = s;
     if answer.refusal == 0 {
         let moved = answer.floor;
         next.floor = moved;
+        next.reasons = reasons;
+        next.missing = missing;
         next.rounds = std::num::wrapping_add_u64(next.rounds, 1);
     }
     Stepped {
@@ -328,6 +337,21 @@ fn show(s: Session, line: &[u8]) -> Session {
     s
 }
 
+// Why each tile stood in the last round.
+fn why(s: Session) -> Session {
+    if !s.made {
+        return refused(s, b"why", 30);
+    }
+    if s.rounds == 0 {
+        say::text(b"why: no round yet\n");
+        return s;
+    }
+    let reasons = s.reasons;
+    let missing = s.missing;
+    say::why(s.rounds, reasons, missing);
+    s
+}
+
 // Obeys one line.
 pub fn obey(s: Session, line: &[u8]) -> Session {
     if parse::is(line, 0, b"fresh") {
@@ -363,6 +387,9 @@ pub fn obey(s: Session, line: &[u8]) -> Session {
 fn rest(s: Session, line: &[u8]) -> Session {
     if !parse::ended(line, 1) {
         return cannot(s, line);
+    }
+    if parse::is(line, 0, b"why") {
+        return why(s);
     }
     if parse::is(line, 0, b"help") {
         say::help();

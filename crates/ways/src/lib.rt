@@ -122,9 +122,15 @@ pub fn raise(c: Counters, d: [Delivery; 4]) -> Counters
 }
 
 // A round's answer, the counters raised by those that came.
-pub fn finish(f: Floor, came: Takings, grants: [u8; 64]) -> Rounded
+pub fn finish(
+    f: Floor,
+    came: Takings,
+    grants: [u8; 64],
+    reasons: [u8; 64],
+    missing: [u16; 64],
+) -> Rounded
     requires { ⌜ ((k : ℕ) → k < 4 → getD (f .counters .delivered) k 0 + getD (came .deliveries) k noDelivery .count < 2 ^ 32) ⌝ }
-    ensures { λ r. ⌜ r ≡ record { refusal = 0; floor = withCame f (came .deliveries); report = record { grants = grants; deliveries = came .deliveries } } ⌝ }
+    ensures { λ r. ⌜ r ≡ record { refusal = 0; floor = withCame f (came .deliveries); report = record { grants = grants; reasons = reasons; missing = missing; deliveries = came .deliveries } } ⌝ }
 {
     let d = came.deliveries;
     let old = f.counters;
@@ -133,6 +139,8 @@ pub fn finish(f: Floor, came: Takings, grants: [u8; 64]) -> Rounded
     out.counters = counters;
     let report = Report {
         grants: grants,
+        reasons: reasons,
+        missing: missing,
         deliveries: d,
     };
     Rounded {

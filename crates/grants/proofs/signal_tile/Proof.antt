@@ -15,7 +15,7 @@ use Rattle.grants.proofs.signal_tile.Reads as reads
 use Rattle.grants.proofs.signal_tile.Lts as lts
 use Rattle.floor.proofs.Side.following.Reads as following-reads
 use Rattle.grants.proofs.chosen.Reads as chosen-reads
-use Rattle.grants.proofs.has_gap.Reads as has-gap-reads
+use Rattle.grants.proofs.missing.Reads as missing-reads
 use Rattle.grants.proofs.requesting.Reads as requesting-reads
 
 returns : tie.Need-returns
@@ -40,8 +40,8 @@ returns-2 c =
     let e : S.chosen p (g.token .code) ≡ c .before .before .chosen .result .code = sym (c .before .before .chosen .ensures ∙ ap (λ (p : ℕ → Bool). S.chosen p (g.token .code)) (c .before .before .before .requesting .ensures .1)) in
     signal-none g.s (eqb g.running 1) (g.token .code) l p r (e ∙ c .if2 .taken)
 
-has-gap-requires : tie.Need-has-gap-requires
-has-gap-requires c κs = c .before .before .before .before .before .pre .1
+missing-requires : tie.Need-missing-requires
+missing-requires c κs = c .before .before .before .before .before .pre .1
 
 following-requires : tie.Need-following-requires
 following-requires c κs =
@@ -57,7 +57,7 @@ returns-3 c =
     let k = c .before .before .before .before .before .chosen .result .code in
     let q = c .before .before .before .before .before .before .requesting .ensures .1 in
     let e : S.chosen p (g.token .code) ≡ k = sym (c .before .before .before .before .before .chosen .ensures ∙ ap (λ (p : ℕ → Bool). S.chosen p (g.token .code)) q) in
-    signal-grants g.s (eqb g.running 1) (g.token .code) l p k r e (c .before .before .before .if2 .left) (c .following .ensures ∙ ap (λ (p : ℕ → Bool). S.following p k) q) (sym (c .before .before .has-gap .ensures) ∙ c .before .if3 .taken)
+    signal-grants g.s (eqb g.running 1) (g.token .code) l p k r e (c .before .before .before .if2 .left) (c .following .ensures ∙ ap (λ (p : ℕ → Bool). S.following p k) q) (sym (c .before .before .missing .ensures) ∙ c .before .if3 .taken)
 
 returns-4 : tie.Need-returns-4
 returns-4 c =
@@ -68,7 +68,7 @@ returns-4 c =
     let k = c .before .before .before .before .chosen .result .code in
     let q = c .before .before .before .before .before .requesting .ensures .1 in
     let e : S.chosen p (g.token .code) ≡ k = sym (c .before .before .before .before .chosen .ensures ∙ ap (λ (p : ℕ → Bool). S.chosen p (g.token .code)) q) in
-    signal-stays g.s (eqb g.running 1) (g.token .code) l p k r e (c .before .before .if2 .left) (sym (c .before .has-gap .ensures) ∙ c .if3 .left)
+    signal-stays g.s (eqb g.running 1) (g.token .code) l p k r e (c .before .before .if2 .left) (c .before .missing .ensures) (c .if3 .left)
 
 pub signal-tile-spec : {M : Type 1} → statement M
 signal-tile-spec =
@@ -78,7 +78,7 @@ signal-tile-spec =
     requesting-requires
     chosen-requires
     returns-2
-    has-gap-requires
+    missing-requires
     following-requires
     returns-3
     returns-4)

@@ -9,10 +9,10 @@ use Rattle.malformed.proofs.empty_report.Lts as lts
 use Rattle.malformed.proofs.empty_delivery.Reads as empty-delivery-reads
 
 abbrev Inv-loop : tie.InvT-loop
-Inv-loop grants all₀ k₀ all k = k ≤ 64
+Inv-loop grants reasons missing all₀ k₀ all k = k ≤ 64
 
 abbrev μ-loop : tie.MeasureT-loop
-μ-loop grants all₀ k₀ all k = 64 - k
+μ-loop grants reasons missing all₀ k₀ all k = 64 - k
 
 array-copy-out-empty-delivery : tie.Need-array-copy-out-empty-delivery Inv-loop μ-loop
 array-copy-out-empty-delivery c = search needs
@@ -44,6 +44,15 @@ loop-holds c = search needs
 array-read-all : tie.Need-array-read-all Inv-loop μ-loop
 array-read-all c = search needs
 
+array-read-all-2 : tie.Need-array-read-all-2 Inv-loop μ-loop
+array-read-all-2 c = search needs
+
+mul-all : tie.Need-mul-all Inv-loop μ-loop
+mul-all c = search needs
+
+array-read-all-3 : tie.Need-array-read-all-3 Inv-loop μ-loop
+array-read-all-3 c = search needs
+
 add-k : tie.Need-add-k Inv-loop μ-loop
 add-k c = search needs
 
@@ -72,6 +81,9 @@ empty-report-spec =
     empty-delivery-requires-4
     loop-holds
     array-read-all
+    array-read-all-2
+    mul-all
+    array-read-all-3
     add-k
     loop-less
     loop-again

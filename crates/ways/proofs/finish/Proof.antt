@@ -18,7 +18,7 @@ returns c =
     (λ (x : Counters). record {
       refusal = 0;
       floor = record { settings = f .settings; counters = x; tiles = f .tiles; canisters = f .canisters };
-      report = record { grants = a .grants; deliveries = a .came .deliveries };
+      report = record { grants = a .grants; reasons = a .reasons; missing = a .missing; deliveries = a .came .deliveries };
     })
     (c .raise .ensures)
 

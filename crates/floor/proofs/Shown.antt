@@ -1,0 +1,103 @@
+-- What a well-formed floor answers is computed on its value alone: no memory is laid out or checked between the calls. The tables of Trials, Samples and Instances speak of floors in memory, and are computed so.
+use mathlib.Core.Path.{_≡_, refl, ap, _∙_}
+use mathlib.Core.Bool.{Bool, true, false, cond}
+use mathlib.Core.List.{List, []}
+use Prim.Native.Nat.{ℕ, _<_}
+use native.Mathlib.Omega.{arith}
+use lib.Dec.{eqb}
+use lib.ListN.{getD, replicate}
+use Rattle.laws.specs.Define.{tab, refusal}
+use Rattle.laws.specs.Every.{All}
+use Rattle.floor.specs.declared.Floor.{Floor}
+use Rattle.floor.specs.declared.Reading.{Reading}
+use Rattle.floor.specs.Model.{Model, tileOf, withTile}
+use Rattle.floor.specs.Memory.{zeroTile, zeroCanister, view, head, pack}
+use Rattle.floor.specs.Well.{wellFormed}
+use Rattle.floor.specs.Calls.{refusalOf, answer, bookTests, booked, bookAnswer, stopTests, stopped, stopAnswer, repairTests, repaired, repairAnswer, afterRound, reportOf, roundAnswer, readTests, readAnswer}
+use Rattle.floor.specs.Demand3.{Call, book, stop, repair, round, Typed, outcome}
+use Rattle.floor.proofs.Sound.{Sound}
+use Rattle.floor.proofs.Pack.{well-sound}
+use Rattle.floor.proofs.Capacity.{view-packed}
+use Rattle.floor.proofs.Calls.{Accepted, book-keeps, stop-keeps, repair-keeps}
+use Rattle.floor.proofs.Lists.{passed, round-accepted, round-report, view-round, call-keeps}
+
+-- f is well formed and its value is m
+pub record Shows (f : Floor) (m : Model) : Type 0 where
+  pub well : wellFormed f ≡ true
+  pub value : view f ≡ m
+
+-- ---- a call on a value: its tests but the first, 30, and what it makes of the value
+unfoldable pub testsOf : Model → Call → List (Bool × ℕ)
+testsOf m (book t c) = bookTests m t c
+testsOf m (stop t) = stopTests m t
+testsOf m (repair t) = repairTests m t
+testsOf m round = []
+
+unfoldable pub changed : Model → Call → Model
+changed m (book t c) = booked m t c
+changed m (stop t) = withTile m t (stopped (tileOf m t))
+changed m (repair t) = withTile m t (repaired (tileOf m t))
+changed m round = afterRound m
+
+unfoldable pub refusalBy : Model → Call → ℕ
+refusalBy m c = refusal (testsOf m c)
+
+unfoldable pub valueBy : Model → Call → Model
+valueBy m c = cond (eqb (refusalBy m c) 0) (changed m c) m
+
+unfoldable pub readBy : Model → ℕ → Reading
+readBy m t =
+    let n = refusal (readTests m t) in
+    let x = tileOf m t in
+    record { refusal = n; tile = cond (eqb n 0) (head x) zeroTile; members = cond (eqb n 0) (tab 16 (λ k. getD (x .members) k zeroCanister)) (replicate 16 zeroCanister) }
+
+module _ (f : Floor) (w : wellFormed f ≡ true) where
+  S : Sound (view f)
+  S = well-sound f w
+
+  plain : (tests : List (Bool × ℕ)) → refusalOf f tests ≡ refusal tests
+  unfolding refusalOf refusal
+  plain tests = rw w
+
+  after : (tests : List (Bool × ℕ)) → All (λ x. 0 < x .1) tests → (n : Model) → (Accepted tests → Sound n)
+      → view (cond (eqb (refusalOf f tests) 0) (pack n) f) ≡ cond (eqb (refusal tests) 0) n (view f)
+  after tests pos n sn = go (eqb (refusalOf f tests) 0) refl ∙ ap (λ (k : ℕ). cond (eqb k 0) n (view f)) (plain tests)
+    where
+      go : (b : Bool) → eqb (refusalOf f tests) 0 ≡ b → view (cond b (pack n) f) ≡ cond b n (view f)
+      go true e = view-packed n (sn (passed f w tests pos e))
+      go false e = refl
+
+  refusal-here : (c : Call) → outcome f c .refusal ≡ refusalBy (view f) c
+  unfolding outcome bookAnswer stopAnswer repairAnswer roundAnswer answer refusalBy testsOf
+  refusal-here (book t c) = plain (bookTests (view f) t c)
+  refusal-here (stop t) = plain (stopTests (view f) t)
+  refusal-here (repair t) = plain (repairTests (view f) t)
+  refusal-here round = plain []
+
+  value-here : (c : Call) → Typed c → view (outcome f c .floor) ≡ valueBy (view f) c
+  unfolding outcome bookAnswer stopAnswer repairAnswer answer bookTests stopTests repairTests valueBy refusalBy testsOf changed refusal
+  value-here (book t c) h = after (bookTests (view f) t c) (omega arith) (booked (view f) t c) (λ T. book-keeps (view f) S t c T h .well)
+  value-here (stop t) h = after (stopTests (view f) t) (omega arith) (withTile (view f) t (stopped (tileOf (view f) t))) (λ T. stop-keeps (view f) S t T .well)
+  value-here (repair t) h = after (repairTests (view f) t) (omega arith) (withTile (view f) t (repaired (tileOf (view f) t))) (λ T. repair-keeps (view f) S t T .well)
+  value-here round h = view-round f w round refl
+
+  read-here : (t : ℕ) → readAnswer f t ≡ readBy (view f) t
+  unfolding readAnswer readBy
+  read-here t = rw (plain (readTests (view f) t))
+
+module _ (f : Floor) (m : Model) (s : Shows f m) where
+  pub shows-refusal : (c : Call) → outcome f c .refusal ≡ refusalBy m c
+  shows-refusal c = refusal-here f (s .well) c ∙ ap (λ (x : Model). refusalBy x c) (s .value)
+
+  pub shows-call : (c : Call) → Typed c → Shows (outcome f c .floor) (valueBy m c)
+  shows-call c h = record { well = call-keeps f (s .well) c h .0; value = value-here f (s .well) c h ∙ ap (λ (x : Model). valueBy x c) (s .value) }
+
+  pub shows-read : (t : ℕ) → readAnswer f t ≡ readBy m t
+  shows-read t = read-here f (s .well) t ∙ ap (λ (x : Model). readBy x t) (s .value)
+
+  pub shows-round : roundAnswer f .refusal ≡ 0
+  unfolding roundAnswer
+  shows-round = round-accepted f (s .well)
+
+  pub shows-report : roundAnswer f .report ≡ reportOf m
+  shows-report = round-report f (s .well) ∙ ap reportOf (s .value)

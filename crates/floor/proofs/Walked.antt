@@ -1,0 +1,181 @@
+-- Lists of calls from a floor that shows a value: their answers, what they book, report and grant, and the floor after them, by the value alone.
+use mathlib.Core.Path.{_≡_, refl, ap, _∙_}
+use mathlib.Core.Logic.{_≢_}
+use mathlib.Core.Bool.{Bool, true, false, cond, not, _&&_, _||_}
+use mathlib.Core.List.{List, [], _∷_, _++_}
+use Prim.Native.Nat.{ℕ, _^_}
+use lib.Dec.{ltb, eqb}
+use lib.ListN.{getD}
+use borrow.Author.Tests.{ltb-true}
+use Rattle.laws.specs.Define.{allOf}
+use Rattle.laws.specs.Every.{All}
+use Rattle.laws.specs.Tests.{r-ne, and-left, and-right}
+use Rattle.floor.specs.declared.Floor.{Floor}
+use Rattle.floor.specs.declared.Report.{Report}
+use Rattle.floor.specs.Model.{Model, runsOf}
+use Rattle.floor.specs.Memory.{view}
+use Rattle.floor.specs.Calls.{zeroReport, reportOf}
+use Rattle.floor.specs.Reports.{listedAt}
+use Rattle.floor.specs.Demand3.{Call, book, stop, repair, round, Typed, outcome, floorAfter, bookedIn, reportedIn, runsAfter, isRound, Quiet}
+use Rattle.floor.specs.Together.{reportTo, saidIn}
+use Rattle.floor.specs.Fairness.{wants, Waiting, granted, grantsIn}
+use Rattle.floor.proofs.Lists.{list-runs}
+use Rattle.floor.proofs.Shown.{Shows, refusalBy, valueBy, shows-refusal, shows-call, shows-report}
+
+-- all that is asked of a call: a booking's number has 32 bits
+unfoldable pub isTyped : Call → Bool
+isTyped (book t c) = ltb (c .number) (2 ^ 32)
+isTyped (stop t) = true
+isTyped (repair t) = true
+isTyped round = true
+
+pub typed : (c : Call) → isTyped c ≡ true → Typed c
+unfolding isTyped
+typed (book t c) h = ltb-true (c .number) (2 ^ 32) h
+typed (stop t) h = tt
+typed (repair t) h = tt
+typed round h = tt
+
+pub all-typed : (cs : List Call) → allOf isTyped cs ≡ true → All Typed cs
+unfolding allOf
+all-typed [] h = tt
+all-typed (c ∷ cs) h = (typed c (and-left (isTyped c) _ h), all-typed cs (and-right (isTyped c) _ h))
+
+-- ---- the answers' refusal numbers
+unfoldable pub answers : Floor → List Call → List ℕ
+answers f [] = []
+answers f (c ∷ cs) = outcome f c .refusal ∷ answers (outcome f c .floor) cs
+
+-- ---- by the value
+unfoldable pub valueAfter : Model → List Call → Model
+valueAfter m [] = m
+valueAfter m (c ∷ cs) = valueAfter (valueBy m c) cs
+
+unfoldable pub answersBy : Model → List Call → List ℕ
+answersBy m [] = []
+answersBy m (c ∷ cs) = refusalBy m c ∷ answersBy (valueBy m c) cs
+
+-- n: the call's refusal number
+unfoldable pub bookedOf : ℕ → Call → List ℕ
+bookedOf n (book t c) = cond (eqb n 0) (c .number ∷ []) []
+bookedOf n (stop t) = []
+bookedOf n (repair t) = []
+bookedOf n round = []
+
+unfoldable pub bookedBy : Model → List Call → List ℕ
+bookedBy m [] = []
+bookedBy m (c ∷ cs) = bookedOf (refusalBy m c) c ++ bookedBy (valueBy m c) cs
+
+unfoldable pub reportBy : Model → Call → Report
+reportBy m (book t c) = zeroReport
+reportBy m (stop t) = zeroReport
+reportBy m (repair t) = zeroReport
+reportBy m round = reportOf m
+
+unfoldable pub saidBy : Model → List Call → List (ℕ × Report)
+saidBy m [] = []
+saidBy m (c ∷ cs) = (refusalBy m c, reportBy m c) ∷ saidBy (valueBy m c) cs
+
+unfoldable pub reportedOf : Model → Call → ℕ → List ℕ
+reportedOf m (book t c) k = []
+reportedOf m (stop t) k = []
+reportedOf m (repair t) k = []
+reportedOf m round k = listedAt (reportOf m) k
+
+unfoldable pub reportedBy : Model → List Call → ℕ → List ℕ
+reportedBy m [] k = []
+reportedBy m (c ∷ cs) k = reportedOf m c k ++ reportedBy (valueBy m c) cs k
+
+unfoldable pub grantsBy : Model → List Call → ℕ → List ℕ
+grantsBy m [] t = []
+grantsBy m (c ∷ cs) t = cond (isRound c) (getD (reportOf m .grants) t 0 ∷ []) [] ++ grantsBy (valueBy m c) cs t
+
+unfoldable pub quietBy : Model → List Call → Bool
+quietBy m [] = true
+quietBy m (c ∷ cs) = (isRound c || not (eqb (refusalBy m c) 0)) && quietBy (valueBy m c) cs
+
+unfoldable pub waitingBy : Model → List Call → ℕ → ℕ → Bool
+waitingBy m [] t k = true
+waitingBy m (c ∷ cs) t k = (not (isRound c) || wants m t k) && waitingBy (valueBy m c) cs t k
+
+-- ---- that is what the floor gives
+module _ (f : Floor) (m : Model) (s : Shows f m) where
+  call-booked : (c : Call) → outcome f c .booked ≡ bookedOf (outcome f c .refusal) c
+  unfolding outcome bookedOf
+  call-booked (book t c) = refl
+  call-booked (stop t) = refl
+  call-booked (repair t) = refl
+  call-booked round = refl
+
+  call-report : (c : Call) → reportTo f c ≡ reportBy m c
+  unfolding reportTo reportBy
+  call-report (book t c) = refl
+  call-report (stop t) = refl
+  call-report (repair t) = refl
+  call-report round = shows-report f m s
+
+  call-reported : (c : Call) (k : ℕ) → outcome f c .reported k ≡ reportedOf m c k
+  unfolding outcome reportedOf
+  call-reported (book t c) k = refl
+  call-reported (stop t) k = refl
+  call-reported (repair t) k = refl
+  call-reported round k = ap (λ (r : Report). listedAt r k) (shows-report f m s)
+
+  pub call-granted : (t : ℕ) → granted f t ≡ getD (reportOf m .grants) t 0
+  unfolding granted
+  call-granted t = ap (λ (r : Report). getD (r .grants) t 0) (shows-report f m s)
+
+pub shows-list : (f : Floor) (m : Model) → Shows f m → (cs : List Call) → All Typed cs → Shows (floorAfter f cs) (valueAfter m cs)
+unfolding floorAfter valueAfter
+shows-list f m s [] h = s
+shows-list f m s (c ∷ cs) h = shows-list (outcome f c .floor) (valueBy m c) (shows-call f m s c (h .0)) cs (h .1)
+
+pub answers-same : (f : Floor) (m : Model) → Shows f m → (cs : List Call) → All Typed cs → answers f cs ≡ answersBy m cs
+unfolding answers answersBy
+answers-same f m s [] h = refl
+answers-same f m s (c ∷ cs) h = rw (shows-refusal f m s c, answers-same (outcome f c .floor) (valueBy m c) (shows-call f m s c (h .0)) cs (h .1))
+
+pub booked-same : (f : Floor) (m : Model) → Shows f m → (cs : List Call) → All Typed cs → bookedIn f cs ≡ bookedBy m cs
+unfolding bookedIn bookedBy
+booked-same f m s [] h = refl
+booked-same f m s (c ∷ cs) h = rw (call-booked f m s c, shows-refusal f m s c, booked-same (outcome f c .floor) (valueBy m c) (shows-call f m s c (h .0)) cs (h .1))
+
+pub said-same : (f : Floor) (m : Model) → Shows f m → (cs : List Call) → All Typed cs → saidIn f cs ≡ saidBy m cs
+unfolding saidIn saidBy
+said-same f m s [] h = refl
+said-same f m s (c ∷ cs) h = rw (shows-refusal f m s c, call-report f m s c, said-same (outcome f c .floor) (valueBy m c) (shows-call f m s c (h .0)) cs (h .1))
+
+pub reported-same : (f : Floor) (m : Model) → Shows f m → (cs : List Call) → All Typed cs → (k : ℕ) → reportedIn f cs k ≡ reportedBy m cs k
+unfolding reportedIn reportedBy
+reported-same f m s [] h k = refl
+reported-same f m s (c ∷ cs) h k = rw (call-reported f m s c k, reported-same (outcome f c .floor) (valueBy m c) (shows-call f m s c (h .0)) cs (h .1) k)
+
+pub grants-same : (f : Floor) (m : Model) → Shows f m → (cs : List Call) → All Typed cs → (t : ℕ) → grantsIn f cs t ≡ grantsBy m cs t
+unfolding grantsIn grantsBy
+grants-same f m s [] h t = refl
+grants-same f m s (c ∷ cs) h t = rw (call-granted f m s t, grants-same (outcome f c .floor) (valueBy m c) (shows-call f m s c (h .0)) cs (h .1) t)
+
+-- the history tells what runs on the value after it
+pub runs-same : (f : Floor) (m : Model) → Shows f m → (cs : List Call) → All Typed cs → (t : ℕ) → runsAfter f cs t ≡ runsOf (valueAfter m cs) t
+unfolding runsAfter
+runs-same f m s cs h t = list-runs f (s .well) cs h t ∙ ap (λ (x : Model). runsOf x t) (shows-list f m s cs h .value)
+
+pub quiet : (f : Floor) (m : Model) → Shows f m → (cs : List Call) → All Typed cs → quietBy m cs ≡ true → Quiet f cs
+unfolding quietBy
+quiet f m s [] h q = tt
+quiet f m s (c ∷ cs) h q =
+    let p = isRound c || not (eqb (refusalBy m c) 0) in
+    (λ e. here e (and-left p _ q), quiet (outcome f c .floor) (valueBy m c) (shows-call f m s c (h .0)) cs (h .1) (and-right p _ q))
+  where
+    here : isRound c ≡ false → (isRound c || not (eqb (refusalBy m c) 0)) ≡ true → outcome f c .refusal ≢ 0
+    here e k = rw (shows-refusal f m s c) (r-ne (refusalBy m c) 0 .0 (rw e at k))
+
+pub waiting : (f : Floor) (m : Model) → Shows f m → (cs : List Call) → All Typed cs → (t k : ℕ) → waitingBy m cs t k ≡ true → Waiting f cs t k
+unfolding waitingBy
+waiting f m s [] h t k q = tt
+waiting f m s (c ∷ cs) h t k q =
+    let p = not (isRound c) || wants m t k in
+    (λ e. here e (and-left p _ q), waiting (outcome f c .floor) (valueBy m c) (shows-call f m s c (h .0)) cs (h .1) t k (and-right p _ q))
+  where
+    here : isRound c ≡ true → (not (isRound c) || wants m t k) ≡ true → wants (view f) t k ≡ true
+    here e k′ = ap (λ (x : Model). wants x t k) (s .value) ∙ rw e at k′

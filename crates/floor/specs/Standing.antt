@@ -1,0 +1,88 @@
+-- Why did the tile stand: what the reasons of a round's report tell. The theorem is `standing` of proofs/Standing.
+use mathlib.Core.Path.{_≡_}
+use mathlib.Core.Logic.{_↔_, _≢_}
+use mathlib.Core.Bool.{true, false}
+use mathlib.Core.List.{List, [], List·Memᴰ}
+use Prim.Native.Nat.{ℕ, zero, suc, _≤_, _<_}
+use lib.ListN.{length, getD}
+use Rattle.laws.specs.Define.{bitsBelow}
+use Rattle.laws.specs.Every.{All}
+use Rattle.floor.specs.declared.Canister.{Canister}
+use Rattle.floor.specs.declared.Settings.{Settings}
+use Rattle.floor.specs.declared.Floor.{Floor}
+use Rattle.floor.specs.Sides.{opposite}
+use Rattle.floor.specs.Settings.{total, spacing, isHopper}
+use Rattle.floor.specs.Grid.{neighbour}
+use Rattle.floor.specs.Model.{Model, runsOf, nextOf, membersOf}
+use Rattle.floor.specs.Memory.{view}
+use Rattle.floor.specs.Well.{wellFormed}
+use Rattle.floor.specs.Signal.{missing}
+use Rattle.floor.specs.Move.{crosses, shift, land}
+use Rattle.floor.specs.Calls.{roundAnswer}
+use Rattle.floor.specs.Reports.{listedAt}
+use Rattle.floor.specs.Fairness.{turnOf}
+
+-- m is the floor before a round and n the floor after it, which has the arrows that Route set; out k: the numbers that the report lists at the hopper with k hoppers before it
+
+-- the tile that the arrow of t faces
+abbrev pub ahead : Model → Model → ℕ → ℕ
+ahead m n t = neighbour (m .settings) (nextOf n t) t
+
+abbrev pub hoppersBefore : Settings → ℕ → ℕ
+hoppersBefore s u = length (bitsBelow (s .hoppers) u)
+
+-- canister c of tile t "shifted" by v along side k: it stands so on its tile; or it crossed, and stands landed on the tile beyond, or was delivered to the hopper there
+pub data Shifts (s : Settings) (n : Model) (out : ℕ → List ℕ) (k t : ℕ) (c : Canister) : Type 0 where
+  stayed : crosses s k c ≡ false → List·Memᴰ (shift s k c) (membersOf n t) → Shifts s n out k t c
+  landed : crosses s k c ≡ true → isHopper s (neighbour s k t) ≡ false → List·Memᴰ (land s k c) (membersOf n (neighbour s k t)) → Shifts s n out k t c
+  delivered : crosses s k c ≡ true → isHopper s (neighbour s k t) ≡ true → List·Memᴰ (c .number) (out (hoppersBefore s (neighbour s k t))) → Shifts s n out k t c
+
+-- "its canisters shifted": tile t had some, and each is v farther along the tile's arrow
+abbrev pub Shifted : Model → Model → (ℕ → List ℕ) → ℕ → Type 0
+Shifted m n out t = (membersOf m t ≢ []) × (nextOf n t ≢ 0) × All (Shifts (m .settings) n out (nextOf n t) t) (membersOf m t)
+
+-- each is where it was
+abbrev pub Stood : Model → Model → ℕ → Type 0
+Stood m n t = All (λ c. List·Memᴰ c (membersOf n t)) (membersOf m t)
+
+-- what a reason says of tile t: "1 stopped, 2 empty when the round began, 3 no arrow, 4 the turn ahead was another's, 5 no gap, …, 6 moved"; "by the turn before it passed on"
+abbrev pub Fits : Model → Model → (ℕ → List ℕ) → ℕ → ℕ → Type 0
+Fits m n out t zero = ⊥
+Fits m n out t (suc zero) = runsOf m t ≡ false
+Fits m n out t (suc (suc zero)) = membersOf m t ≡ []
+Fits m n out t (suc (suc (suc zero))) = nextOf n t ≡ 0
+Fits m n out t (suc (suc (suc (suc zero)))) = turnOf m (ahead m n t) ≢ opposite (nextOf n t)
+Fits m n out t (suc (suc (suc (suc (suc zero))))) = 0 < missing (m .settings) (turnOf m (ahead m n t)) (membersOf m (ahead m n t))
+Fits m n out t (suc (suc (suc (suc (suc (suc zero)))))) = Shifted m n out t
+Fits m n out t (suc (suc (suc (suc (suc (suc (suc k))))))) = ⊥
+
+-- reason t and lack t: what the report has for tile t
+pub record Standing (m n : Model) (out : ℕ → List ℕ) (reason lack : ℕ → ℕ) : Type 0 where
+  -- "one reason for each tile …, the first that fits"
+  pub one : (t : ℕ) → t < total (m .settings) → (1 ≤ reason t) × (reason t ≤ 6)
+  pub fits : (t : ℕ) → t < total (m .settings) → Fits m n out t (reason t)
+  pub first : (t : ℕ) → t < total (m .settings) → (k : ℕ) → 1 ≤ k → k < reason t → ¬ (Fits m n out t k)
+  -- a tile that an arrow faces runs, so that it has a turn and the six are all there are
+  pub runs : (t : ℕ) → nextOf n t ≢ 0 → runsOf m (ahead m n t) ≡ true
+  -- "with the missing millimetres (0 beside other reasons)": at the turn of the tile ahead; less than U
+  pub short : (t : ℕ) → reason t ≡ 5 → lack t ≡ missing (m .settings) (turnOf m (ahead m n t)) (membersOf m (ahead m n t))
+  pub lacking : (t : ℕ) → reason t ≡ 5 ↔ 0 < lack t
+  pub below : (t : ℕ) → (lack t ≤ spacing (m .settings)) × (lack t < m .settings .width)
+  -- "A tile has reason 6 exactly when its canisters shifted."; else all stand where they stood
+  pub moved : (t : ℕ) → reason t ≡ 6 ↔ Shifted m n out t
+  pub stood : (t : ℕ) → reason t ≢ 6 → Stood m n t
+  -- a hopper never has canisters
+  pub hopper : (t : ℕ) → isHopper (m .settings) t ≡ true → reason t ≡ 2
+  -- no tile, no reason
+  pub none : (t : ℕ) → total (m .settings) ≤ t → (reason t ≡ 0) × (lack t ≡ 0)
+
+-- tile t's reason and missing millimetres in the report of the round that begins with f
+unfoldable pub reasonAt : Floor → ℕ → ℕ
+reasonAt f t = getD (roundAnswer f .report .reasons) t 0
+
+unfoldable pub missingAt : Floor → ℕ → ℕ
+missingAt f t = getD (roundAnswer f .report .missing) t 0
+
+-- the theorem: for every well-formed floor
+abbrev pub WhyStood : Type 0
+WhyStood = (f : Floor) → wellFormed f ≡ true → Standing (view f) (view (roundAnswer f .floor)) (listedAt (roundAnswer f .report)) (reasonAt f) (missingAt f)
