@@ -36,6 +36,14 @@ extern "C" {
 /* The set of one tile, 0 to 63: with one hopper, .hoppers = CEROMBY_TILE(5). Sets are joined by |. */
 #define CEROMBY_TILE(t) (UINT64_C(1) << (t))
 
+/* Why a tile stood in a round; the first that fits. */
+#define CEROMBY_REASON_STOPPED 1
+#define CEROMBY_REASON_EMPTY 2    /* when the round began; a hopper always is */
+#define CEROMBY_REASON_NO_ARROW 3
+#define CEROMBY_REASON_TURN 4     /* the turn of the tile ahead was another's, before it passed on */
+#define CEROMBY_REASON_NO_GAP 5   /* on the tile ahead; ceromby_report.missing says how much is missing */
+#define CEROMBY_REASON_MOVED 6    /* it didn't stand: its canisters shifted */
+
 #define CEROMBY_ACCEPTED 0
 
 /* Refused because of the input. */
@@ -117,7 +125,9 @@ typedef struct ceromby_delivery {
 
 /* Deliveries stand in the order of ceromby_counters.delivered, then zeros. */
 typedef struct ceromby_report {
-    uint8_t grants[CEROMBY_MAX_TILES]; /* the side each tile granted, 0 for none and where no tile is */
+    uint8_t grants[CEROMBY_MAX_TILES];   /* the side each tile granted, 0 for none and where no tile is */
+    uint8_t reasons[CEROMBY_MAX_TILES];  /* why each tile stood, 1 to 6; 0 where no tile is */
+    uint16_t missing[CEROMBY_MAX_TILES]; /* beside reason 5 the missing millimetres, the worst canister's; else 0 */
     ceromby_delivery deliveries[CEROMBY_MAX_HOPPERS];
 } ceromby_report;
 

@@ -26,7 +26,8 @@ static ceromby_floor deliver(ceromby_floor floor) {
         if (rounded.refusal != CEROMBY_ACCEPTED)
             break;
         floor = rounded.floor;
-        printf("round %u, the hopper grants %u", round, rounded.report.grants[1]);
+        printf("round %u, tile 0 has reason %u, the hopper grants %u", round,
+               rounded.report.reasons[0], rounded.report.grants[1]);
         ceromby_delivery delivery = rounded.report.deliveries[0];
         for (unsigned i = 0; i < delivery.count; i++)
             printf(", delivered %lu", (unsigned long)delivery.numbers[i]);
@@ -66,6 +67,29 @@ static void store(ceromby_floor floor) {
            memcmp(image, again, written.length) == 0 ? "the same bytes" : "other bytes");
 }
 
+/* Two canisters on three tiles: the second is in the way of the first. */
+static void stand(ceromby_settings settings) {
+    settings.columns = 3;
+    settings.hoppers = CEROMBY_TILE(2);
+    settings.sources = CEROMBY_TILE(0) | CEROMBY_TILE(1);
+    ceromby_floor floor = ceromby_fresh(settings).floor;
+    for (uint8_t tile = 0; tile < 2; tile++) {
+        ceromby_canister canister = {.number = tile + 1, .a = 5, .b = 0};
+        floor = ceromby_book(floor, tile, canister).floor;
+    }
+    for (unsigned round = 1; round <= 3; round++) {
+        ceromby_rounded rounded = ceromby_round(floor);
+        printf("three tiles, round %u, reasons", round);
+        for (unsigned tile = 0; tile < 3; tile++) {
+            printf(" %u", rounded.report.reasons[tile]);
+            if (rounded.report.reasons[tile] == CEROMBY_REASON_NO_GAP)
+                printf(" (%u missing)", rounded.report.missing[tile]);
+        }
+        printf("\n");
+        floor = rounded.floor;
+    }
+}
+
 int main(void) {
     ceromby_settings settings = {
         .columns = 2, .rows = 1, .hoppers = CEROMBY_TILE(1), .sources = CEROMBY_TILE(0),
@@ -78,5 +102,6 @@ int main(void) {
     answer = ceromby_book(answer.floor, 0, canister);
     printf("book canister 5: %u\n", answer.refusal);
     store(stop(deliver(answer.floor)));
+    stand(settings);
     return 0;
 }

@@ -46,6 +46,8 @@ static void answers(void) {
     FIELD(delivery, count);
     SIZE(report);
     FIELD(report, grants);
+    FIELD(report, reasons);
+    FIELD(report, missing);
     FIELD(report, deliveries);
     SIZE(answer);
     FIELD(answer, floor);

@@ -4,8 +4,8 @@
 mod types;
 
 pub use types::{
-    Answer, Canister, Counters, Delivery, Floor, Reading, Report, Rounded, Settings, Side, Tile,
-    Written, DISTANCE_NONE, LONGEST_IMAGE, MAX_HOPPERS, MAX_TILES, PLACES,
+    reason, Answer, Canister, Counters, Delivery, Floor, Reading, Report, Rounded, Settings, Side,
+    Tile, Written, DISTANCE_NONE, LONGEST_IMAGE, MAX_HOPPERS, MAX_TILES, PLACES,
 };
 
 mod raw {

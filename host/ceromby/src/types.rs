@@ -11,6 +11,20 @@ pub const DISTANCE_NONE: u8 = 255;
 /// Bytes of the longest image, which has one hopper.
 pub const LONGEST_IMAGE: usize = 8_748;
 
+/// Why a tile stood in a round; the first that fits.
+pub mod reason {
+    pub const STOPPED: u8 = 1;
+    /// When the round began; a hopper always is.
+    pub const EMPTY: u8 = 2;
+    pub const NO_ARROW: u8 = 3;
+    /// The turn of the tile ahead was another's, before it passed on.
+    pub const TURN: u8 = 4;
+    /// On the tile ahead.
+    pub const NO_GAP: u8 = 5;
+    /// It didn't stand: its canisters shifted.
+    pub const MOVED: u8 = 6;
+}
+
 #[repr(C)]
 #[derive(Clone, Copy, PartialEq, Eq, Debug)]
 pub struct Canister {
@@ -94,6 +108,10 @@ pub struct Delivery {
 pub struct Report {
     /// The side each tile granted, 0 for none.
     pub grants: [u8; MAX_TILES],
+    /// Why each tile stood, one of `reason`; 0 where no tile is.
+    pub reasons: [u8; MAX_TILES],
+    /// Beside `reason::NO_GAP` the missing millimetres, the worst canister's; else 0.
+    pub missing: [u16; MAX_TILES],
     /// One for each hopper in tile order, then zeros.
     pub deliveries: [Delivery; MAX_HOPPERS],
 }

@@ -1,6 +1,8 @@
 //! One short way through every call.
 
-use ceromby::{book, fresh, load, read, repair, round, stop, tile, write, Canister, Settings};
+use ceromby::{
+    book, fresh, load, read, reason, repair, round, stop, tile, write, Canister, Settings,
+};
 
 const SETTINGS: Settings = Settings {
     columns: 2,
@@ -58,6 +60,33 @@ fn two_hoppers() {
     let mut buffer = [0; 96];
     assert_eq!(write(&rounded.floor, &mut buffer).length, 96);
     assert_eq!(load(&buffer).floor, rounded.floor);
+}
+
+#[test]
+fn why_a_tile_stands() {
+    let settings = Settings {
+        columns: 3,
+        hoppers: tile(2),
+        sources: tile(0) | tile(1),
+        ..SETTINGS
+    };
+    let mut floor = fresh(settings).floor;
+    for (on, number, a) in [(0, 1, 0), (1, 2, 5)] {
+        floor = book(&floor, on, Canister { number, a, b: 0 }).floor;
+    }
+    let first = round(&floor);
+    let expected = [reason::NO_ARROW, reason::MOVED, reason::EMPTY];
+    assert_eq!(first.report.reasons[..3], expected);
+    assert_eq!(first.report.missing, [0; 64]);
+    let second = round(&first.floor).report;
+    let expected = [reason::NO_GAP, reason::MOVED, reason::EMPTY];
+    assert_eq!(second.reasons[..3], expected);
+    assert_eq!(second.missing[..3], [15, 0, 0]);
+    assert_eq!(second.reasons[3..], [0; 61]);
+    let halted = stop(&first.floor, 1).floor;
+    let report = round(&halted).report;
+    let expected = [reason::NO_ARROW, reason::STOPPED, reason::EMPTY];
+    assert_eq!(report.reasons[..3], expected);
 }
 
 #[test]

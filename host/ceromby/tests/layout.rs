@@ -31,7 +31,7 @@ fn as_in_c() {
         "counters" Counters { last, booked, delivered }
         "floor" Floor { settings, counters, tiles, canisters }
         "delivery" Delivery { numbers, count }
-        "report" Report { grants, deliveries }
+        "report" Report { grants, reasons, missing, deliveries }
         "answer" Answer { floor, refusal }
         "rounded" Rounded { floor, report, refusal }
         "reading" Reading { refusal, tile, members }

@@ -7,6 +7,7 @@ use std::sync::atomic::{AtomicBool, Ordering};
 use oracle::{Answer, Canister, Floor, Reading, Report, RoundAnswer, Settings, Tile, WriteAnswer};
 
 use crate::convert;
+use crate::reasons;
 
 #[derive(Clone, PartialEq, Debug)]
 pub enum Call {
@@ -235,6 +236,10 @@ pub fn both(floor: &Floor, call: &Call) -> Result<Outcome, Trouble> {
         let text = format!("{} gives or writes something else", call.name());
         return Err(Trouble::promise("acceptance", text));
     }
+    match &library {
+        Outcome::Round(answer) if answer.refusal == 0 => reasons::check(floor, answer)?,
+        _ => {}
+    }
     Ok(library)
 }
 
@@ -279,9 +284,11 @@ fn describe(library: &Outcome, oracle: &Outcome) -> String {
     match (library, oracle) {
         (Outcome::Answer(one), Outcome::Answer(other)) => fields.floor(&one.floor, &other.floor),
         (Outcome::Round(one), Outcome::Round(other)) => {
-            fields.each("grant of tile", &one.report.grants, &other.report.grants);
-            let (ones, others) = (&one.report.deliveries, &other.report.deliveries);
-            fields.each("delivery", ones, others);
+            let (ones, others) = (&one.report, &other.report);
+            fields.each("grant of tile", &ones.grants, &others.grants);
+            fields.each("reason of tile", &ones.reasons, &others.reasons);
+            fields.each("missing ahead of tile", &ones.missing, &others.missing);
+            fields.each("delivery", &ones.deliveries, &others.deliveries);
             fields.floor(&one.floor, &other.floor);
         }
         (Outcome::Reading(one), Outcome::Reading(other)) => {

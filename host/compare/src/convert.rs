@@ -113,6 +113,8 @@ pub fn from_rounded(from: &ceromby::Rounded) -> RoundAnswer {
         floor: from_floor(&from.floor),
         report: Report {
             grants: from.report.grants,
+            reasons: from.report.reasons,
+            missing: from.report.missing,
             deliveries: from.report.deliveries.map(from_delivery),
         },
     }

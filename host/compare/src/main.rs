@@ -11,6 +11,7 @@ mod hoppers;
 mod images;
 mod makers;
 mod promise;
+mod reasons;
 mod runs;
 mod show;
 mod shrink;

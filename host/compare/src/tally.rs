@@ -5,7 +5,7 @@ use std::fmt::Display;
 use oracle::{Floor, Grid, RoundAnswer, Side};
 
 use crate::call::{Call, Outcome, NAMES};
-use crate::{arrows, exchange, hoppers, waits};
+use crate::{arrows, exchange, hoppers, reasons, waits};
 
 /// The answers that each call can give, in the order of `NAMES`.
 const ANSWERS: [&[u8]; 8] = [
@@ -31,6 +31,7 @@ pub struct Tally {
     pub exchanges: exchange::Counts,
     pub waits: waits::Counts,
     pub hoppers: hoppers::Counts,
+    reasons: reasons::Counts,
     pub settled: u64,
     /// Arrows kept and lists held to the bound in the runs for single requests.
     tied: [u64; 2],
@@ -59,6 +60,7 @@ impl Tally {
         self.exchanges = further.exchanges;
         self.waits.add(&further.waits);
         self.hoppers.add(&further.hoppers);
+        self.reasons.add(&further.reasons);
         self.settled += further.settled;
         self.tied = [further.kept, further.drained];
         self.closest = self.closest.max(further.closest);
@@ -85,6 +87,7 @@ impl Tally {
         let grants = &answer.report.grants;
         self.kept += arrows::kept(before, &answer.floor);
         self.hoppers.note_report(&answer.report);
+        self.reasons.note(before, answer);
         for delivery in &answer.report.deliveries {
             self.deliveries[usize::from(delivery.count).min(4)] += 1;
         }
@@ -120,7 +123,11 @@ impl Tally {
             let cells = answers.iter().map(|at| (*at, counts[usize::from(*at)]));
             print_line(&format!("{name:8}"), cells, &mut missing);
         }
-        let lines = [self.exchanges.lines(), self.waits.lines()];
+        let lines = [
+            self.exchanges.lines(),
+            self.waits.lines(),
+            self.reasons.lines(),
+        ];
         for (name, cells) in lines.into_iter().flatten() {
             print_line(&name, cells, &mut missing);
         }

@@ -14,6 +14,7 @@ mod faults;
 mod grid;
 mod image;
 pub mod random;
+pub mod reason;
 pub mod refusal;
 mod round;
 mod types;

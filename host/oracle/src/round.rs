@@ -3,6 +3,7 @@
 use crate::check::well_formed;
 use crate::faults::{self, Fault};
 use crate::grid::{Grid, Side, Spot};
+use crate::reason;
 use crate::refusal;
 use crate::types::{
     Canister, Floor, Report, RoundAnswer, Settings, Tile, MAX_TILES, NONE, NO_SIDE, PLACES,
@@ -17,11 +18,19 @@ pub fn round(floor: &Floor) -> RoundAnswer {
         };
     }
     let mut tiles = route(floor);
-    let grants = signal(floor, &mut tiles);
-    let (floor, report) = shift(floor, &tiles, &grants);
+    let signals = signal(floor, &mut tiles);
+    let (after, mut report) = shift(floor, &tiles, &signals);
+    let held = match faults::on(Fault::EmptyAfter) {
+        true => after.tiles,
+        false => floor.tiles,
+    };
+    for spot in Grid::of(&floor.settings).spots() {
+        let reason = reason_of(floor, &tiles, &signals, &held, spot);
+        (report.reasons[spot.tile], report.missing[spot.tile]) = reason;
+    }
     RoundAnswer {
         refusal: refusal::ACCEPTED,
-        floor,
+        floor: after,
         report,
     }
 }
@@ -80,10 +89,37 @@ fn kept(old: &[Tile; MAX_TILES], grid: Grid, spot: Spot, least: u8) -> Option<u8
     (keeps || stuck).then_some(side.code())
 }
 
-/// Updates the turns and gives the grant of every tile.
-fn signal(floor: &Floor, tiles: &mut [Tile; MAX_TILES]) -> [u8; MAX_TILES] {
+/// What one tile decides.
+#[derive(Clone, Copy)]
+struct Signal {
+    /// The turn before it passes on.
+    turn: u8,
+    /// Millimetres that the gap lacks on that side, 0 for a gap.
+    missing: u16,
+    /// The turn to keep.
+    kept: u8,
+}
+
+impl Signal {
+    const NONE: Signal = Signal {
+        turn: NO_SIDE,
+        missing: 0,
+        kept: NO_SIDE,
+    };
+
+    /// The side granted.
+    fn grant(&self) -> u8 {
+        match self.missing {
+            0 => self.turn,
+            _ => NO_SIDE,
+        }
+    }
+}
+
+/// Updates the turns and gives what every tile decides.
+fn signal(floor: &Floor, tiles: &mut [Tile; MAX_TILES]) -> [Signal; MAX_TILES] {
     let grid = Grid::of(&floor.settings);
-    let mut grants = [NO_SIDE; MAX_TILES];
+    let mut signals = [Signal::NONE; MAX_TILES];
     for spot in grid.spots() {
         if tiles[spot.tile].running == 1 {
             let arrows = match faults::on(Fault::OldArrow) {
@@ -91,16 +127,16 @@ fn signal(floor: &Floor, tiles: &mut [Tile; MAX_TILES]) -> [u8; MAX_TILES] {
                 false => &*tiles,
             };
             let wants = wanting_sides(grid, arrows, spot);
-            let (turn, grant) = decide(wants, tiles[spot.tile].token, |side| {
-                has_gap(&floor.settings, floor.members(spot.tile), side)
+            let signal = decide(wants, tiles[spot.tile].token, |side| {
+                missing(&floor.settings, floor.members(spot.tile), side)
             });
             let dropped =
                 faults::on(Fault::HopperTurnDropped) && floor.settings.is_hopper(spot.tile);
-            tiles[spot.tile].token = if dropped { NO_SIDE } else { turn };
-            grants[spot.tile] = grant;
+            tiles[spot.tile].token = if dropped { NO_SIDE } else { signal.kept };
+            signals[spot.tile] = signal;
         }
     }
-    grants
+    signals
 }
 
 /// For each side in cyclic order, whether the neighbour there wants to enter.
@@ -112,8 +148,7 @@ fn wanting_sides(grid: Grid, tiles: &[Tile; MAX_TILES], spot: Spot) -> [bool; 4]
     })
 }
 
-/// The turn to keep and the side to grant.
-fn decide(wants: [bool; 4], turn: u8, gap: impl Fn(Side) -> bool) -> (u8, u8) {
+fn decide(wants: [bool; 4], turn: u8, missing: impl Fn(Side) -> u16) -> Signal {
     let held = Side::from_code(turn).filter(|side| wants[usize::from(side.code()) - 1]);
     let stored = turn;
     let start = match faults::on(Fault::TurnFromWest) {
@@ -121,17 +156,23 @@ fn decide(wants: [bool; 4], turn: u8, gap: impl Fn(Side) -> bool) -> (u8, u8) {
         false => turn,
     };
     let Some(turn) = held.or_else(|| first_after(wants, start)) else {
-        return (NO_SIDE, NO_SIDE);
+        return Signal::NONE;
     };
-    if gap(turn) {
+    let missing = missing(turn);
+    let kept = if missing == 0 {
         let following = first_after(wants, turn.code())
             .filter(|_| !faults::on(Fault::TurnNotPassed))
             .unwrap_or(turn);
-        (following.code(), turn.code())
+        following.code()
     } else if faults::on(Fault::StoredTurnStays) {
-        (stored, NO_SIDE)
+        stored
     } else {
-        (turn.code(), NO_SIDE)
+        turn.code()
+    };
+    Signal {
+        turn: turn.code(),
+        missing,
+        kept,
     }
 }
 
@@ -145,27 +186,79 @@ fn first_after(wants: [bool; 4], turn: u8) -> Option<Side> {
         .map(|at| Side::ALL[at])
 }
 
-/// Whether a strip of depth d is free along a side.
-fn has_gap(settings: &Settings, members: &[Canister], side: Side) -> bool {
+/// The millimetres that a free strip of depth d lacks along a side: the worst
+/// canister's, 0 for a gap.
+fn missing(settings: &Settings, members: &[Canister], side: Side) -> u16 {
+    let lacks = members
+        .iter()
+        .map(|canister| lack(settings, canister, side));
+    let worst = match faults::on(Fault::BestCanister) {
+        true => lacks.filter(|lack| *lack > 0).min(),
+        false => lacks.max(),
+    };
+    // At most d, which is below U.
+    worst.map_or(0, |lack| lack as u16)
+}
+
+/// The millimetres by which one canister stands in the strip.
+fn lack(settings: &Settings, canister: &Canister, side: Side) -> u32 {
     let spacing = settings.spacing() - u32::from(faults::on(Fault::GapShort));
-    let width = u32::from(settings.width);
-    let need = u32::from(settings.length) + spacing;
-    members.iter().all(|canister| {
-        let (a, b) = (u32::from(canister.a), u32::from(canister.b));
-        match side {
-            Side::West => a >= spacing,
-            Side::South => b >= spacing,
-            Side::North => b + need <= width,
-            Side::East => a + need <= width,
-        }
-    })
+    let (a, b) = (u32::from(canister.a), u32::from(canister.b));
+    let beyond = |along: u32| {
+        let end = along + u32::from(settings.length) + spacing;
+        end.saturating_sub(settings.width.into())
+    };
+    match side {
+        Side::West => spacing.saturating_sub(a),
+        Side::South => spacing.saturating_sub(b),
+        Side::North => beyond(b),
+        Side::East => beyond(a),
+    }
+}
+
+/// The first reason that fits a tile, judged after Signal, and the missing
+/// millimetres. `held` has the canisters when the round began.
+fn reason_of(
+    floor: &Floor,
+    tiles: &[Tile; MAX_TILES],
+    signals: &[Signal; MAX_TILES],
+    held: &[Tile; MAX_TILES],
+    spot: Spot,
+) -> (u8, u16) {
+    if tiles[spot.tile].running == 0 {
+        return (reason::STOPPED, 0);
+    }
+    if held[spot.tile].count == 0 {
+        return (reason::EMPTY, 0);
+    }
+    let Some((side, there)) = ahead(Grid::of(&floor.settings), tiles, spot) else {
+        return (reason::NO_ARROW, 0);
+    };
+    let Signal {
+        turn,
+        missing,
+        kept,
+    } = signals[there];
+    let turn = match faults::on(Fault::PassedTurn) {
+        true => kept,
+        false => turn,
+    };
+    if turn != side.opposite().code() && !(missing > 0 && faults::on(Fault::GapBeforeTurn)) {
+        let beside = faults::on(Fault::MissingBeside);
+        (reason::OTHER_TURN, if beside { missing } else { 0 })
+    } else if missing > 0 {
+        (reason::NO_GAP, missing)
+    } else {
+        (reason::MOVED, 0)
+    }
 }
 
 /// Moves every canister from the old floor onto a new one.
-fn shift(old: &Floor, tiles: &[Tile; MAX_TILES], grants: &[u8; MAX_TILES]) -> (Floor, Report) {
+fn shift(old: &Floor, tiles: &[Tile; MAX_TILES], signals: &[Signal; MAX_TILES]) -> (Floor, Report) {
     let grid = Grid::of(&old.settings);
+    let grants = signals.map(|signal| signal.grant());
     let mut report = Report {
-        grants: *grants,
+        grants,
         ..Report::ZERO
     };
     let mut floor = Floor {
@@ -175,7 +268,8 @@ fn shift(old: &Floor, tiles: &[Tile; MAX_TILES], grants: &[u8; MAX_TILES]) -> (F
         canisters: [Canister::ZERO; MAX_TILES * PLACES],
     };
     for spot in grid.spots() {
-        let way = granted_way(grid, tiles, grants, spot);
+        let granted = |(side, there): &(Side, usize)| grants[*there] == side.opposite().code();
+        let way = ahead(grid, tiles, spot).filter(granted);
         for canister in old.members(spot.tile) {
             let (place, moved) = match way {
                 Some((side, there)) => match advance(&old.settings, *canister, side) {
@@ -193,16 +287,10 @@ fn shift(old: &Floor, tiles: &[Tile; MAX_TILES], grants: &[u8; MAX_TILES]) -> (F
     (floor, report)
 }
 
-/// The side and tile that a tile's canisters head for, if it was granted.
-fn granted_way(
-    grid: Grid,
-    tiles: &[Tile; MAX_TILES],
-    grants: &[u8; MAX_TILES],
-    spot: Spot,
-) -> Option<(Side, usize)> {
+/// The side and tile that a tile's arrow leads to.
+fn ahead(grid: Grid, tiles: &[Tile; MAX_TILES], spot: Spot) -> Option<(Side, usize)> {
     let side = Side::from_code(tiles[spot.tile].next)?;
-    let there = grid.neighbour(spot, side)?;
-    (grants[there] == side.opposite().code()).then_some((side, there))
+    grid.neighbour(spot, side).map(|there| (side, there))
 }
 
 /// The canister after the shift, and whether it crossed.

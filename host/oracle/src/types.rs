@@ -91,6 +91,10 @@ pub struct Delivery {
 pub struct Report {
     /// The side each tile granted, 0 for none.
     pub grants: [u8; MAX_TILES],
+    /// Why each tile stood, or that it moved; see `reason`.
+    pub reasons: [u8; MAX_TILES],
+    /// Beside reason 5 the missing millimetres, else 0.
+    pub missing: [u16; MAX_TILES],
     /// One for each hopper in tile order, then zeros.
     pub deliveries: [Delivery; MAX_HOPPERS],
 }
@@ -283,6 +287,8 @@ impl Delivery {
 impl Report {
     pub const ZERO: Report = Report {
         grants: [NO_SIDE; MAX_TILES],
+        reasons: [0; MAX_TILES],
+        missing: [0; MAX_TILES],
         deliveries: [Delivery::ZERO; MAX_HOPPERS],
     };
 

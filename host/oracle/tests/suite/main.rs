@@ -10,6 +10,7 @@ mod hoppers;
 mod image;
 mod lists;
 mod naive;
+mod reasons;
 mod refusals;
 mod rounds;
 mod trials;
