@@ -17,7 +17,7 @@ use Rattle.floor.specs.declared.Floor.{Floor}
 use Rattle.floor.specs.declared.Members.{Members}
 use Rattle.floor.specs.Settings.{total}
 use Rattle.floor.specs.Model.{TileState, tileOf, membersOf, withMembers}
-use Rattle.floor.specs.Memory.{zeroCanister, headOf, view, head, pack}
+use Rattle.floor.specs.Memory.{zeroCanister, headOf, view, head, pack, refilled}
 use Rattle.floor.specs.Well.{wellFormed}
 use Rattle.floor.specs.Move.{insert}
 use Rattle.floor.specs.Calls.{bookTests, booked}
@@ -31,7 +31,7 @@ use Rattle.book.proofs.Tests.{book-same, book-on, book-room}
 
 -- ---- the loop that writes sixteen places
 abbrev pub withPlaces : Floor → List Canister → Floor
-withPlaces f cs = record { settings = f .settings; counters = f .counters; tiles = f .tiles; canisters = cs }
+withPlaces f cs = refilled f (f .counters) (f .tiles) cs
 
 -- the first k places of tile t are those of items, and the other tiles have what they had
 abbrev pub Put : ℕ → ℕ → List Canister → List Canister → List Canister → Type 0
@@ -118,11 +118,11 @@ module _ (f : Floor) (t : ℕ) (w : wellFormed f ≡ true) where
       pub booked-pack : (more : Members) (now : Floor) (h : Tile) (a : Counters) → Holds more (insert c (take (read-head .count) items))
           → Put (t % 64) 16 (more .items) (f .canisters) (now .canisters) → now ≡ withPlaces f (now .canisters)
           → h ≡ withCount read-head (more .count) → a ≡ withBooking (f .counters) (c .number)
-          → _≡_ {A = Floor} (record { settings = now .settings; counters = a; tiles = set (now .tiles) (t % 64) h; canisters = now .canisters }) (pack (booked (view f) t c))
+          → _≡_ {A = Floor} (refilled now a (set (now .tiles) (t % 64) h) (now .canisters)) (pack (booked (view f) t c))
       unfolding booked head view
       booked-pack more now h a holds put same eh ea =
-          ap (λ (x : Floor). record { settings = x .settings; counters = a; tiles = set (x .tiles) (t % 64) h; canisters = now .canisters }) same
-          ∙ ap (λ (x : Counters). record { settings = f .settings; counters = x; tiles = set (f .tiles) (t % 64) h; canisters = now .canisters }) ea
+          ap (λ (x : Floor). refilled x a (set (x .tiles) (t % 64) h) (now .canisters)) same
+          ∙ ap (λ (x : Counters). refilled f x (set (f .tiles) (t % 64) h) (now .canisters)) ea
           ∙ ap (λ (x : Tile). floor (set (f .tiles) (t % 64) x)) eh
           ∙ ap (λ (j : ℕ). floor (set (f .tiles) j (withCount read-head (more .count)))) (same-tile on)
           ∙ ap (λ (x : Tile). floor (set (f .tiles) t (withCount x (more .count)))) (own-head on)
@@ -137,7 +137,7 @@ module _ (f : Floor) (t : ℕ) (w : wellFormed f ≡ true) where
           anew = withBooking (f .counters) (c .number)
 
           floor : List Tile → Floor
-          floor ts = record { settings = f .settings; counters = anew; tiles = ts; canisters = now .canisters }
+          floor ts = refilled f anew ts (now .canisters)
 
           q : Holds more (insert c (old .members))
           q = rw (own-list on items p) at holds

@@ -1,4 +1,4 @@
-// The calls on a floor; book comes from a crate of its own. Each takes any bytes, and its contract determines the whole answer on all of them.
+// The calls on a floor; book, and keep, forget and recall come from crates of their own. Each takes any bytes, and its contract determines the whole answer on all of them.
 ghost use mathlib.Core.Path.{_≡_};
 ghost use Rattle.floor.specs.Calls.{freshAnswer, stopAnswer, repairAnswer, readAnswer, zeroReport, roundAnswer};
 ghost use Rattle.calls.specs.Refused.{unreadWith};
@@ -23,6 +23,9 @@ use floor::Side;
 use floor::Tile;
 use floor::zero_floor;
 use motion::run_round;
+pub use named::forget;
+pub use named::keep;
+pub use named::recall;
 use settings::settings_refusal;
 use soundness::well_formed;
 

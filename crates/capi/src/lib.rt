@@ -1,11 +1,13 @@
 // The calls for C and Rust. Each export ensures what the call that it wraps ensures, and takes any bytes.
 ghost use mathlib.Core.Path.{_≡_};
 ghost use lib.ListN.{length};
-ghost use Rattle.floor.specs.Calls.{freshAnswer, bookAnswer, stopAnswer, repairAnswer, roundAnswer, readAnswer};
+ghost use Rattle.floor.specs.Layouts.{nameNumber};
+ghost use Rattle.floor.specs.Calls.{freshAnswer, bookAnswer, stopAnswer, repairAnswer, keepAnswer, forgetAnswer, recallAnswer, roundAnswer, readAnswer};
 ghost use Rattle.image.specs.Image.{loadAnswer, writeAnswer, written};
 use floor::Answer;
 use floor::Canister;
 use floor::Floor;
+use floor::Name;
 use floor::Reading;
 use floor::Rounded;
 use floor::Settings;
@@ -51,6 +53,27 @@ pub extern "C" fn ceromby_read(floor: Floor, tile: u32) -> Reading
     ensures { λ r. ⌜ r ≡ readAnswer floor tile ⌝ }
 {
     calls::read(floor, tile)
+}
+
+#[no_mangle]
+pub extern "C" fn ceromby_keep(floor: Floor, name: Name) -> Answer
+    ensures { λ r. ⌜ r ≡ keepAnswer floor (nameNumber (name .letters)) ⌝ }
+{
+    calls::keep(floor, name)
+}
+
+#[no_mangle]
+pub extern "C" fn ceromby_forget(floor: Floor, name: Name) -> Answer
+    ensures { λ r. ⌜ r ≡ forgetAnswer floor (nameNumber (name .letters)) ⌝ }
+{
+    calls::forget(floor, name)
+}
+
+#[no_mangle]
+pub extern "C" fn ceromby_recall(floor: Floor, name: Name) -> Answer
+    ensures { λ r. ⌜ r ≡ recallAnswer floor (nameNumber (name .letters)) ⌝ }
+{
+    calls::recall(floor, name)
 }
 
 #[no_mangle]

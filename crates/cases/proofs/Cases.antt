@@ -9,7 +9,7 @@ use Rattle.floor.specs.declared.Settings.{Settings}
 use Rattle.floor.specs.declared.Tile.{Tile}
 use Rattle.floor.specs.declared.Floor.{Floor}
 use Rattle.floor.specs.Settings.{settingsTests}
-use Rattle.floor.specs.Memory.{zeroFloor, view}
+use Rattle.floor.specs.Memory.{zeroFloor, view, retiled, refilled}
 use Rattle.floor.specs.Calls.{freshAnswer, bookTests, bookAnswer, stopTests, stopAnswer, repairTests, repairAnswer, readTests, readAnswer}
 use Rattle.floor.proofs.Calling.{got, settings, fresh, can, book, stop, repair, rounds, flat, on, tile, counted, setUp, refused, refusedRound, refusedReading, Table, holds}
 
@@ -164,16 +164,16 @@ unfoldable head : ℕ → ℕ → ℕ → ℕ → ℕ → Tile
 head running distance next token count = record { running = running; distance = distance; next = record { code = next }; token = record { code = token }; count = count }
 
 unfoldable withHead : ℕ → Tile → Floor → Floor
-withHead t h f = record { settings = f .settings; counters = f .counters; tiles = set (f .tiles) t h; canisters = f .canisters }
+withHead t h f = retiled f (set (f .tiles) t h)
 
 unfoldable withPlace : ℕ → Canister → Floor → Floor
-withPlace k c f = record { settings = f .settings; counters = f .counters; tiles = f .tiles; canisters = set (f .canisters) k c }
+withPlace k c f = refilled f (f .counters) (f .tiles) (set (f .canisters) k c)
 
 unfoldable withCounts : ℕ → ℕ → ℕ → Floor → Floor
-withCounts last booked delivered f = record { settings = f .settings; counters = record { last = last; booked = booked; delivered = delivered ∷ 0 ∷ 0 ∷ 0 ∷ [] }; tiles = f .tiles; canisters = f .canisters }
+withCounts last booked delivered f = refilled f (record { last = last; booked = booked; delivered = delivered ∷ 0 ∷ 0 ∷ 0 ∷ [] }) (f .tiles) (f .canisters)
 
 unfoldable withSettings : Settings → Floor → Floor
-withSettings s f = record { settings = s; counters = f .counters; tiles = f .tiles; canisters = f .canisters }
+withSettings s f = record { settings = s; counters = f .counters; tiles = f .tiles; canisters = f .canisters; layouts = f .layouts }
 
 unfoldable seen : Floor → List ℕ
 seen f = readAnswer f 0 .refusal ∷ []

@@ -8,7 +8,7 @@ use Rattle.floor.specs.declared.Canister.{Canister}
 use Rattle.floor.specs.declared.Floor.{Floor}
 use Rattle.floor.specs.declared.Settings.{Settings}
 use Rattle.floor.specs.declared.Tile.{Tile}
-use Rattle.floor.specs.Memory.{zeroFloor}
+use Rattle.floor.specs.Memory.{zeroFloor, retiled, refilled}
 use Rattle.floor.specs.Calls.{freshAnswer, bookAnswer, stopAnswer, readAnswer}
 use Rattle.floor.proofs.Calling.{got, several, can, book, stop, rounds, tile, distances, next, reportedTo, grant, counted, liveCount, refused, Table, holds}
 
@@ -89,13 +89,13 @@ unfoldable head : ℕ → ℕ → ℕ → ℕ → ℕ → Tile
 head running distance next token count = record { running = running; distance = distance; next = record { code = next }; token = record { code = token }; count = count }
 
 unfoldable withHead : ℕ → Tile → Floor → Floor
-withHead t h f = record { settings = f .settings; counters = f .counters; tiles = set (f .tiles) t h; canisters = f .canisters }
+withHead t h f = retiled f (set (f .tiles) t h)
 
 unfoldable withPlace : ℕ → Canister → Floor → Floor
-withPlace k c f = record { settings = f .settings; counters = f .counters; tiles = f .tiles; canisters = set (f .canisters) k c }
+withPlace k c f = refilled f (f .counters) (f .tiles) (set (f .canisters) k c)
 
 unfoldable withCounts : ℕ → ℕ → List ℕ → Floor → Floor
-withCounts last booked delivered f = record { settings = f .settings; counters = record { last = last; booked = booked; delivered = delivered }; tiles = f .tiles; canisters = f .canisters }
+withCounts last booked delivered f = refilled f (record { last = last; booked = booked; delivered = delivered }) (f .tiles) (f .canisters)
 
 unfoldable seen : Floor → List ℕ
 seen f = readAnswer f 0 .refusal ∷ []

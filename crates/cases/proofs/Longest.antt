@@ -1,4 +1,4 @@
--- "The longest image is 8,748 bytes": a well-formed floor has an image of that length. That none is longer is `image-most` in crates/image/proofs/Promises.antt.
+-- "The longest image is 8,908 bytes": a well-formed floor has an image of that length. That none is longer is `image-most` in crates/image/proofs/Promises.antt.
 use mathlib.Core.Path.{_≡_, refl}
 use mathlib.Core.Logic.{_≢_}
 use mathlib.Core.Bool.{Bool, true, cond, not, _&&_}
@@ -14,10 +14,12 @@ use Rattle.laws.specs.Tests.{and-left, and-right, and-true, r-ne, r-pairs}
 use Rattle.laws.specs.Lists.{all-imp}
 use Rattle.floor.specs.declared.Canister.{Canister}
 use Rattle.floor.specs.declared.Settings.{Settings}
+use Rattle.floor.specs.declared.Layout.{Layout}
 use Rattle.floor.specs.Settings.{isHopper, hoppersOf, settingsTests, settingsRefusal, settingsPass}
+use Rattle.floor.specs.Layouts.{letters, isLetter, spelled, nameOk, layoutOk, layoutsSound}
 use Rattle.floor.specs.Model.{TileState, Model, numbersOn}
 use Rattle.floor.specs.Memory.{view, head, pack}
-use Rattle.floor.specs.Well.{hopperSound, runningSound, faces, headSound, inside, apart, inOrder, membersSound, tileSound, numbersSound, countersSound, sound, wellFormed}
+use Rattle.floor.specs.Well.{hopperSound, runningSound, faces, headSound, inside, apart, inOrder, membersSound, tileSound, numbersSound, countersSound, stateSound, sound, wellFormed}
 use Rattle.floor.proofs.Well.{sound-fact}
 use Rattle.floor.proofs.Capacity.{view-packed, well-pack}
 use Rattle.image.specs.Image.{several, encode}
@@ -36,8 +38,15 @@ canister t k = record { number = 16 * (63 - t) + k + 1; a = 30 * (k % 4); b = 30
 unfoldable pub tile : ℕ → TileState
 tile t = record { running = 1; distance = cond (eqb t 0) 0 255; next = 0; token = 0; members = cond (eqb t 0) [] (tab 16 (canister t)) }
 
+-- A to H, each with every tile
+unfoldable pub layout : ℕ → Layout
+layout k = record { name = (65 + k) * 2 ^ 56; set = 2 ^ 64 - 1 }
+
 unfoldable pub longest : Model
-longest = let ts = tab 64 tile in record { settings = settings; counters = record { last = 1008; booked = 1008; delivered = replicate 4 0 }; tiles = ts }
+longest =
+    let ts = tab 64 tile in
+    let ls = tab 8 layout in
+    record { settings = settings; counters = record { last = 1008; booked = 1008; delivered = replicate 4 0 }; tiles = ts; layouts = ls }
 
 -- ---- rising numbers differ
 -- the first number is above n, each other one above the one before it
@@ -68,14 +77,14 @@ longest-differ : pairsOf (λ x y. not (eqb x y)) (numbersOn longest) ≡ true
 longest-differ = r-pairs (λ x y. not (eqb x y)) (λ x y. x ≢ y) r-ne (numbersOn longest) .1 (rises-differ 0 (numbersOn longest) longest-rises)
 
 longest-sound : sound longest ≡ true
-unfolding settings canister tile longest tab cat allOf pairsOf allBelow anyOf sum bit bitsBelow refusal isHopper hoppersOf settingsTests settingsRefusal settingsPass numbersOn head
-    hopperSound runningSound faces headSound inside apart inOrder membersSound tileSound numbersSound countersSound sound
-longest-sound = and-true refl (and-true refl (and-true refl (and-true (and-true refl longest-differ) refl)))
+unfolding settings canister tile layout longest tab cat allOf pairsOf allBelow anyOf sum bit bitsBelow refusal isHopper hoppersOf settingsTests settingsRefusal settingsPass numbersOn head
+    hopperSound runningSound faces headSound inside apart inOrder membersSound tileSound numbersSound countersSound stateSound letters isLetter spelled nameOk layoutOk layoutsSound sound
+longest-sound = and-true (and-true refl (and-true refl (and-true refl (and-true (and-true refl longest-differ) refl)))) refl
 
 pub longest-well : wellFormed (pack longest) ≡ true
 longest-well = well-pack longest longest-sound
 
 -- ---- the length of its image
-pub longest-reached : length (encode (view (pack longest))) ≡ 8748
-unfolding settings tile longest tab sum tileSize several hoppersOf bitsBelow bit
+pub longest-reached : length (encode (view (pack longest))) ≡ 8908
+unfolding settings tile layout longest tab sum tileSize several hoppersOf bitsBelow bit
 longest-reached = rw (view-packed longest (sound-fact longest .0 longest-sound)) (encode-size longest)

@@ -1,7 +1,7 @@
 -- The code's arrays and records, read as a floor's value and packed.
 use mathlib.Core.Path.{_≡_, refl, sym, ap, _∙_}
 use mathlib.Core.Bool.{true, false}
-use mathlib.Core.List.{List}
+use mathlib.Core.List.{List, []}
 use Prim.Native.Nat.{ℕ, zero, suc, _+_, _*_, _/_, _%_, _≤_, _<_}
 use native.Mathlib.Omega.{arith}
 use lib.ListN.{length, getD, set, replicate, length-replicate, getD-replicate}
@@ -11,7 +11,7 @@ use Rattle.floor.specs.declared.Tile.{Tile}
 use Rattle.floor.specs.declared.Floor.{Floor}
 use Rattle.floor.specs.Settings.{total, isHopper, settingsPass}
 use Rattle.floor.specs.Model.{TileState, noTile, tileOf, membersOf, withTile}
-use Rattle.floor.specs.Memory.{zeroTile, zeroCanister, zeroFloor, headOf, stateOf, view, unused, head, pack}
+use Rattle.floor.specs.Memory.{zeroTile, zeroCanister, zeroFloor, headOf, stateOf, view, unused, head, layoutPlaces, pack, retiled}
 use Rattle.floor.specs.Well.{wellFormed}
 use Rattle.floor.specs.Calls.{freshTile, freshFloor, stopped, repaired}
 use Rattle.floor.proofs.Well.{settings-fact}
@@ -36,7 +36,7 @@ module _ (f : Floor) (t : ℕ) (w : wellFormed f ≡ true) (on : t < total (f .s
 
   -- ---- one tile anew
   pub stopped-pack : (h : Tile) → h ≡ head (tileOf (view f) t)
-      → _≡_ {A = Floor} (record { settings = f .settings; counters = f .counters; tiles = set (f .tiles) t (record { running = 0; distance = 255; next = record { code = 0 }; token = record { code = 0 }; count = h .count }); canisters = f .canisters })
+      → _≡_ {A = Floor} (retiled f (set (f .tiles) t (record { running = 0; distance = 255; next = record { code = 0 }; token = record { code = 0 }; count = h .count })))
       (pack (withTile (view f) t (stopped (tileOf (view f) t))))
   unfolding stopped head
   stopped-pack h e =
@@ -44,10 +44,10 @@ module _ (f : Floor) (t : ℕ) (w : wellFormed f ≡ true) (on : t < total (f .s
       ∙ pack-head f (well-few f w) (well-fits f w) t (stopped (tileOf (view f) t)) on (ap (λ (x : TileState). x .members) (view-at f t noTile on))
     where
       put : Tile → Floor
-      put x = record { settings = f .settings; counters = f .counters; tiles = set (f .tiles) t x; canisters = f .canisters }
+      put x = retiled f (set (f .tiles) t x)
 
   pub repaired-pack : (h : Tile) → h ≡ head (tileOf (view f) t)
-      → _≡_ {A = Floor} (record { settings = f .settings; counters = f .counters; tiles = set (f .tiles) t (record { running = 1; distance = h .distance; next = h .next; token = h .token; count = h .count }); canisters = f .canisters })
+      → _≡_ {A = Floor} (retiled f (set (f .tiles) t (record { running = 1; distance = h .distance; next = h .next; token = h .token; count = h .count })))
       (pack (withTile (view f) t (repaired (tileOf (view f) t))))
   unfolding repaired head
   repaired-pack h e =
@@ -55,7 +55,7 @@ module _ (f : Floor) (t : ℕ) (w : wellFormed f ≡ true) (on : t < total (f .s
       ∙ pack-head f (well-few f w) (well-fits f w) t (repaired (tileOf (view f) t)) on (ap (λ (x : TileState). x .members) (view-at f t noTile on))
     where
       put : Tile → Floor
-      put x = record { settings = f .settings; counters = f .counters; tiles = set (f .tiles) t x; canisters = f .canisters }
+      put x = retiled f (set (f .tiles) t x)
 
 -- ---- a fresh floor
 pub fresh-hopper : (s : Settings) (t : ℕ) → isHopper s t ≡ true
@@ -82,11 +82,11 @@ fresh-few s p = settings-fact s .0 p .few
 
 pub fresh-pack : (s : Settings) (z : Floor) (ts : List Tile) → z ≡ zeroFloor → length ts ≡ 64
     → Upto (total s) (λ t. head (freshTile s t)) zeroTile ts → From (total s) (λ t. zeroTile) zeroTile ts
-    → _≡_ {A = Floor} (record { settings = s; counters = z .counters; tiles = ts; canisters = z .canisters }) (pack (freshFloor s))
-unfolding freshFloor freshTile zeroFloor
+    → _≡_ {A = Floor} (record { settings = s; counters = z .counters; tiles = ts; canisters = z .canisters; layouts = z .layouts }) (pack (freshFloor s))
+unfolding freshFloor freshTile zeroFloor layoutPlaces
 fresh-pack s z ts e l up off =
-    ap (λ (x : Floor). record { settings = s; counters = x .counters; tiles = ts; canisters = x .canisters }) e
-    ∙ pack-tab s (record { last = 0; booked = 0; delivered = replicate 4 0 }) (freshTile s) ts (replicate 1024 zeroCanister) l (length-replicate 1024 zeroCanister)
+    ap (λ (x : Floor). record { settings = s; counters = x .counters; tiles = ts; canisters = x .canisters; layouts = x .layouts }) e
+    ∙ pack-tab s (record { last = 0; booked = 0; delivered = replicate 4 0 }) (freshTile s) ts (replicate 1024 zeroCanister) [] l (length-replicate 1024 zeroCanister)
     (λ t _ k. up t k) (λ t _ k. off t k) (λ i k _. none i k) (λ i k _. none i k)
   where
     none : (i : ℕ) → i < 1024 → getD (replicate 1024 zeroCanister) i zeroCanister ≡ zeroCanister

@@ -18,7 +18,7 @@ use Rattle.wire.specs.Fields.{le-one, field-in}
 use Rattle.floor.specs.declared.Settings.{Settings}
 use Rattle.floor.specs.Settings.{total, hoppersOf, sizeTests, setTests, measureTests, settingsTests, settingsRefusal}
 use Rattle.settings.specs.Groups.{sizesWrong, few-tiles}
-use Rattle.image.specs.Image.{lowest, oneTile, hopperCount, byteWrong, settingsWidths, tileWidths, lengthIn, settingsIn, settingsFaults, countersFaults, tileFaults, endFaults, ownFaults, recordFault}
+use Rattle.image.specs.Image.{lowest, oneTile, hopperCount, byteWrong, settingsWidths, tileWidths, lengthIn, settingsIn, settingsFaults, countersFaults, tileFaults, layoutFaults, endFaults, ownFaults, recordFault}
 
 -- ---- the values
 module _ (s : List ℕ) (at : ℕ) where
@@ -179,6 +179,14 @@ pub end-right : (n : ℕ) → n ≡ 0 → 0 ≡ refusal (endFaults n)
 unfolding refusal endFaults
 end-right n h = rw (eq-eqb n 0 h)
 
+pub layout-long : (n : ℕ) → n ≢ 16 → 11 ≡ refusal (layoutFaults n)
+unfolding refusal layoutFaults
+layout-long n h = rw (ne-eqb n 16 h)
+
+pub layout-right : (n : ℕ) → n ≡ 16 → 0 ≡ refusal (layoutFaults n)
+unfolding refusal layoutFaults
+layout-right n h = rw (eq-eqb n 16 h)
+
 -- ---- kind 3
 module _ (s : List ℕ) (at n t : ℕ) where
   pub tile-short : n < 6 → 11 ≡ refusal (tileFaults t n (drop at s))
@@ -247,3 +255,7 @@ module _ (due t n : ℕ) (b : List ℕ) where
   pub own-4 : due ≡ 4 → refusal (endFaults n) ≡ refusal (ownFaults due t n b)
   unfolding ownFaults
   own-4 e = rw e
+
+  pub own-5 : due ≡ 5 → refusal (layoutFaults n) ≡ refusal (ownFaults due t n b)
+  unfolding ownFaults
+  own-5 e = rw e

@@ -1,20 +1,24 @@
--- The walk over the tiles' records: the refusal that is left to find, and where the bodies start.
-use mathlib.Core.Path.{_≡_, refl, sym}
+-- The walks over the layouts' and the tiles' records: the refusal that is left to find, and where the bodies start.
+use mathlib.Core.Path.{_≡_, refl, sym, ap, _∙_}
 use mathlib.Core.Logic.{_≢_}
-use mathlib.Core.List.{List}
-use Prim.Native.Nat.{ℕ, suc, _+_, _-_, _*_, _≤_, _<_}
+use mathlib.Core.Bool.{true, false}
+use mathlib.Core.List.{List, [], _∷_, _++_, append-assoc, append-nil}
+use Prim.Native.Nat.{ℕ, zero, suc, _+_, _-_, _*_, _≤_, _<_}
 use native.Mathlib.Omega.{arith}
 use native.Mathlib.Numerals.{add-one}
 use native.Mathlib.Decide.{ℕ-discrete}
-use borrow.Author.Tests.{lt-ltb, le-ltb, ne-eqb}
+use lib.Dec.{eqb}
+use borrow.Author.Tests.{lt-ltb, le-ltb, lt-leb, le-leb, ne-eqb}
 use lib.ListN.{length, drop, getD, set, length-drop}
 use lib.Seq.{drop-drop, getD-set-same, getD-set-other}
-use Rattle.laws.specs.Define.{refusal}
+use Rattle.laws.specs.Define.{tab, refusal}
 use Rattle.wire.specs.Bytes.{le, field}
-use Rattle.image.specs.Image.{tileWidths, lengthIn, restIn, recordFault, endFault, tilesFault}
+use Rattle.floor.specs.declared.Layout.{Layout}
+use Rattle.image.specs.Image.{tileWidths, lengthIn, bodyIn, restIn, layoutIn, isLayout, layoutsIn, afterLayouts, recordFault, endFault, tilesFault, laidFault}
 use Rattle.image.proofs.Records.{whole}
 use Rattle.image.proofs.Again.{tile-good}
-use Rattle.faults.specs.Scan.{after, Start, Starts}
+use Rattle.image.proofs.Layouts.{layout-good}
+use Rattle.faults.specs.Scan.{Laying, after, Start, Starts}
 
 -- ---- the refusal that is left to find
 less : (c t : ℕ) → t < c → c - t ≡ suc (c - (t + 1))
@@ -81,3 +85,104 @@ after-none xs = refl
 pub after-more : (t : ℕ) (ys xs zs : List ℕ) → ys ≡ after t xs → restIn ys ≡ zs → zs ≡ after (t + 1) xs
 unfolding after
 after-more t ys xs zs e r = rw (add-one t, ← e) (sym r)
+
+-- ---- the layouts: n were passed, and the next one would stand at from + 20 × n
+pub record Passed (s : List ℕ) (from n : ℕ) : Type 0 where
+  pub room : from + 20 * n ≤ length s
+  pub faults : laidFault (8 - n) (drop (from + 20 * n) s) ≡ laidFault 8 (drop from s)
+  pub values : layoutsIn 8 (drop from s) ≡ tab n (λ k. layoutIn (drop (from + 4 + 20 * k) s)) ++ layoutsIn (8 - n) (drop (from + 20 * n) s)
+  pub rest : afterLayouts (8 - n) (drop (from + 20 * n) s) ≡ afterLayouts 8 (drop from s)
+
+pub passed-none : (s : List ℕ) (from : ℕ) → from ≤ length s → Passed s from 0
+unfolding tab
+passed-none s from h = let e : from + 20 * 0 ≡ from = omega arith in record { room = omega arith; faults = rw e; values = rw e; rest = rw e }
+
+tab-last : {A : Type 0} (n : ℕ) (g : ℕ → A) → tab (suc n) g ≡ tab n g ++ (g n ∷ [])
+unfolding tab
+tab-last zero g = refl
+tab-last (suc n) g = ap (λ l. g 0 ∷ l) (tab-last n (λ k. g (suc k)))
+
+-- one more record, or the end of them
+module _ (n : ℕ) (xs : List ℕ) where
+  faults-on : isLayout xs ≡ true → recordFault 5 0 xs ≡ 0 → laidFault (suc n) xs ≡ laidFault n (restIn xs)
+  unfolding laidFault
+  faults-on e z = rw (e, z)
+
+  faults-stop : isLayout xs ≡ true → recordFault 5 0 xs ≢ 0 → laidFault (suc n) xs ≡ recordFault 5 0 xs
+  unfolding laidFault
+  faults-stop e z = rw (e, ne-eqb (recordFault 5 0 xs) 0 z)
+
+  values-on : isLayout xs ≡ true → layoutsIn (suc n) xs ≡ layoutIn (bodyIn xs) ∷ layoutsIn n (restIn xs)
+  unfolding layoutsIn
+  values-on e = rw e
+
+  rest-on : isLayout xs ≡ true → afterLayouts (suc n) xs ≡ afterLayouts n (restIn xs)
+  unfolding afterLayouts
+  rest-on e = rw e
+
+record Ends (n : ℕ) (xs : List ℕ) : Type 0 where
+  faults : laidFault n xs ≡ 0
+  values : layoutsIn n xs ≡ []
+  rest : afterLayouts n xs ≡ xs
+
+ends-off : (n : ℕ) (xs : List ℕ) → isLayout xs ≡ false → Ends n xs
+unfolding laidFault layoutsIn afterLayouts
+ends-off zero xs e = record { faults = refl; values = refl; rest = refl }
+ends-off (suc n) xs e = record { faults = rw e; values = rw e; rest = rw e }
+
+ends-zero : (xs : List ℕ) → Ends 0 xs
+unfolding laidFault layoutsIn afterLayouts
+ends-zero xs = record { faults = refl; values = refl; rest = refl }
+
+module _ (s : List ℕ) (from n : ℕ) (P : Passed s from n) where
+  abbrev here : List ℕ
+  here = drop (from + 20 * n) s
+
+  pub passed-stop : n < 8 → isLayout here ≡ true → recordFault 5 0 here ≢ 0 → recordFault 5 0 here ≡ laidFault 8 (drop from s)
+  passed-stop h e z = sym (faults-stop (8 - (n + 1)) here e z) ∙ ap (λ (k : ℕ). laidFault k here) (sym (less 8 n h)) ∙ P .faults
+
+  passed-end : n ≤ 8 → Ends (8 - n) here → (laidFault 8 (drop from s) ≡ 0) × Laying s from n
+  passed-end h E = (
+    sym (P .faults) ∙ E .faults,
+    record { few = h; room = P .room; values = P .values ∙ rw (E .values) (append-nil (tab n (λ k. layoutIn (drop (from + 4 + 20 * k) s)))); rest = sym (P .rest) ∙ E .rest },
+  )
+
+  pub passed-off : n ≤ 8 → isLayout here ≡ false → (laidFault 8 (drop from s) ≡ 0) × Laying s from n
+  passed-off h e = passed-end h (ends-off (8 - n) here e)
+
+  pub passed-all : n ≡ 8 → (laidFault 8 (drop from s) ≡ 0) × Laying s from n
+  passed-all h = let z : 8 - n ≡ 0 = omega arith in passed-end (omega arith) (rw z (ends-zero here))
+
+  pub passed-room : recordFault 5 0 here ≡ 0 → from + 20 * n + 20 ≤ length s
+  passed-room z =
+      let w = whole 5 0 here z in
+      let m = record-room s (from + 20 * n) 5 0 (P .room) z in
+      omega (arith, layout-good here w, m)
+
+  pub passed-on : n < 8 → isLayout here ≡ true → recordFault 5 0 here ≡ 0 → Passed s from (n + 1)
+  passed-on h e z =
+      let next : from + 20 * (n + 1) ≡ from + 20 * n + 4 + 16 = omega arith in
+      let r : restIn here ≡ drop (from + 20 * (n + 1)) s = rest-at s (from + 20 * n) 16 (sym (layout-good here (whole 5 0 here z))) ∙ ap (λ (k : ℕ). drop k s) (sym next) in
+      let k : from + 20 * n + 4 ≡ from + 4 + 20 * n = omega arith in
+      let b : bodyIn here ≡ drop (from + 4 + 20 * n) s = drop-drop 4 (from + 20 * n) s ∙ ap (λ (j : ℕ). drop j s) k in
+      let l = less 8 n h in
+      let g : ℕ → Layout = λ k. layoutIn (drop (from + 4 + 20 * k) s) in
+      let v : layoutsIn (8 - n) here ≡ g n ∷ layoutsIn (8 - (n + 1)) (drop (from + 20 * (n + 1)) s) = rw (l, values-on (8 - (n + 1)) here e, b, r) in
+      record {
+        room = omega (arith, passed-room z);
+        faults = rw (← r) (sym (faults-on (8 - (n + 1)) here e z) ∙ ap (λ (k : ℕ). laidFault k here) (sym l) ∙ P .faults);
+        values = P .values ∙ rw (v, add-one n, tab-last n g) (sym (append-assoc (tab n g) (g n ∷ []) (layoutsIn (8 - suc n) (drop (from + 20 * suc n) s))));
+        rest = rw (← r) (sym (rest-on (8 - (n + 1)) here e) ∙ ap (λ (k : ℕ). afterLayouts k here) (sym l) ∙ P .rest);
+      }
+
+-- ---- the first four bytes of a record
+module _ (s : List ℕ) (at : ℕ) where
+  pub layout-few : length s - at < 4 → false ≡ isLayout (drop at s)
+  unfolding isLayout
+  layout-few h = let n : length (drop at s) < 4 = rw length-drop h in rw (lt-leb 4 (length (drop at s)) n)
+
+  pub layout-kind : (k : ℕ) → 4 ≤ length s - at → k ≡ le 2 (drop (at + 2) s) → eqb k 5 ≡ isLayout (drop at s)
+  unfolding isLayout
+  layout-kind k h e =
+      let n : 4 ≤ length (drop at s) = rw length-drop h in
+      rw (le-leb 4 (length (drop at s)) n, drop-drop 2 at s, ← e)

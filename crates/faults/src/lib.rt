@@ -1,4 +1,4 @@
-// What refuses an image, record by record: the faults of each kind of record, and the scan of the tiles' records. Without 12.
+// What refuses an image, record by record: the faults of each kind of record, and the scans of the layouts' and the tiles' records. Without 12.
 ghost use mathlib.Core.Path.{_≡_};
 ghost use mathlib.Core.Logic.{_⊎_};
 ghost use mathlib.Core.Bool.{not, _&&_};
@@ -7,8 +7,8 @@ ghost use lib.Dec.{eqb};
 ghost use lib.ListN.{length, drop};
 ghost use Rattle.laws.specs.Define.{refusal};
 ghost use Rattle.image.specs.Image as I;
-ghost use Rattle.image.specs.Image.{settingsIn, settingsFaults, countersFaults, tileFaults, endFaults, recordFault, tilesFault};
-ghost use Rattle.faults.specs.Scan.{Starts};
+ghost use Rattle.image.specs.Image.{settingsIn, settingsFaults, countersFaults, tileFaults, layoutFaults, endFaults, recordFault, isLayout, laidFault, tilesFault};
+ghost use Rattle.faults.specs.Scan.{Laying, Starts};
 use floor::Settings;
 use sets::lowest;
 use sets::single;
@@ -21,6 +21,12 @@ use wire::u64_at;
 // What a scan of the tiles' records finds: the first refusal, 0 where there is none, and where each body starts.
 pub struct Scan {
     pub starts: [usize; 64],
+    pub fault: u8,
+}
+
+// What a scan of the layouts' records finds: the first refusal, 0 where there is none, and how many there are, twenty bytes each.
+pub struct Laid {
+    pub count: usize,
     pub fault: u8,
 }
 
@@ -134,9 +140,19 @@ fn end_fault(n: u16) -> u8
     0
 }
 
+// Kind 5 with a body of n bytes: 11.
+fn layout_fault(n: u16) -> u8
+    ensures { λ r. ⌜ r ≡ refusal (layoutFaults n) ⌝ }
+{
+    if n != 16 {
+        return 11;
+    }
+    0
+}
+
 // The refusal of the record at `at` where kind `due` is due; `tile` is the tile that is due and, for kind 2, the number of hoppers: the kind found decides which record's test runs, and 10.
 pub fn record_fault(s: &[u8], at: usize, due: u16, tile: u8) -> u8
-    requires { ⌜ (at ≤ length (now s)) × (1 ≤ due) × (due ≤ 4) ⌝ }
+    requires { ⌜ (at ≤ length (now s)) × (1 ≤ due) × (due ≤ 5) ⌝ }
     ensures { λ r. ⌜ r ≡ recordFault due tile (drop at (now (s .entry))) ⌝ }
 {
     let left = s.len() - at;
@@ -165,8 +181,43 @@ pub fn record_fault(s: &[u8], at: usize, due: u16, tile: u8) -> u8
             10
         },
         4 => if due == 4 { end_fault(n) } else { 10 },
+        5 => if due == 5 { layout_fault(n) } else { 10 },
         _ => 10,
     }
+}
+
+// Whether a record of kind 5 stands at `at`, as far as its first four bytes tell.
+fn is_layout(s: &[u8], at: usize) -> bool
+    requires { ⌜ at ≤ length (now s) ⌝ }
+    ensures { λ r. ⌜ r ≡ isLayout (drop at (now (s .entry))) ⌝ }
+{
+    if s.len() - at < 4 {
+        return false;
+    }
+    let kind = u16_at(s, at + 2);
+    kind == 5
+}
+
+// The records of the layouts from `from` on, at most eight.
+pub fn scan_layouts(s: &[u8], from: usize) -> Laid
+    requires { ⌜ from ≤ length (now s) ⌝ }
+    ensures { λ r. ⌜ (r .fault ≡ laidFault 8 (drop from (now (s .entry)))) × (r .fault ≡ 0 → Laying (now (s .entry)) from (r .count)) ⌝ }
+{
+    let mut at = from;
+    let mut n = 0usize;
+    while n < 8 {
+        let here = is_layout(s, at);
+        if !here {
+            return Laid { count: n, fault: 0 };
+        }
+        let f = record_fault(s, at, 5, 0);
+        if f != 0 {
+            return Laid { count: n, fault: f };
+        }
+        at = at + 20;
+        n = n + 1;
+    }
+    Laid { count: n, fault: 0 }
 }
 
 // The records of c tiles from `from` on, then the end record and bytes left over.

@@ -7,7 +7,7 @@ use Prim.Native.Nat.{ℕ, suc, _+_, _≤_, _<_}
 use native.Mathlib.Omega.{arith}
 use native.Mathlib.Decide.{ℕ-discrete}
 use lib.Seq.{getD-set-same, getD-set-other}
-use borrow.Author.Tests.{leb-false}
+use borrow.Author.Tests.{eqb-false, leb-false}
 use Rattle.laws.specs.Every.{All}
 use Rattle.laws.specs.Tests.{by-test}
 use Rattle.floor.specs.declared.Canister.{Canister}
@@ -16,14 +16,14 @@ use Rattle.floor.specs.declared.Floor.{Floor}
 use Rattle.floor.specs.Sides.{sides}
 use Rattle.floor.specs.Settings.{total, isHopper}
 use Rattle.floor.specs.Grid.{neighbour}
-use Rattle.floor.specs.Model.{TileState, Model, noTile, tileOf, runs, runsOf, distanceOf, nextOf, membersOf, withMembers}
+use Rattle.floor.specs.Model.{TileState, Model, noTile, tileOf, runs, runsOf, distanceOf, nextOf, membersOf, withLayouts, withMembers}
 use Rattle.floor.specs.Memory.{view, pack}
 use Rattle.floor.specs.Well.{wellFormed}
 use Rattle.floor.specs.Route.{route}
 use Rattle.floor.specs.Move.{insert}
 use Rattle.floor.specs.Calls.{bookTests, booked, afterRound}
-use Rattle.floor.specs.Demand3.{Call, book, stop, repair, round, Typed, outcome, floorAfter, isRound, roundsIn}
-use Rattle.floor.specs.Arrows.{beyond, FacesNearest, Chooses, isPress, Unpressed, Steady, Resting, Arrows, Settling, ArrowRule}
+use Rattle.floor.specs.Demand3.{Call, book, stop, repair, round, keep, forget, recall, Typed, outcome, floorAfter, changesRunning, isRound, roundsIn}
+use Rattle.floor.specs.Arrows.{beyond, FacesNearest, Chooses, Unpressed, Steady, Resting, Arrows, Settling, ArrowRule}
 use Rattle.floor.proofs.Sound.{Sound}
 use Rattle.floor.proofs.Pack.{well-sound}
 use Rattle.floor.proofs.Rows.{view-settings}
@@ -33,7 +33,7 @@ use Rattle.floor.proofs.Fields.{round-settings, round-runs, round-dista
 use Rattle.floor.proofs.Passing.{arrow-at}
 use Rattle.floor.proofs.Progress.{same-distance}
 use Rattle.floor.proofs.Clearing.{right-round}
-use Rattle.floor.proofs.Lists.{view-round, call-keeps, call-refused, list-keeps}
+use Rattle.floor.proofs.Lists.{view-round, call-keeps, call-refused, Relaid, relaid-keep, relaid-forget, relaid-recall, list-keeps}
 use Rattle.floor.proofs.Forms.{by-form, new-view, bookForm, book-answers}
 
 -- n has the settings, running tiles and distances of m, and the arrows a
@@ -49,7 +49,7 @@ Alike m n = Shows m (nextOf m) n
 alike-after : {m n o : Model} {a : ℕ → ℕ} → Alike n o → Shows m a n → Shows m a o
 alike-after A E = record { settings = A .settings ∙ E .settings; runs = A .runs ∙ E .runs; distance = A .distance ∙ E .distance; next = A .next ∙ E .next }
 
--- ---- a list without an accepted stop or repair: rounds, and changes of canisters alone
+-- ---- a list without an accepted stop or repair: rounds, and changes of canisters and layouts alone
 booked-alike : (m : Model) → Sound m → (u : ℕ) (b : Canister) → u < total (m .settings) → Alike m (booked m u b)
 unfolding booked
 booked-alike m S u b on = record { settings = refl; runs = fun-ext (same runs (λ x l. refl)); distance = fun-ext (same (λ x. x .distance) (λ x l. refl)); next = fun-ext (same (λ x. x .next) (λ x l. refl)) }
@@ -64,28 +64,35 @@ booked-alike m S u b on = record { settings = refl; runs = fun-ext (same runs (�
         go (yes e) = rw (e, getD-set-same (m .tiles) u new noTile (omega (arith, S .len))) (h (tileOf m u) (insert b (membersOf m u)))
         go (no n) = rw (getD-set-other (m .tiles) u t new noTile n)
 
--- I n: what holds after n rounds; changes of canisters keep it
-module _ (I : ℕ → Model → Type 0) (keep : (n : ℕ) (m o : Model) → Alike m o → I n m → I n o) (turn : (n : ℕ) (m : Model) → Sound m → I n m → I (suc n) (afterRound m)) where
+-- I n: what holds after n rounds; changes of canisters and layouts keep it
+module _ (I : ℕ → Model → Type 0) (alike : (n : ℕ) (m o : Model) → Alike m o → I n m → I n o) (turn : (n : ℕ) (m : Model) → Sound m → I n m → I (suc n) (afterRound m)) where
   no-round : (n : ℕ) (m : Model) → I n m → I (n + 0) m
   no-round n m i = let e : n ≡ n + 0 = omega arith in subst (λ k. I k m) e i
 
   refused : (n : ℕ) (g : Floor) (w : wellFormed g ≡ true) (c : Call) → isRound c ≡ false → outcome g c .refusal ≢ 0 → I n (view g) → I (n + 0) (view (outcome g c .floor))
   refused n g w c r q i = subst (λ (x : Floor). I (n + 0) (view x)) (sym (call-refused g w c r q)) (no-round n (view g) i)
 
-  step : (n : ℕ) (g : Floor) (w : wellFormed g ≡ true) (c : Call) → Typed c → (isPress c ≡ true → outcome g c .refusal ≢ 0) → I n (view g) → I (n + cond (isRound c) 1 0) (view (outcome g c .floor))
-  unfolding bookTests
+  -- other layouts
+  relaid : (n : ℕ) (g : Floor) (w : wellFormed g ≡ true) (c : Call) → Relaid g w c → I n (view g) → I (n + 0) (view (outcome g c .floor))
+  relaid n g w c R i = no-round n (view (outcome g c .floor)) (subst (I n) (sym (R .1)) (alike n (view g) (withLayouts (view g) (R .0)) (record { settings = refl; runs = refl; distance = refl; next = refl }) i))
+
+  step : (n : ℕ) (g : Floor) (w : wellFormed g ≡ true) (c : Call) → Typed c → changesRunning g c ≡ false → I n (view g) → I (n + cond (isRound c) 1 0) (view (outcome g c .floor))
+  unfolding bookTests changesRunning
   step n g w (book u b) h q i =
       let F = bookForm u b h in
       no-round n (view (outcome g (book u b) .floor))
       (subst (λ (x : Floor). I n (view x)) (sym (book-answers u b h .floor g))
       (by-form F g w (λ c. I n (view (cond c (pack (booked (view g) u b)) g)))
-      (λ A. subst (I n) (sym (new-view F g w A)) (keep n (view g) (booked (view g) u b) (booked-alike (view g) (well-sound g w) u b (leb-false (total (view g .settings)) u (A .0))) i))
+      (λ A. subst (I n) (sym (new-view F g w A)) (alike n (view g) (booked (view g) u b) (booked-alike (view g) (well-sound g w) u b (leb-false (total (view g .settings)) u (A .0))) i))
       i))
-  step n g w (stop u) h q i = refused n g w (stop u) refl (q refl) i
-  step n g w (repair u) h q i = refused n g w (repair u) refl (q refl) i
+  step n g w (stop u) h q i = refused n g w (stop u) refl (eqb-false (outcome g (stop u) .refusal) 0 q) i
+  step n g w (repair u) h q i = refused n g w (repair u) refl (eqb-false (outcome g (repair u) .refusal) 0 q) i
   step n g w round h q i =
       let e : suc n ≡ n + 1 = omega arith in
       subst (λ k. I k (view (outcome g round .floor))) e (subst (I (suc n)) (sym (view-round g w round refl)) (turn n (view g) (well-sound g w) i))
+  step n g w (keep name) h q i = relaid n g w (keep name) (relaid-keep g w name) i
+  step n g w (forget name) h q i = relaid n g w (forget name) (relaid-forget g w name) i
+  step n g w (recall name) h q i = relaid n g w (recall name) (relaid-recall g w name q) i
 
   through : (n : ℕ) (g : Floor) → wellFormed g ≡ true → (cs : List Call) → All Typed cs → Unpressed g cs → I n (view g) → I (n + roundsIn cs) (view (floorAfter g cs))
   unfolding floorAfter

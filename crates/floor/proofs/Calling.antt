@@ -9,20 +9,22 @@ use Rattle.floor.specs.declared.Canister.{Canister}
 use Rattle.floor.specs.declared.Settings.{Settings}
 use Rattle.floor.specs.declared.Counters.{Counters}
 use Rattle.floor.specs.declared.Tile.{Tile}
+use Rattle.floor.specs.declared.Layout.{Layout}
 use Rattle.floor.specs.declared.Floor.{Floor}
 use Rattle.floor.specs.declared.Answer.{Answer}
 use Rattle.floor.specs.declared.Reading.{Reading}
 use Rattle.floor.specs.Sides.{sides, opposite, after, following, chosen}
 use Rattle.floor.specs.Settings.{isHopper, hoppersOf, settingsTests, settingsRefusal, settingsPass}
 use Rattle.floor.specs.Grid.{neighbour}
+use Rattle.floor.specs.Layouts.{nameNumber, letters, isLetter, spelled, nameOk, layoutOk, layoutsSound, setBelow, held, setOf, keepIn, forgetIn}
 use Rattle.floor.specs.Model.{runsOf, numbersOn}
-use Rattle.floor.specs.Memory.{zeroFloor, stateOf, view, head, places, rows, build, pack, isZeroCanister, isZeroTile, headFits, tileFits, tilesFit, fits}
-use Rattle.floor.specs.Well.{hopperSound, runningSound, stoppedSound, faces, headSound, inside, apart, inOrder, membersSound, tileSound, numbersSound, countersSound, sound, wellFormed}
+use Rattle.floor.specs.Memory.{zeroFloor, stateOf, usedLayouts, view, head, places, rows, layoutPlaces, build, pack, isZeroCanister, isZeroTile, headFits, tileFits, tilesFit, stateFits, isZeroLayout, layoutsFit, fits}
+use Rattle.floor.specs.Well.{hopperSound, runningSound, stoppedSound, faces, headSound, inside, apart, inOrder, membersSound, tileSound, numbersSound, countersSound, stateSound, sound, wellFormed}
 use Rattle.floor.specs.Route.{nearer, nearest, liesAt, kept, onward, headingOf, routeTile, route}
 use Rattle.floor.specs.Signal.{requests, lack, missing, signalWith, signalBy, signalTile, shownOf, signalOf, signal}
 use Rattle.floor.specs.Move.{wayOf, crosses, shift, land, staying, leaving, insert, insertEach, membersNext, arrivals, moveTile, deliveredBy, raised, move}
 use Rattle.floor.specs.Reasons.{reasonTests, aheadOf, reasonOf, missingOf}
-use Rattle.floor.specs.Calls.{refusalOf, answer, freshTile, freshFloor, freshAnswer, bookTests, booked, bookAnswer, stopTests, stopped, stopAnswer, repairTests, repaired, repairAnswer, afterRound, delivered, deliveryOf, reportOf, zeroReport, roundAnswer, readTests, readAnswer}
+use Rattle.floor.specs.Calls.{refusalOf, answer, freshTile, freshFloor, freshAnswer, bookTests, booked, bookAnswer, stopTests, stopped, stopAnswer, repairTests, repaired, repairAnswer, keepTests, runningSet, keptUnder, keepAnswer, heldTests, forgotten, forgetAnswer, recallTile, recalled, recallAnswer, afterRound, delivered, deliveryOf, reportOf, zeroReport, roundAnswer, readTests, readAnswer}
 use Rattle.floor.specs.Reports.{listedAt}
 use Rattle.floor.specs.Bound.{crossing, bound}
 use Rattle.floor.specs.Live.{reached, connected, connectedCount}
@@ -54,6 +56,19 @@ stop t f = got (stopAnswer f t)
 
 unfoldable pub repair : ℕ → Floor → Floor
 repair t f = got (repairAnswer f t)
+
+-- the name with these letters, zero filled
+unfoldable pub named : List ℕ → ℕ
+named l = nameNumber (take 8 (l ++ replicate 8 0))
+
+unfoldable pub keeps : ℕ → Floor → Floor
+keeps name f = got (keepAnswer f name)
+
+unfoldable pub forgets : ℕ → Floor → Floor
+forgets name f = got (forgetAnswer f name)
+
+unfoldable pub recalls : ℕ → Floor → Floor
+recalls name f = got (recallAnswer f name)
 
 -- n rounds
 unfoldable pub rounds : ℕ → Floor → Floor
@@ -127,10 +142,18 @@ unfoldable pub heads : List Tile → List ℕ
 heads [] = []
 heads (h ∷ l) = h .running ∷ h .distance ∷ h .next .code ∷ h .token .code ∷ h .count ∷ heads l
 
+unfoldable pub layoutNumbers : List Layout → List ℕ
+layoutNumbers [] = []
+layoutNumbers (x ∷ l) = x .name ∷ x .set ∷ layoutNumbers l
+
+-- the layouts of a floor, each its name and its set
+unfoldable pub laid : Floor → List ℕ
+laid f = readAnswer f 0 .refusal ∷ layoutNumbers (view f .layouts)
+
 unfoldable pub sameFloor : Floor → Floor → Bool
 sameFloor f g =
     same (setUp (f .settings)) (setUp (g .settings)) && (same (counts (f .counters)) (counts (g .counters))
-    && (same (heads (f .tiles)) (heads (g .tiles)) && same (flat (f .canisters)) (flat (g .canisters))))
+    && (same (heads (f .tiles)) (heads (g .tiles)) && (same (flat (f .canisters)) (flat (g .canisters)) && same (layoutNumbers (f .layouts)) (layoutNumbers (g .layouts)))))
 
 -- the refusal, then 1 where the answer's floor is f
 unfoldable pub refused : Answer → Floor → List ℕ
@@ -151,13 +174,15 @@ abbrev pub Table : Type 0
 Table = List (List ℕ × List ℕ)
 
 unfoldable pub holds : Table → Bool
-unfolding got several settings fresh can book stop repair rounds flat on tile distances next turn listedAt reportedTo reported grant why counts counted same setUp heads sameFloor refused refusedRound refusedReading
+unfolding got several settings fresh can book stop repair named keeps forgets recalls rounds flat on tile distances next turn listedAt reportedTo reported grant why counts counted same setUp heads layoutNumbers laid sameFloor refused refusedRound refusedReading
     tab cat allOf anyOf pairsOf allBelow keep firstOf sum bit bitsBelow join refusal
     sides opposite after following chosen isHopper hoppersOf settingsTests settingsRefusal settingsPass neighbour numbersOn
-    zeroFloor stateOf view head places rows build pack isZeroCanister isZeroTile headFits tileFits tilesFit fits
-    hopperSound runningSound stoppedSound faces headSound inside apart inOrder membersSound tileSound numbersSound countersSound sound wellFormed
+    nameNumber letters isLetter spelled nameOk layoutOk layoutsSound setBelow held setOf keepIn forgetIn
+    zeroFloor stateOf usedLayouts view head places rows layoutPlaces build pack isZeroCanister isZeroTile headFits tileFits tilesFit stateFits isZeroLayout layoutsFit fits
+    hopperSound runningSound stoppedSound faces headSound inside apart inOrder membersSound tileSound numbersSound countersSound stateSound sound wellFormed
     nearer nearest liesAt kept onward headingOf routeTile route requests lack missing signalWith signalBy signalTile shownOf signalOf signal
     wayOf crosses shift land staying leaving insert insertEach membersNext arrivals moveTile deliveredBy raised move reasonTests aheadOf reasonOf missingOf
     refusalOf answer freshTile freshFloor freshAnswer bookTests booked bookAnswer stopTests stopped stopAnswer repairTests repaired repairAnswer
+    keepTests runningSet keptUnder keepAnswer heldTests forgotten forgetAnswer recallTile recalled recallAnswer
     afterRound delivered deliveryOf reportOf zeroReport roundAnswer readTests readAnswer crossing bound reached connected connectedCount liveCount boundOf
 holds table = allOf (λ r. same (r .0) (r .1)) table

@@ -20,7 +20,7 @@ use Rattle.floor.specs.declared.Canister.{Canister}
 use Rattle.floor.specs.declared.Settings.{Settings}
 use Rattle.floor.specs.declared.Counters.{Counters}
 use Rattle.floor.specs.Settings.{total, spacing, isHopper, hoppersOf}
-use Rattle.floor.specs.Model.{TileState, Model, noTile, tileOf, runs, runsOf, membersOf, numbers, numbersOn, withTile, withMembers}
+use Rattle.floor.specs.Model.{TileState, Model, noTile, tileOf, runs, runsOf, membersOf, numbers, numbersOn, withTile, withCounters, withMembers}
 use Rattle.floor.specs.Well.{inside, apart}
 use Rattle.floor.specs.Move.{insert}
 use Rattle.floor.specs.Calls.{bookTests, booked, stopTests, stopped, repairTests, repaired, afterRound}
@@ -80,7 +80,7 @@ module _ (m : Model) (S : Sound m) (t : ℕ) (on : t < total (m .settings)) wher
 
   -- the floor with the tile x at t, and these counters
   abbrev put : TileState → Counters → Model
-  put x c = record { settings = m .settings; counters = c; tiles = set (m .tiles) t x }
+  put x c = withCounters (withTile m t x) c
 
   module _ (x : TileState) (c : Counters) where
     each : (P : ℕ → TileState → Type 0) → P t x → ((u : ℕ) → u ≢ t → P u (tileOf m u)) → (u : ℕ) → P u (tileOf (put x c) u)
@@ -135,6 +135,7 @@ module _ (m : Model) (S : Sound m) (t : ℕ) (on : t < total (m .settings)) wher
           counted = cnt;
           booked-last = bl;
           last-fits = fit;
+          laid-out = S .laid-out;
         }
 
   -- stop and repair: the same canisters

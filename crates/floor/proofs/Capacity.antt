@@ -22,6 +22,7 @@ use Rattle.floor.specs.Memory.{view, pack}
 use Rattle.floor.specs.Well.{apart, sound, wellFormed}
 use Rattle.floor.proofs.Sound.{Measured, Inside, Differ, Apart, Sound}
 use Rattle.floor.proofs.Well.{apart-fact, sound-fact}
+use Rattle.floor.proofs.Rows.{sound-named}
 use Rattle.floor.proofs.Pack.{view-pack, fits-pack, well-of}
 
 -- ---- the pigeonhole: different numbers below n are at most n
@@ -137,10 +138,10 @@ module _ (m : Model) (S : Sound m) where
   sound-small t = few-members (m .settings) (S .measured) (membersOf m t) (S .inside t) (S .spaced t)
 
   pub view-packed : view (pack m) ≡ m
-  view-packed = view-pack m (S .len) (S .measured .few) (λ t _. sound-small t)
+  view-packed = view-pack m (S .len) (S .measured .few) (λ t _. sound-small t) (sound-named (m .settings) (m .layouts) (S .laid-out))
 
   pub sound-well : wellFormed (pack m) ≡ true
-  sound-well = well-of (pack m) (rw view-packed S) (fits-pack m (S .len) (S .measured .few) (λ t _. sound-small t))
+  sound-well = well-of (pack m) (rw view-packed S) (fits-pack m (S .len) (S .measured .few) (λ t _. sound-small t) (sound-named (m .settings) (m .layouts) (S .laid-out)))
 
 pub well-pack : (m : Model) → sound m ≡ true → wellFormed (pack m) ≡ true
 well-pack m h = sound-well m (sound-fact m .0 h)

@@ -4,13 +4,14 @@ use mathlib.Core.Bool.{Bool, true, false, cond, _&&_}
 use mathlib.Core.List.{List, [], _∷_, _++_}
 use Prim.Native.Nat.{ℕ}
 use lib.Dec.{eqb}
+use Rattle.laws.specs.Define.{bit}
 use Rattle.floor.specs.declared.Canister.{Canister}
 use Rattle.floor.specs.declared.Floor.{Floor}
 use Rattle.floor.specs.declared.Answer.{Answer}
 use Rattle.floor.specs.declared.Rounded.{Rounded}
-use Rattle.floor.specs.Calls.{bookAnswer, stopAnswer, repairAnswer, roundAnswer}
+use Rattle.floor.specs.Calls.{bookAnswer, stopAnswer, repairAnswer, keepAnswer, forgetAnswer, recallAnswer, roundAnswer}
 use Rattle.floor.specs.Reports.{listedAt}
-use Rattle.floor.specs.Demand3.{Call, book, stop, repair, round, outcome, floorAfter, bookedIn, reportedIn, runsBy, latest}
+use Rattle.floor.specs.Demand3.{Call, book, stop, repair, round, keep, forget, recall, outcome, floorAfter, bookedIn, reportedIn, recallSet, recallMakes, runsBy, latest}
 
 -- the number that a booking's answer accepted
 abbrev pub bookedBy : Canister → Answer → List ℕ
@@ -31,6 +32,9 @@ pub data Made : Floor → List Call → Floor → List ℕ → (ℕ → List ℕ
   stops : {f g : Floor} {cs : List Call} {bs : List ℕ} {ns : ℕ → List ℕ} (t : ℕ) (r : Answer) → r ≡ stopAnswer f t → Made (r .floor) cs g bs ns → Made f (stop t ∷ cs) g bs ns
   repairs : {f g : Floor} {cs : List Call} {bs : List ℕ} {ns : ℕ → List ℕ} (t : ℕ) (r : Answer) → r ≡ repairAnswer f t → Made (r .floor) cs g bs ns → Made f (repair t ∷ cs) g bs ns
   rounds : {f g : Floor} {cs : List Call} {bs : List ℕ} {ns : ℕ → List ℕ} (r : Rounded) → r ≡ roundAnswer f → Made (r .floor) cs g bs ns → Made f (round ∷ cs) g bs (joined r ns)
+  keeps : {f g : Floor} {cs : List Call} {bs : List ℕ} {ns : ℕ → List ℕ} (name : ℕ) (r : Answer) → r ≡ keepAnswer f name → Made (r .floor) cs g bs ns → Made f (keep name ∷ cs) g bs ns
+  forgets : {f g : Floor} {cs : List Call} {bs : List ℕ} {ns : ℕ → List ℕ} (name : ℕ) (r : Answer) → r ≡ forgetAnswer f name → Made (r .floor) cs g bs ns → Made f (forget name ∷ cs) g bs ns
+  recalls : {f g : Floor} {cs : List Call} {bs : List ℕ} {ns : ℕ → List ℕ} (name : ℕ) (r : Answer) → r ≡ recallAnswer f name → Made (r .floor) cs g bs ns → Made f (recall name ∷ cs) g bs ns
 
 pub made-floor : {f g : Floor} {cs : List Call} {bs : List ℕ} {ns : ℕ → List ℕ} → Made f cs g bs ns → g ≡ floorAfter f cs
 unfolding floorAfter outcome
@@ -39,6 +43,9 @@ made-floor (books {cs = cs} t c r e p) = made-floor p ∙ ap (λ (x : Answer). f
 made-floor (stops {cs = cs} t r e p) = made-floor p ∙ ap (λ (x : Answer). floorAfter (x .floor) cs) e
 made-floor (repairs {cs = cs} t r e p) = made-floor p ∙ ap (λ (x : Answer). floorAfter (x .floor) cs) e
 made-floor (rounds {cs = cs} r e p) = made-floor p ∙ ap (λ (x : Rounded). floorAfter (x .floor) cs) e
+made-floor (keeps {cs = cs} name r e p) = made-floor p ∙ ap (λ (x : Answer). floorAfter (x .floor) cs) e
+made-floor (forgets {cs = cs} name r e p) = made-floor p ∙ ap (λ (x : Answer). floorAfter (x .floor) cs) e
+made-floor (recalls {cs = cs} name r e p) = made-floor p ∙ ap (λ (x : Answer). floorAfter (x .floor) cs) e
 
 pub made-booked : {f g : Floor} {cs : List Call} {bs : List ℕ} {ns : ℕ → List ℕ} → Made f cs g bs ns → bs ≡ bookedIn f cs
 unfolding bookedIn outcome
@@ -47,6 +54,9 @@ made-booked (books {cs = cs} t c r e p) = ap (λ l. bookedBy c r ++ l) (made-boo
 made-booked (stops {cs = cs} t r e p) = made-booked p ∙ ap (λ (x : Answer). bookedIn (x .floor) cs) e
 made-booked (repairs {cs = cs} t r e p) = made-booked p ∙ ap (λ (x : Answer). bookedIn (x .floor) cs) e
 made-booked (rounds {cs = cs} r e p) = made-booked p ∙ ap (λ (x : Rounded). bookedIn (x .floor) cs) e
+made-booked (keeps {cs = cs} name r e p) = made-booked p ∙ ap (λ (x : Answer). bookedIn (x .floor) cs) e
+made-booked (forgets {cs = cs} name r e p) = made-booked p ∙ ap (λ (x : Answer). bookedIn (x .floor) cs) e
+made-booked (recalls {cs = cs} name r e p) = made-booked p ∙ ap (λ (x : Answer). bookedIn (x .floor) cs) e
 
 pub made-reported : {f g : Floor} {cs : List Call} {bs : List ℕ} {ns : ℕ → List ℕ} → Made f cs g bs ns → ns ≡ reportedIn f cs
 unfolding reportedIn outcome
@@ -55,14 +65,20 @@ made-reported (books {cs = cs} t c r e p) = made-reported p ∙ ap (λ (x : Answ
 made-reported (stops {cs = cs} t r e p) = made-reported p ∙ ap (λ (x : Answer). reportedIn (x .floor) cs) e
 made-reported (repairs {cs = cs} t r e p) = made-reported p ∙ ap (λ (x : Answer). reportedIn (x .floor) cs) e
 made-reported (rounds {cs = cs} r e p) = ap (joined r) (made-reported p) ∙ ap (λ (x : Rounded). joined x (reportedIn (x .floor) cs)) e
+made-reported (keeps {cs = cs} name r e p) = made-reported p ∙ ap (λ (x : Answer). reportedIn (x .floor) cs) e
+made-reported (forgets {cs = cs} name r e p) = made-reported p ∙ ap (λ (x : Answer). reportedIn (x .floor) cs) e
+made-reported (recalls {cs = cs} name r e p) = made-reported p ∙ ap (λ (x : Answer). reportedIn (x .floor) cs) e
 
--- whether tile t runs, by the answers to its stops and repairs, where b says whether it ran before
+-- whether tile t runs, by the answers to its stops and repairs and to recalls, where b says whether it ran before
 unfoldable pub runsMade : {f g : Floor} {cs : List Call} {bs : List ℕ} {ns : ℕ → List ℕ} → Made f cs g bs ns → ℕ → Bool → Bool
 runsMade none t b = b
 runsMade (books u c r e p) t b = runsMade p t b
 runsMade (stops u r e p) t b = runsMade p t (cond (eqb (r .refusal) 0 && eqb u t) false b)
 runsMade (repairs u r e p) t b = runsMade p t (cond (eqb (r .refusal) 0 && eqb u t) true b)
 runsMade (rounds r e p) t b = runsMade p t b
+runsMade (keeps name r e p) t b = runsMade p t b
+runsMade (forgets name r e p) t b = runsMade p t b
+runsMade (recalls {f = f} name r e p) t b = runsMade p t (cond (eqb (r .refusal) 0 && recallMakes f name t) (bit (recallSet f name) t) b)
 
 pub made-runs : {f g : Floor} {cs : List Call} {bs : List ℕ} {ns : ℕ → List ℕ} (m : Made f cs g bs ns) (t : ℕ) (b : Bool) → runsMade m t b ≡ latest f cs t b
 unfolding runsMade latest runsBy outcome
@@ -71,3 +87,8 @@ made-runs (books {cs = cs} u c r e p) t b = made-runs p t b ∙ ap (λ (x : Answ
 made-runs (stops {cs = cs} u r e p) t b = made-runs p t (cond (eqb (r .refusal) 0 && eqb u t) false b) ∙ ap (λ (x : Answer). latest (x .floor) cs t (cond (eqb (x .refusal) 0 && eqb u t) false b)) e
 made-runs (repairs {cs = cs} u r e p) t b = made-runs p t (cond (eqb (r .refusal) 0 && eqb u t) true b) ∙ ap (λ (x : Answer). latest (x .floor) cs t (cond (eqb (x .refusal) 0 && eqb u t) true b)) e
 made-runs (rounds {cs = cs} r e p) t b = made-runs p t b ∙ ap (λ (x : Rounded). latest (x .floor) cs t b) e
+made-runs (keeps {cs = cs} name r e p) t b = made-runs p t b ∙ ap (λ (x : Answer). latest (x .floor) cs t b) e
+made-runs (forgets {cs = cs} name r e p) t b = made-runs p t b ∙ ap (λ (x : Answer). latest (x .floor) cs t b) e
+made-runs (recalls {f = f} {cs = cs} name r e p) t b =
+    made-runs p t (cond (eqb (r .refusal) 0 && recallMakes f name t) (bit (recallSet f name) t) b)
+    ∙ ap (λ (x : Answer). latest (x .floor) cs t (cond (eqb (x .refusal) 0 && recallMakes f name t) (bit (recallSet f name) t) b)) e

@@ -10,7 +10,7 @@ use lib.Dec.{eqb}
 use lib.ListN.{getD}
 use lib.Seq.{getD-set-same}
 use borrow.Author.Tests.{eqb-true, leb-false}
-use Rattle.laws.specs.Define.{tab, keep}
+use Rattle.laws.specs.Define.{tab, keep, bit}
 use Rattle.laws.specs.Every.{All}
 use Rattle.laws.specs.Tables.{tab-at, tab-off}
 use Rattle.laws.specs.Tests.{by-test}
@@ -20,25 +20,28 @@ use Rattle.floor.specs.declared.Floor.{Floor}
 use Rattle.floor.specs.Sides.{sides}
 use Rattle.floor.specs.Settings.{total}
 use Rattle.floor.specs.Grid.{neighbour}
+use Rattle.floor.specs.Layouts.{setOf}
 use Rattle.floor.specs.Model.{TileState, Model, noTile, tileOf, runsOf, distanceOf, nextOf, tokenOf, membersOf, withTile}
 use Rattle.floor.specs.Memory.{view}
 use Rattle.floor.specs.Well.{wellFormed}
 use Rattle.floor.specs.Route.{route}
 use Rattle.floor.specs.Signal.{missing, signalBy, grantOf}
-use Rattle.floor.specs.Calls.{stopped, repaired, stopTests, afterRound, reportOf, roundAnswer}
-use Rattle.floor.specs.Demand3.{Call, book, stop, repair, round, Typed, isRound, roundsIn, outcome, floorAfter}
+use Rattle.floor.specs.Calls.{stopped, repaired, stopTests, heldTests, recalled, afterRound, reportOf, roundAnswer}
+use Rattle.floor.specs.Demand3.{Call, book, stop, repair, round, forget, recall, Typed, recallSet, isRound, roundsIn, outcome, floorAfter}
 use Rattle.floor.specs.Fairness.{wants, Waiting, granted, grantsIn, Fair, grantCount, turnOf, NobodyWaits, Fairness}
 use Rattle.floor.specs.Together.{stops, repairs}
 use Rattle.floor.proofs.Sound.{Sound}
 use Rattle.floor.proofs.Grid.{each-side, side-pos, opposite-side}
 use Rattle.floor.proofs.Tables.{run-on}
+use Rattle.floor.proofs.Rows.{view-settings}
 use Rattle.floor.proofs.Pack.{well-sound}
 use Rattle.floor.proofs.Grants.{chosen-wants, chosen-some, grant-chosen}
 use Rattle.floor.proofs.Fields.{round-token}
 use Rattle.floor.proofs.Passing.{Wanting, wants-none, wants-side, wants-told, signal-is, granting, arrow-at, back}
+use Rattle.floor.proofs.Stages.{recall-out}
 use Rattle.floor.proofs.Lists.{round-accepted, view-round, call-keeps}
-use Rattle.floor.proofs.Forms.{accepted, went, press-pos, pressForm, press-answers}
-use Rattle.floor.proofs.Touching.{book-tile, press-tile}
+use Rattle.floor.proofs.Forms.{accepted, went, press-pos, pressForm, press-answers, held-pos, recallForm, recall-answers}
+use Rattle.floor.proofs.Touching.{book-tile, press-tile, keep-tile, forget-tile, recall-tile}
 use Rattle.floor.proofs.Tokens.{Nearer, first-grant, next-grant}
 
 -- ---- one round
@@ -135,6 +138,9 @@ module _ (t k j : ℕ) (z : j ≢ 0) (n : j ≢ k) where
   past-call f w (stop u) h r p = press-tile (Past k j) f w u t p stops (λ x q. inl refl)
   past-call f w (repair u) h r p = press-tile (Past k j) f w u t p repairs (λ x q. q)
   past-call f w round h r p = absurd (true≢false r)
+  past-call f w (Call.keep name) h r p = keep-tile (Past k j) f w t p name
+  past-call f w (forget name) h r p = forget-tile (Past k j) f w t p name
+  past-call f w (recall name) h r p = recall-tile (Past k j) f w t p name (λ x q. inl refl) (λ x q. q)
 
   -- j was granted: what the tile grants up to the next grant of j has k in it
   later : (f : Floor) → wellFormed f ≡ true → (cs : List Call) → All Typed cs → t < total (view f .settings) → Past k j (tileOf (view f) t) → Waiting f cs t k
@@ -204,6 +210,9 @@ none-stays t k f w on d (c ∷ cs) h r = none-stays t k (outcome f c .floor) (ca
     kept (stop u) h r = press-tile None f w u t d stops (λ x q. refl)
     kept (repair u) h r = press-tile None f w u t d repairs (λ x q. q)
     kept round h r = absurd (omega arith)
+    kept (Call.keep name) h r = keep-tile None f w t d name
+    kept (forget name) h r = forget-tile None f w t d name
+    kept (recall name) h r = recall-tile None f w t d name (λ x q. refl) (λ x q. q)
 
 -- ---- at most three
 -- how often j stands in the list
@@ -304,6 +313,16 @@ module _ (f : Floor) (w : wellFormed f ≡ true) where
       let d : distanceOf (view (outcome f (stop t) .floor)) t ≡ 255 = ap (λ (m : Model). distanceOf m t) v ∙ ap (λ (x : TileState). x .distance) (getD-set-same (view f .tiles) t (stopped (tileOf (view f) t)) noTile (omega (arith, well-sound f w .len))) in
       none-stays t k (outcome f (stop t) .floor) (call-keeps f w (stop t) tt .0) (on-call f w t (stop t) tt on) d cs h r
 
+  after-recall : (name t : ℕ) → outcome f (recall name) .refusal ≡ 0 → t < total (f .settings) → bit (recallSet f name) t ≡ false → (cs : List Call) → All Typed cs → roundsIn cs ≡ 0 → (k : ℕ)
+      → wants (view (floorAfter f (recall name ∷ cs))) t k ≡ false
+  unfolding floorAfter recallSet
+  after-recall name t e on b cs h r k =
+      let A = accepted f (heldTests (view f) name) (held-pos name (view f)) (sym (recall-answers name .number f) ∙ e) .1 in
+      let v : view (outcome f (recall name) .floor) ≡ recalled (view f) (setOf (view f .layouts) name) = ap view (recall-answers name .floor f) ∙ went (recallForm name) f (view f) w refl A .sees in
+      let in-view : t < total (view f .settings) = omega (arith, ap (λ (s : Settings). total s) (view-settings f)) in
+      let d : distanceOf (view (outcome f (recall name) .floor)) t ≡ 255 = ap (λ (m : Model). distanceOf m t) v ∙ recall-out (view f) (well-sound f w) (setOf (view f .layouts) name) t in-view b in
+      none-stays t k (outcome f (recall name) .floor) (call-keeps f w (recall name) tt .0) (on-call f w t (recall name) tt in-view) d cs h r
+
   fair-list : (cs : List Call) → All Typed cs → (t k : ℕ) → Waiting f cs t k → Fair k (grantsIn f cs t)
   fair-list cs h t k W j before between after z n e = fair-of t k j z n f w cs h W before between after e
 
@@ -316,7 +335,7 @@ module _ (f : Floor) (w : wellFormed f ≡ true) where
       go (inr mk) = at-most-three k (grantsIn f cs t) (sides-in f w cs h t) mk (fair-list cs h t k W) n
 
   nobody-waits : NobodyWaits f
-  nobody-waits = record { fair = fair-list; stop-ends = after-stop; three = three-list; grants = grants-turn f w; turn-wants = turn-some f w }
+  nobody-waits = record { fair = fair-list; stop-ends = after-stop; recall-ends = after-recall; three = three-list; grants = grants-turn f w; turn-wants = turn-some f w }
 
 pub nobody-waits-twice : Fairness
 nobody-waits-twice = nobody-waits

@@ -10,7 +10,7 @@ use native.Mathlib.Decide.{decLe}
 use lib.ListN.{length, getD, replicate, List·getD-eq-default}
 use lib.Pow.{pow-mono}
 use borrow.Author.Tests.{eq-eqb, ne-eqb, lt-leb}
-use Rattle.laws.specs.Define.{refusal, allOf, sum, bit}
+use Rattle.laws.specs.Define.{refusal, allOf, pairsOf, sum, bit}
 use Rattle.laws.specs.Every.{All}
 use Rattle.laws.specs.Tables.{tab-length, tab-at, tab-off}
 use Rattle.laws.specs.Lists.{all-both, all-imp, all-unmap, cat-all, cat-empty}
@@ -20,8 +20,9 @@ use Rattle.floor.specs.declared.Tile.{Tile}
 use Rattle.floor.specs.declared.Floor.{Floor}
 use Rattle.floor.specs.Settings.{total, spacing, isHopper, settingsTests, settingsRefusal, settingsPass}
 use Rattle.floor.specs.Model.{TileState, noTile, tileOf, runsOf, membersOf, numbers, numbersOn}
+use Rattle.floor.specs.Layouts.{layoutsSound}
 use Rattle.floor.specs.Memory.{zeroTile, zeroCanister, zeroFloor, headOf, stateOf, view, unused, head, pack}
-use Rattle.floor.specs.Well.{inside, apart, sound, wellFormed}
+use Rattle.floor.specs.Well.{inside, apart, stateSound, sound, wellFormed}
 use Rattle.floor.specs.Calls.{refusalOf, answer, freshTile, freshFloor, freshAnswer, bookTests, bookAnswer}
 use Rattle.floor.proofs.Sound.{Measured, Inside, Sound}
 use Rattle.floor.proofs.Well.{settings-fact, inside-fact, faces-le, SoundHead, SoundTile, Counted, sound-of}
@@ -54,8 +55,8 @@ fresh-tile s M t = ((own, (inl refl, inl refl)), (tt, tt))
     }
 
 pub fresh-sound : (s : Settings) → Measured s → Sound (freshFloor s)
-unfolding freshFloor freshTile numbersOn sum
-fresh-sound s M = sound-of (freshFloor s) M (tab-length (total s) (freshTile s)) (λ t l. subst (SoundTile s t) (sym (tile t l)) (fresh-tile s M t)) counted
+unfolding freshFloor freshTile numbersOn sum layoutsSound allOf pairsOf
+fresh-sound s M = sound-of (freshFloor s) M (tab-length (total s) (freshTile s)) (λ t l. subst (SoundTile s t) (sym (tile t l)) (fresh-tile s M t)) counted none-laid
   where
     tile : (t : ℕ) → t < total s → tileOf (freshFloor s) t ≡ freshTile s t
     tile t l = tab-at (total s) (freshTile s) t noTile l
@@ -69,6 +70,9 @@ fresh-sound s M = sound-of (freshFloor s) M (tab-length (total s) (freshTile s))
     zeros (suc (suc zero)) = refl
     zeros (suc (suc (suc zero))) = refl
     zeros (suc (suc (suc (suc k)))) = refl
+
+    none-laid : layoutsSound s [] ≡ true
+    none-laid = refl
 
     counted : Counted (freshFloor s)
     counted = rw none ((tt, tt), (refl, (λ k _. zeros k, omega arith)))
@@ -84,7 +88,7 @@ unfolding freshAnswer
 refused-fresh s n = rw (ne-eqb (settingsRefusal s) 0 n)
 
 pub zero-malformed : wellFormed zeroFloor ≡ false
-unfolding wellFormed sound view zeroFloor settingsPass settingsRefusal settingsTests refusal
+unfolding wellFormed sound stateSound view zeroFloor settingsPass settingsRefusal settingsTests refusal
 zero-malformed = refl
 
 -- ---- a well-formed floor is what its value packs to

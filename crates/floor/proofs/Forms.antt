@@ -1,4 +1,4 @@
--- Bookings, stops and repairs in one form: tests and a change, both of the floor as a value. What holds of any two such calls that do not touch each other.
+-- Bookings, stops, repairs, and what names a layout, in one form: tests and a change, both of the floor as a value. What holds of any two such calls that do not touch each other.
 use mathlib.Core.Path.{_≡_, refl, sym, ap, _∙_, subst}
 use mathlib.Core.Bool.{Bool, true, false, cond, not}
 use mathlib.Core.List.{List}
@@ -11,16 +11,19 @@ use Rattle.laws.specs.Every.{All}
 use Rattle.laws.specs.Tests.{refusal-none, refusal-all-false, test-none}
 use Rattle.floor.specs.declared.Canister.{Canister}
 use Rattle.floor.specs.declared.Floor.{Floor}
+use Rattle.floor.specs.Layouts.{setOf}
 use Rattle.floor.specs.Model.{TileState, Model, tileOf, withTile}
 use Rattle.floor.specs.Memory.{view, pack}
 use Rattle.floor.specs.Well.{wellFormed}
-use Rattle.floor.specs.Calls.{refusalOf, answer, bookTests, booked, bookAnswer, stopTests, stopped, stopAnswer, repairTests, repaired, repairAnswer}
-use Rattle.floor.specs.Demand3.{Call, book, outcome}
+use Rattle.floor.specs.Calls.{refusalOf, answer, bookTests, booked, bookAnswer, stopTests, stopped, stopAnswer, repairTests, repaired, repairAnswer, keepTests, keptUnder, keepAnswer, heldTests, forgotten, forgetAnswer, recalled, recallAnswer}
+use Rattle.floor.specs.Demand3.{Call, book, keep, forget, recall, outcome}
 use Rattle.floor.specs.Together.{Presses, stops, repairs}
 use Rattle.floor.proofs.Sound.{Sound}
 use Rattle.floor.proofs.Pack.{well-sound}
 use Rattle.floor.proofs.Capacity.{sound-well, view-packed}
 use Rattle.floor.proofs.Calls.{Accepted, book-keeps, stop-keeps, repair-keeps}
+use Rattle.floor.proofs.Laying.{keep-keeps, forget-keeps}
+use Rattle.floor.proofs.Stages.{recall-keeps}
 use Rattle.floor.proofs.Lists.{passed}
 
 pub record Form : Type 0 where
@@ -173,3 +176,33 @@ bookForm t b h = record { tests = λ m. bookTests m t b; change = λ m. booked m
 pub book-answers : (t : ℕ) (b : Canister) (h : b .number < 2 ^ 32) → Answers (book t b) (bookForm t b h)
 unfolding outcome bookAnswer answer
 book-answers t b h = record { number = λ f. refl; floor = λ f. refl }
+
+-- keeping, forgetting, recalling
+pub keep-pos : (name : ℕ) (m : Model) → All (λ x. 0 < x .1) (keepTests m name)
+unfolding keepTests
+keep-pos name m = omega arith
+
+pub held-pos : (name : ℕ) (m : Model) → All (λ x. 0 < x .1) (heldTests m name)
+unfolding heldTests
+held-pos name m = omega arith
+
+abbrev pub keepForm : ℕ → Form
+keepForm name = record { tests = λ m. keepTests m name; change = λ m. keptUnder m name; pos = keep-pos name; sound = λ m S A. keep-keeps m S name A .well }
+
+abbrev pub forgetForm : ℕ → Form
+forgetForm name = record { tests = λ m. heldTests m name; change = λ m. forgotten m name; pos = held-pos name; sound = λ m S A. forget-keeps m S name .well }
+
+abbrev pub recallForm : ℕ → Form
+recallForm name = record { tests = λ m. heldTests m name; change = λ m. recalled m (setOf (m .layouts) name); pos = held-pos name; sound = λ m S A. recall-keeps m S name A .well }
+
+pub keep-answers : (name : ℕ) → Answers (keep name) (keepForm name)
+unfolding outcome keepAnswer answer
+keep-answers name = record { number = λ f. refl; floor = λ f. refl }
+
+pub forget-answers : (name : ℕ) → Answers (forget name) (forgetForm name)
+unfolding outcome forgetAnswer answer
+forget-answers name = record { number = λ f. refl; floor = λ f. refl }
+
+pub recall-answers : (name : ℕ) → Answers (recall name) (recallForm name)
+unfolding outcome recallAnswer answer
+recall-answers name = record { number = λ f. refl; floor = λ f. refl }

@@ -1,7 +1,7 @@
 -- Demand 3 on concrete lists: its premises are met there, and what it promises of them is read off. Then what the words of later statements mean on such lists. What is computed is computed on values (Made, Walked).
 use mathlib.Core.Path.{_≡_, refl, sym, ap, _∙_, subst, fun-ext}
 use mathlib.Core.Logic.{_≢_}
-use mathlib.Core.Bool.{Bool, true, false, cond, _&&_, false≢true}
+use mathlib.Core.Bool.{Bool, true, false, cond, _&&_}
 use mathlib.Core.List.{List, [], _∷_, _++_, List·Memᴰ, List·Memᴰ·head, List·Memᴰ·tail}
 use Prim.Native.Nat.{ℕ, zero, suc, _-_, _^_, _≤_, _<_}
 use native.Mathlib.Omega.{arith}
@@ -23,13 +23,13 @@ use Rattle.floor.specs.Signal.{missing}
 use Rattle.floor.specs.Bound.{bound}
 use Rattle.floor.specs.Live.{connected, connectedCount}
 use Rattle.floor.specs.Reports.{listedAt}
-use Rattle.floor.specs.Demand3.{Call, book, stop, repair, round, Typed, outcome, floorAfter, runsAfter, Quiet, roundsIn}
+use Rattle.floor.specs.Demand3.{Call, book, stop, repair, round, Typed, outcome, floorAfter, runsAfter, changesRunning, Quiet, roundsIn}
 use Rattle.floor.specs.Together.{stops, repairs, Exchangeable, presses, booking, BothBooked}
 use Rattle.floor.specs.Fairness.{wants, Waiting, granted, grantsIn, Fair, grantCount, turnOf}
 use Rattle.floor.specs.Arrows.{beyond, FacesNearest, Chooses, Unpressed, Steady, Resting}
 use Rattle.floor.proofs.Calling.{settings, can, holds}
 use Rattle.floor.proofs.Shown.{Shows, refusalBy, valueBy, shows-refusal, shows-call}
-use Rattle.floor.proofs.Walked.{isTyped, all-typed, valueAfter, grantsBy, quietBy, waitingBy, shows-list, grants-same, runs-same, quiet, waiting}
+use Rattle.floor.proofs.Walked.{isTyped, all-typed, valueAfter, grantsBy, quietBy, unpressedBy, waitingBy, shows-list, grants-same, runs-same, quiet, unpressed, waiting}
 use Rattle.floor.proofs.Made.{Made, begun, fresh, book as put, stop as halt, repair as mend, rounds as run, floorOf, made, made-shows, list-shows, list-typed, counted, answers, booked, reportedIn, said, grants, runsAfter as ranAfter, given, Rows, hold, holdBy, by-values}
 use Rattle.floor.proofs.Rows.{view-settings}
 use Rattle.floor.proofs.Lists.{list-keeps}
@@ -51,13 +51,13 @@ emptied-from f w cs ds typed later q enough t live =
     done (floorAfter f cs) (sym (P .is-now)) q enough
 
 -- the tests, n being the value after cs
-unfoldable quietEnough : Model → List Call → ℕ → Bool
+unfoldable pub quietEnough : Model → List Call → ℕ → Bool
 quietEnough n ds t = quietBy n ds && (leb (bound (n .settings) (connectedCount n (runsOf n))) (roundsIn ds) && connected (n .settings) (runsOf n) t)
 
-unfoldable empties : Made → List Call → List Call → ℕ → Bool
+unfoldable pub empties : Made → List Call → List Call → ℕ → Bool
 empties e cs ds t = (made e .0 && allOf isTyped cs) && (allOf isTyped ds && quietEnough (valueAfter (made e .1) cs) ds t)
 
-emptied : (e : Made) (cs ds : List Call) (t : ℕ) → empties e cs ds t ≡ true → membersOf (view (floorAfter (floorAfter (floorOf e) cs) ds)) t ≡ []
+pub emptied : (e : Made) (cs ds : List Call) (t : ℕ) → empties e cs ds t ≡ true → membersOf (view (floorAfter (floorAfter (floorOf e) cs) ds)) t ≡ []
 unfolding empties quietEnough
 emptied e cs ds t h =
     let first = made e .0 && allOf isTyped cs in
@@ -84,7 +84,7 @@ emptied e cs ds t h =
         (carry (λ s x r. bound s (connectedCount x r) ≤ roundsIn ds) (leb-true _ (roundsIn ds) (and-left enough _ k′))) t (carry (λ s x r. connected s r t ≡ true) (and-right enough _ k′))
 
 -- n rounds
-abbrev rounds : ℕ → List Call
+abbrev pub rounds : ℕ → List Call
 rounds zero = []
 rounds (suc n) = round ∷ rounds n
 
@@ -92,18 +92,18 @@ rounds (suc n) = round ∷ rounds n
 typed-book : (t : ℕ) (c : Canister) → c .number < 2 ^ 32 → Typed (book t c)
 typed-book t c h = h
 
-typed-stop : (t : ℕ) → Typed (stop t)
+pub typed-stop : (t : ℕ) → Typed (stop t)
 typed-stop t = tt
 
-typed-repair : (t : ℕ) → Typed (repair t)
+pub typed-repair : (t : ℕ) → Typed (repair t)
 typed-repair t = tt
 
-typed-rounds : (n : ℕ) → All Typed (rounds n)
+pub typed-rounds : (n : ℕ) → All Typed (rounds n)
 typed-rounds zero = tt
 typed-rounds (suc n) = (tt, typed-rounds n)
 
 -- ---- the first trial: W 2, hopper 1, canister 5 at (0, 0) on tile 0; after five rounds tile 0 is empty
-unfoldable one : Made
+unfoldable pub one : Made
 one = put 5 0 0 0 (fresh 2 1 1)
 
 first-test : empties one [] (rounds 5) 0 ≡ true
@@ -114,7 +114,7 @@ first-trial : membersOf (view (floorAfter (floorAfter (floorOf one) []) (rounds 
 first-trial = emptied one [] (rounds 5) 0 first-test
 
 -- ---- v 29, begun after 4 was delivered and with 5 on tile 0: a booking of the greatest number, a stop, a repair, rounds, and refused calls (31, 8, 33) among them
-unfoldable swift : Made
+unfoldable pub swift : Made
 swift = put 5 0 0 0 (run 3 (put 4 0 0 0 (begun (settings 2 1 1 29))))
 
 unfoldable mixed : List Call
@@ -184,7 +184,7 @@ heard-all : hold heard ≡ true
 heard-all = by-values heard heard-test
 
 -- ---- [11]: the hopper in the middle of 3 × 3, canisters on all four sides. West wants in each of five rounds, after a refused stop, and is granted again after the other three; a list in which another side is granted twice meanwhile is not fair
-unfoldable crowd : Made
+unfoldable pub crowd : Made
 crowd = put 8 0 0 7 (put 7 0 0 5 (put 6 0 0 3 (put 5 0 0 1 (fresh 3 3 4))))
 
 -- 3 × 2, hopper 3: west, south and east want; the turn is south's when tile 2 stops, so east is next
@@ -209,7 +209,7 @@ crowd-made : made crowd .0 ≡ true
 unfolding holds holdBy crowd
 crowd-made = refl
 
-crowd-shows : Shows (floorOf crowd) (made crowd .1)
+pub crowd-shows : Shows (floorOf crowd) (made crowd .1)
 crowd-shows = made-shows crowd crowd-made
 
 west-test : waitingBy (made crowd .1) (stop 4 ∷ rounds 5) 4 1 ≡ true
@@ -276,31 +276,32 @@ crowd-turn =
     nobody-waits-twice (floorOf (run 1 crowd)) (E .well) .turn-wants 4 4 (ap (λ (x : Model). wants x 4 4) (E .value) ∙ crowd-test .1 .1 .1)
 
 -- ---- [3]: 2 × 2, hopper 3. After four rounds arrows rest: a booking, a refused stop and rounds leave them
-unfoldable square : Made
+unfoldable pub square : Made
 square = fresh 2 2 3
 
 square-test : (made square .0 ≡ true) × (total (made square .1 .settings) ≡ 4)
 unfolding holds holdBy square
 square-test = (refl, refl)
 
-square-shows : Shows (floorOf square) (made square .1)
+pub square-shows : Shows (floorOf square) (made square .1)
 square-shows = made-shows square (square-test .0)
 
-four-tiles : total (floorOf square .settings) ≡ 4
+pub four-tiles : total (floorOf square .settings) ≡ 4
 unfolding view
 four-tiles = ap (λ (x : Model). total (x .settings)) (square-shows .value) ∙ square-test .1
 
-unpressed-rounds : (n : ℕ) (f : Floor) → Unpressed f (rounds n)
+pub unpressed-rounds : (n : ℕ) (f : Floor) → Unpressed f (rounds n)
+unfolding changesRunning
 unpressed-rounds zero f = tt
-unpressed-rounds (suc n) f = (λ e. absurd (false≢true e), unpressed-rounds n (outcome f round .floor))
+unpressed-rounds (suc n) f = (refl, unpressed-rounds n (outcome f round .floor))
 
-abbrev settled : Floor
+abbrev pub settled : Floor
 settled = floorAfter (floorOf square) (rounds 4)
 
-abbrev rest : Model
+abbrev pub rest : Model
 rest = valueAfter (made square .1) (rounds 4)
 
-settled-shows : Shows settled rest
+pub settled-shows : Shows settled rest
 settled-shows = shows-list (floorOf square) (made square .1) square-shows (rounds 4) (typed-rounds 4)
 
 abbrev busy : List Call
@@ -310,18 +311,12 @@ typed-busy : All Typed busy
 unfolding can
 typed-busy = (typed-book 0 (can 5 0 0) (omega arith), (typed-stop 3, typed-rounds 2))
 
-busy-test : (refusalBy (valueBy rest (book 0 (can 5 0 0))) (stop 3) ≡ 8) × (eqb (nextOf (valueAfter rest busy) 0) 0 ≡ false)
-unfolding holds holdBy square can
+busy-test : (unpressedBy rest busy ≡ true) × (eqb (nextOf (valueAfter rest busy) 0) 0 ≡ false)
+unfolding holds holdBy square can unpressedBy
 busy-test = (refl, refl)
 
 busy-unpressed : Unpressed settled busy
-busy-unpressed = (λ e. absurd (false≢true e), (λ e z. absurd (8≢0 z), unpressed-rounds 2 (outcome (outcome settled (book 0 (can 5 0 0)) .floor) (stop 3) .floor)))
-  where
-    8≢0 : outcome (outcome settled (book 0 (can 5 0 0)) .floor) (stop 3) .refusal ≢ 0
-    8≢0 z =
-        let b = book 0 (can 5 0 0) in
-        let e : outcome (outcome settled b .floor) (stop 3) .refusal ≡ 8 = shows-refusal (outcome settled b .floor) (valueBy rest b) (shows-call settled rest settled-shows b (typed-busy .0)) (stop 3) ∙ busy-test .0 in
-        absurd (omega (arith, e, z))
+busy-unpressed = unpressed settled rest settled-shows busy typed-busy (busy-test .0)
 
 rested : (t : ℕ) → nextOf (view (floorAfter settled busy)) t ≡ nextOf (view settled) t
 rested = arrows (floorOf square) (square-shows .well) .1 .rests (rounds 4) (typed-rounds 4) (unpressed-rounds 4 (floorOf square)) (omega (arith, four-tiles)) .stays busy typed-busy busy-unpressed

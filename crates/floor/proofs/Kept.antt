@@ -122,4 +122,5 @@ module _ (m : Model) (S : Sound m) where
         counted = omega (arith, S .counted, total-delivered, length-perm (round-numbers m S), length-append N (cat 4 (went m)));
         booked-last = S .booked-last;
         last-fits = S .last-fits;
+        laid-out = S .laid-out;
       }

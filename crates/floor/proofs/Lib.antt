@@ -26,13 +26,19 @@ pub mod Deliveries
 pub mod Progress
 pub mod Clearing
 pub mod Calls
+pub mod Laying
+pub mod Stages
 pub mod Lists
+pub mod Recalling
+pub mod Names
 pub mod Reports
 pub mod Theorem
 pub mod Chain
 pub mod Forms
 pub mod Together
+pub mod LayoutPlaces
 pub mod Touching
+pub mod Named
 pub mod Tokens
 pub mod Fairness
 pub mod Arrows
@@ -46,4 +52,6 @@ pub mod Walked
 pub mod Made
 pub mod Trials
 pub mod Samples
+pub mod LayoutSamples
 pub mod Instances
+pub mod LayoutInstances

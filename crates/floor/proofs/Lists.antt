@@ -3,25 +3,31 @@ use mathlib.Core.Path.{_≡_, refl, sym, ap, _∙_, subst, fun-ext}
 use mathlib.Core.Logic.{_≢_}
 use mathlib.Core.Bool.{Bool, true, false, cond, not, _&&_, true≢false, false≢true}
 use mathlib.Core.List.{List, [], _∷_}
-use Prim.Native.Nat.{ℕ, suc, _+_, _≤_, _<_}
+use Prim.Native.Nat.{ℕ, zero, suc, _+_, _≤_, _<_}
 use native.Mathlib.Omega.{arith}
 use native.Mathlib.Decide.{decLe}
-use lib.Dec.{eqb}
+use lib.Dec.{ltb, eqb}
 use lib.ListN.{length, getD, take, List·getD-eq-default}
-use borrow.Author.Tests.{eqb-true, ne-eqb}
-use Rattle.laws.specs.Define.{tab, refusal}
+use borrow.Author.Tests.{eqb-true, eqb-false, ne-eqb, lt-ltb, not-true, not-false}
+use Rattle.laws.specs.Define.{tab, allBelow, bit, refusal}
 use Rattle.laws.specs.Every.{All}
 use Rattle.laws.specs.Tests.{refusal-none, test-none}
-use Rattle.laws.specs.Tables.{tab-at, tab-off}
+use Rattle.laws.specs.Tables.{tab-at, tab-off, below-at}
 use Rattle.floor.specs.declared.Delivery.{Delivery}
+use Rattle.floor.specs.declared.Layout.{Layout}
 use Rattle.floor.specs.declared.Floor.{Floor}
 use Rattle.floor.specs.declared.Report.{Report}
-use Rattle.floor.specs.Model.{Model, tileOf, runsOf, withTile}
+use Rattle.floor.specs.Settings.{total}
+use Rattle.floor.specs.Layouts.{setOf}
+use Rattle.floor.specs.Model.{Model, tileOf, runsOf, withTile, withLayouts}
 use Rattle.floor.specs.Memory.{view, pack}
 use Rattle.floor.specs.Well.{wellFormed}
-use Rattle.floor.specs.Calls.{refusalOf, answer, bookTests, booked, bookAnswer, stopTests, stopped, stopAnswer, repairTests, repaired, repairAnswer, afterRound, delivered, deliveryOf, noDelivery, reportOf, roundAnswer}
+use Rattle.floor.specs.Route.{route}
+use Rattle.floor.specs.Signal.{signal, signalOf, shownOf}
+use Rattle.floor.specs.Move.{move, moveTile, arrivals, deliveredBy}
+use Rattle.floor.specs.Calls.{refusalOf, answer, bookTests, booked, bookAnswer, stopTests, stopped, stopAnswer, repairTests, repaired, repairAnswer, keepTests, keptUnder, keepAnswer, heldTests, forgotten, forgetAnswer, recalled, recallAnswer, afterRound, delivered, deliveryOf, noDelivery, reportOf, roundAnswer}
 use Rattle.floor.specs.Reports.{listed, listedAt}
-use Rattle.floor.specs.Demand3.{Call, book, stop, repair, round, Typed, outcome, floorAfter, bookedIn, reportedIn, runsBy, latest, isRound, Quiet, roundsIn}
+use Rattle.floor.specs.Demand3.{Call, book, stop, repair, round, keep, forget, recall, Typed, outcome, floorAfter, bookedIn, reportedIn, recallSet, recallMakes, runsBy, latest, isRound, changesRunning, disturbs, Quiet, roundsIn}
 use Rattle.floor.proofs.Sound.{Sound}
 use Rattle.floor.proofs.Pack.{well-sound}
 use Rattle.floor.proofs.Capacity.{sound-well, view-packed}
@@ -29,6 +35,8 @@ use Rattle.floor.proofs.Deliveries.{delivered-few}
 use Rattle.floor.proofs.Fields.{went, delivered-length, round-runs}
 use Rattle.floor.proofs.Clearing.{rounds}
 use Rattle.floor.proofs.Calls.{Keeps, none, Accepted, book-keeps, stop-keeps, repair-keeps, round-keeps, same-floor, keeps-join, book-runs, stop-runs, repair-runs}
+use Rattle.floor.proofs.Laying.{keep-keeps, forget-keeps}
+use Rattle.floor.proofs.Stages.{recall-keeps, recall-runs, recall-none}
 
 -- from f to g, with the numbers that came and went
 abbrev pub KeepsWell : Floor → Floor → List ℕ → (ℕ → List ℕ) → Type 0
@@ -118,11 +126,14 @@ module _ (f : Floor) (w : wellFormed f ≡ true) where
   view-round (book t c) e = absurd (false≢true e)
   view-round (stop t) e = absurd (false≢true e)
   view-round (repair t) e = absurd (false≢true e)
+  view-round (keep name) e = absurd (false≢true e)
+  view-round (forget name) e = absurd (false≢true e)
+  view-round (recall name) e = absurd (false≢true e)
   view-round round e = ap view round-floor ∙ view-packed (afterRound (view f)) (round-keeps (view f) S .well)
 
   -- ---- one call
   pub call-keeps : (c : Call) → Typed c → KeepsWell f (outcome f c .floor) (outcome f c .booked) (outcome f c .reported)
-  unfolding outcome bookAnswer stopAnswer repairAnswer answer bookTests stopTests repairTests
+  unfolding outcome bookAnswer stopAnswer repairAnswer keepAnswer forgetAnswer recallAnswer answer bookTests stopTests repairTests keepTests heldTests
   call-keeps (book t c) h =
       answer-keeps (bookTests (view f) t c) (omega arith) (booked (view f) t c) (λ b. cond b (c .number ∷ []) []) refl (λ T. book-keeps (view f) S t c T h)
   call-keeps (stop t) h = answer-keeps (stopTests (view f) t) (omega arith) (withTile (view f) t (stopped (tileOf (view f) t))) (λ _. []) refl (stop-keeps (view f) S t)
@@ -130,10 +141,13 @@ module _ (f : Floor) (w : wellFormed f ≡ true) where
   call-keeps round h =
       subst (λ (g : Floor). KeepsWell f g [] (outcome f round .reported)) (sym round-floor)
       (subst (λ (l : ℕ → List ℕ). KeepsWell f (pack (afterRound (view f))) [] l) (sym round-reported) (packed (afterRound (view f)) [] (went (view f)) (round-keeps (view f) S)))
+  call-keeps (keep name) h = answer-keeps (keepTests (view f) name) (omega arith) (keptUnder (view f) name) (λ _. []) refl (keep-keeps (view f) S name)
+  call-keeps (forget name) h = answer-keeps (heldTests (view f) name) (omega arith) (forgotten (view f) name) (λ _. []) refl (λ _. forget-keeps (view f) S name)
+  call-keeps (recall name) h = answer-keeps (heldTests (view f) name) (omega arith) (recalled (view f) (setOf (view f .layouts) name)) (λ _. []) refl (recall-keeps (view f) S name)
 
   -- which tiles run after it
   pub call-runs : (c : Call) → Typed c → (t : ℕ) → runsOf (view (outcome f c .floor)) t ≡ runsBy f c t (runsOf (view f) t)
-  unfolding outcome bookAnswer stopAnswer repairAnswer answer bookTests stopTests repairTests runsBy
+  unfolding outcome bookAnswer stopAnswer repairAnswer keepAnswer forgetAnswer recallAnswer answer bookTests stopTests repairTests keepTests heldTests keptUnder forgotten runsBy recallMakes recallSet view
   call-runs (book u c) h t =
       answer-runs (bookTests (view f) u c) (omega arith) (booked (view f) u c) t false true S (λ T. book-keeps (view f) S u c T h .well) (λ T. book-runs (view f) S u c T t) ∙ never (eqb (refusalOf f (bookTests (view f) u c)) 0)
     where
@@ -145,17 +159,84 @@ module _ (f : Floor) (w : wellFormed f ≡ true) where
   call-runs (repair u) h t =
       answer-runs (repairTests (view f) u) (omega arith) (withTile (view f) u (repaired (tileOf (view f) u))) t (eqb u t) true S (λ T. repair-keeps (view f) S u T .well) (λ T. repair-runs (view f) S u T t)
   call-runs round h t = ap (λ (x : Model). runsOf x t) (view-round round refl) ∙ round-runs (view f) (S .len) t
+  call-runs (keep name) h t =
+      by-answer (keepTests (view f) name) (omega arith) (λ b. runsOf (view (cond b (pack (keptUnder (view f) name)) f)) t ≡ runsOf (view f) t)
+      (λ T. ap (λ (x : Model). runsOf x t) (view-packed (keptUnder (view f) name) (keep-keeps (view f) S name T .well))) refl
+  call-runs (forget name) h t =
+      by-answer (heldTests (view f) name) (omega arith) (λ b. runsOf (view (cond b (pack (forgotten (view f) name)) f)) t ≡ runsOf (view f) t)
+      (λ T. ap (λ (x : Model). runsOf x t) (view-packed (forgotten (view f) name) (forget-keeps (view f) S name .well))) refl
+  call-runs (recall name) h t =
+      let set = setOf (view f .layouts) name in
+      by-answer (heldTests (view f) name) (omega arith)
+      (λ b. runsOf (view (cond b (pack (recalled (view f) set)) f)) t ≡ cond (b && (ltb t (total (f .settings)) && cond (bit set t) (not (runsOf (view f) t)) (runsOf (view f) t))) (bit set t) (runsOf (view f) t))
+      (λ T. ap (λ (x : Model). runsOf x t) (view-packed (recalled (view f) set) (recall-keeps (view f) S name T .well)) ∙ recall-runs (view f) S set t) refl
 
   -- a refused call gives the floor back
   refused : (tests : List (Bool × ℕ)) (n : Model) → refusalOf f tests ≢ 0 → cond (eqb (refusalOf f tests) 0) (pack n) f ≡ f
   refused tests n h = rw (ne-eqb (refusalOf f tests) 0 h)
 
   pub call-refused : (c : Call) → isRound c ≡ false → outcome f c .refusal ≢ 0 → outcome f c .floor ≡ f
-  unfolding outcome bookAnswer stopAnswer repairAnswer answer
+  unfolding outcome bookAnswer stopAnswer repairAnswer keepAnswer forgetAnswer recallAnswer answer
   call-refused (book t c) r h = refused (bookTests (view f) t c) (booked (view f) t c) h
   call-refused (stop t) r h = refused (stopTests (view f) t) (withTile (view f) t (stopped (tileOf (view f) t))) h
   call-refused (repair t) r h = refused (repairTests (view f) t) (withTile (view f) t (repaired (tileOf (view f) t))) h
   call-refused round r h = absurd (true≢false r)
+  call-refused (keep name) r h = refused (keepTests (view f) name) (keptUnder (view f) name) h
+  call-refused (forget name) r h = refused (heldTests (view f) name) (forgotten (view f) name) h
+  call-refused (recall name) r h = refused (heldTests (view f) name) (recalled (view f) (setOf (view f .layouts) name)) h
+
+  -- ---- calls that change the layouts at most
+  abbrev pub Relaid : Call → Type 0
+  Relaid c = (l : List Layout) × (view (outcome f c .floor) ≡ withLayouts (view f) l)
+
+  relaid-refused : (c : Call) → isRound c ≡ false → outcome f c .refusal ≢ 0 → Relaid c
+  relaid-refused c r h = (view f .layouts, ap view (call-refused c r h))
+
+  pub relaid-keep : (name : ℕ) → Relaid (keep name)
+  unfolding outcome keepAnswer answer keepTests keptUnder
+  relaid-keep name = by-answer (keepTests (view f) name) (omega arith) (λ b. (l : List Layout) × (view (cond b (pack (keptUnder (view f) name)) f) ≡ withLayouts (view f) l))
+      (λ T. (keptUnder (view f) name .layouts, view-packed (keptUnder (view f) name) (keep-keeps (view f) S name T .well))) (view f .layouts, refl)
+
+  pub relaid-forget : (name : ℕ) → Relaid (forget name)
+  unfolding outcome forgetAnswer answer heldTests forgotten
+  relaid-forget name = by-answer (heldTests (view f) name) (omega arith) (λ b. (l : List Layout) × (view (cond b (pack (forgotten (view f) name)) f) ≡ withLayouts (view f) l))
+      (λ T. (forgotten (view f) name .layouts, view-packed (forgotten (view f) name) (forget-keeps (view f) S name .well))) (view f .layouts, refl)
+
+  not-made : (name t : ℕ) → ltb t (total (f .settings)) ≡ true → recallMakes f name t ≡ false → cond (bit (setOf (view f .layouts) name) t) (not (runsOf (view f) t)) (runsOf (view f) t) ≡ false
+  unfolding recallMakes recallSet
+  not-made name t l h = rw l at h
+
+  -- a recall that makes no stop and no repair
+  pub relaid-recall : (name : ℕ) → changesRunning f (recall name) ≡ false → Relaid (recall name)
+  unfolding changesRunning outcome recallAnswer answer heldTests view
+  relaid-recall name q = go (eqb (refusalOf f (heldTests (view f) name)) 0) refl
+    where
+      set : ℕ
+      set = setOf (view f .layouts) name
+
+      idle : Bool
+      idle = allBelow (λ t. not (recallMakes f name t)) (total (f .settings))
+
+      go : (b : Bool) → eqb (refusalOf f (heldTests (view f) name)) 0 ≡ b → (l : List Layout) × (view (cond b (pack (recalled (view f) set)) f) ≡ withLayouts (view f) l)
+      go false e = (view f .layouts, refl)
+      go true e =
+          let T = passed (heldTests (view f) name) (omega arith) e in
+          let all : idle ≡ true = not-false idle (rw e at q) in (
+            view f .layouts,
+            view-packed (recalled (view f) set) (recall-keeps (view f) S name T .well)
+                ∙ recall-none (view f) S set (λ t h. not-made name t (lt-ltb t (total (f .settings)) h) (not-true (recallMakes f name t) (below-at (λ t. not (recallMakes f name t)) (total (f .settings)) all t h))),
+          )
+
+  -- a call that is neither a round nor an accepted booking, stop or repair
+  quiet-call : (c : Call) → isRound c ≡ false → disturbs f c ≡ false → Relaid c
+  unfolding disturbs changesRunning
+  quiet-call (book t c) r q = relaid-refused (book t c) r (eqb-false (outcome f (book t c) .refusal) 0 q)
+  quiet-call (stop t) r q = relaid-refused (stop t) r (eqb-false (outcome f (stop t) .refusal) 0 q)
+  quiet-call (repair t) r q = relaid-refused (repair t) r (eqb-false (outcome f (repair t) .refusal) 0 q)
+  quiet-call round r q = absurd (true≢false r)
+  quiet-call (keep name) r q = relaid-keep name
+  quiet-call (forget name) r q = relaid-forget name
+  quiet-call (recall name) r q = relaid-recall name q
 
 -- ---- lists
 pub list-keeps : (f : Floor) → wellFormed f ≡ true → (cs : List Call) → All Typed cs → KeepsWell f (floorAfter f cs) (bookedIn f cs) (reportedIn f cs)
@@ -174,19 +255,35 @@ list-runs f w [] h t = refl
 list-runs f w (c ∷ cs) h t =
     ap (latest (outcome f c .floor) cs t) (sym (call-runs f w c (h .0) t)) ∙ list-runs (outcome f c .floor) (call-keeps f w c (h .0) .0) cs (h .1) t
 
--- a quiet list is its rounds
-pub quiet-rounds : (f : Floor) → wellFormed f ≡ true → (cs : List Call) → All Typed cs → Quiet f cs → view (floorAfter f cs) ≡ rounds (roundsIn cs) (view f)
+-- rounds don't look at layouts
+round-relaid : (m : Model) (l : List Layout) → afterRound (withLayouts m l) ≡ withLayouts (afterRound m) l
+unfolding afterRound route signal move moveTile arrivals deliveredBy signalOf shownOf
+round-relaid m l = refl
+
+rounds-relaid : (n : ℕ) (m : Model) (l : List Layout) → rounds n (withLayouts m l) ≡ withLayouts (rounds n m) l
+unfolding rounds
+rounds-relaid zero m l = refl
+rounds-relaid (suc n) m l = ap (rounds n) (round-relaid m l) ∙ rounds-relaid n (afterRound m) l
+
+-- a quiet list is its rounds, but for the layouts
+pub quiet-rounds : (f : Floor) → wellFormed f ≡ true → (cs : List Call) → All Typed cs → Quiet f cs → (l : List Layout) × (view (floorAfter f cs) ≡ withLayouts (rounds (roundsIn cs) (view f)) l)
 unfolding floorAfter rounds
-quiet-rounds f w [] h q = refl
-quiet-rounds f w (c ∷ cs) h q = quiet-rounds (outcome f c .floor) (call-keeps f w c (h .0) .0) cs (h .1) (q .1) ∙ here (isRound c) refl
+quiet-rounds f w [] h q = (view f .layouts, refl)
+quiet-rounds f w (c ∷ cs) h q =
+    let R = quiet-rounds (outcome f c .floor) (call-keeps f w c (h .0) .0) cs (h .1) (q .1) in
+    here (isRound c) refl (R .0) (R .1)
   where
     n : ℕ
     n = roundsIn cs
 
-    here : (b : Bool) → isRound c ≡ b → rounds n (view (outcome f c .floor)) ≡ rounds (cond b 1 0 + n) (view f)
-    here true e =
+    g : Floor
+    g = floorAfter (outcome f c .floor) cs
+
+    here : (b : Bool) → isRound c ≡ b → (l : List Layout) → view g ≡ withLayouts (rounds n (view (outcome f c .floor))) l → (l : List Layout) × (view g ≡ withLayouts (rounds (cond b 1 0 + n) (view f)) l)
+    here true e l p =
         let k : suc n ≡ 1 + n = omega arith in
-        ap (rounds n) (view-round f w c e) ∙ ap (λ (x : ℕ). rounds x (view f)) k
-    here false e =
+        (l, p ∙ ap (λ (x : Model). withLayouts (rounds n x) l) (view-round f w c e) ∙ ap (λ (x : ℕ). withLayouts (rounds x (view f)) l) k)
+    here false e l p =
         let k : n ≡ 0 + n = omega arith in
-        ap (λ (g : Floor). rounds n (view g)) (call-refused f w c e (q .0 e)) ∙ ap (λ (x : ℕ). rounds x (view f)) k
+        let Q = quiet-call f w c e (q .0) in
+        (l, p ∙ ap (λ (x : Model). withLayouts (rounds n x) l) (Q .1) ∙ ap (λ (x : Model). withLayouts x l) (rounds-relaid n (view f) (Q .0)) ∙ ap (λ (x : ℕ). withLayouts (rounds x (view f)) l) k)

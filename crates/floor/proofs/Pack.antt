@@ -1,7 +1,7 @@
 -- A floor as a value is read back as it was packed; a floor that fits is what its value packs to; what a well-formed floor has.
 use mathlib.Core.Path.{_≡_, refl, sym, ap, _∙_}
 use mathlib.Core.Logic.{_≢_}
-use mathlib.Core.Bool.{true, cond}
+use mathlib.Core.Bool.{Bool, true, false, cond, _&&_}
 use mathlib.Core.List.{List, [], _∷_}
 use Prim.Native.Nat.{ℕ, zero, suc, _+_, _*_, _/_, _%_, _≤_, _<_}
 use native.Mathlib.Omega.{arith}
@@ -17,14 +17,16 @@ use Rattle.floor.specs.declared.Canister.{Canister}
 use Rattle.floor.specs.declared.Settings.{Settings}
 use Rattle.floor.specs.declared.Counters.{Counters}
 use Rattle.floor.specs.declared.Tile.{Tile}
+use Rattle.floor.specs.declared.Layout.{Layout}
 use Rattle.floor.specs.declared.Floor.{Floor}
 use Rattle.floor.specs.Settings.{total, settingsPass}
-use Rattle.floor.specs.Model.{TileState, Model, noTile, tileOf, membersOf, withTile}
-use Rattle.floor.specs.Memory.{zeroTile, zeroCanister, headOf, stateOf, view, unused, head, rows, build, pack, isZeroCanister, isZeroTile, block, headFits, tileFits, fits}
-use Rattle.floor.specs.Well.{sound, wellFormed}
+use Rattle.floor.specs.Model.{TileState, Model, noTile, tileOf, membersOf, withTiles, withTile, withCounters}
+use Rattle.floor.specs.Memory.{zeroTile, zeroCanister, headOf, stateOf, view, unused, head, rows, build, pack, isZeroCanister, isZeroTile, block, headFits, tileFits, stateFits, fits, layoutsFit, usedLayouts, layoutPlaces, retiled, refilled}
+use Rattle.floor.specs.Layouts.{layoutsSound}
+use Rattle.floor.specs.Well.{stateSound, sound, stateWell, layoutsWell, wellFormed}
 use Rattle.floor.proofs.Sound.{Measured, Sound}
 use Rattle.floor.proofs.Well.{settings-fact, sound-fact}
-use Rattle.floor.proofs.Rows.{rows-length, placeAt, rows-place, rows-filled, zero-tile, rest-zero, rest-of, fits-tiles, fits-canisters, tiles-fit-at, fits-of}
+use Rattle.floor.proofs.Rows.{rows-length, placeAt, rows-place, rows-filled, zero-tile, rest-zero, rest-of, fits-tiles, fits-canisters, tiles-fit-at, fits-of, fits-layouts, layouts-back, Placed, used-places, layouts-fit, sound-named}
 
 -- what a list is read as outside it doesn't matter inside
 get-same : {A : Type 0} (l : List A) (t : ℕ) (x y : A) → t < length l → getD l t x ≡ getD l t y
@@ -34,7 +36,7 @@ get-same (z ∷ l) (suc t) x y h = get-same l t x y (omega arith)
 
 -- ---- a value that memory has room for, packed
 module _ (m : Model) (len : length (m .tiles) ≡ total (m .settings)) (few : total (m .settings) ≤ 64)
-    (small : (t : ℕ) → t < total (m .settings) → length (membersOf m t) ≤ 16) where
+    (small : (t : ℕ) → t < total (m .settings) → length (membersOf m t) ≤ 16) (laid : Placed (m .layouts)) where
   abbrev g : ℕ → TileState
   g t = getD (m .tiles) t unused
 
@@ -71,11 +73,12 @@ module _ (m : Model) (len : length (m .tiles) ≡ total (m .settings)) (few : to
 
   pub view-pack : view (pack m) ≡ m
   unfolding view pack build
-  view-pack = ap (λ (ts : List TileState). record { settings = m .settings; counters = m .counters; tiles = ts }) (sym (filled (total (m .settings)) (stateOf (pack m)) unused (m .tiles) len (λ t h. sym (state-packed t h))))
+  view-pack = ap (λ (ls : List Layout). record { settings = m .settings; counters = m .counters; tiles = tab (total (m .settings)) (stateOf (pack m)); layouts = ls }) (used-places 8 (m .layouts) (laid .0) (laid .1))
+      ∙ ap (λ (ts : List TileState). withTiles m ts) (sym (filled (total (m .settings)) (stateOf (pack m)) unused (m .tiles) len (λ t h. sym (state-packed t h))))
 
   pub fits-pack : fits (pack m) ≡ true
   unfolding pack build tileFits headFits head isZeroTile
-  fits-pack = fits-of (pack m) (tab-length 64 (λ t. head (g t))) packed-length one
+  fits-pack = fits-of (pack m) (tab-length 64 (λ t. head (g t))) packed-length one (layouts-fit (m .layouts) (laid .0) (laid .1))
     where
       first : (t : ℕ) → headFits (m .settings) t (head (g t)) ≡ true
       first t = go (decLe (suc t) (total (m .settings)))
@@ -171,16 +174,16 @@ module _ (f : Floor) (few : total (f .settings) ≤ 64) (ok : fits f ≡ true) w
 
   pub pack-view : pack (view f) ≡ f
   unfolding pack view build
-  pack-view = rw (sym (filled 64 (λ t. head (shown f t)) zeroTile (f .tiles) (fits-tiles f ok) head-shown), sym (rows-filled (shown f) (f .canisters) (fits-canisters f ok) place-shown))
+  pack-view = rw (sym (filled 64 (λ t. head (shown f t)) zeroTile (f .tiles) (fits-tiles f ok) head-shown), sym (rows-filled (shown f) (f .canisters) (fits-canisters f ok) place-shown), layouts-back (f .layouts) (fits-layouts f ok))
 
   -- one tile anew: the memory with that tile's head, and canisters that differ in its sixteen places alone
   pub pack-put : (c : Counters) (t : ℕ) (x : TileState) (cs : List Canister) → t < C → length cs ≡ 1024
       → ((i : ℕ) → i < 1024 → i / 16 ≡ t → getD cs i zeroCanister ≡ getD (x .members) (i % 16) zeroCanister)
       → ((i : ℕ) → i < 1024 → i / 16 ≢ t → getD cs i zeroCanister ≡ getD (f .canisters) i zeroCanister)
-      → _≡_ {A = Floor} (record { settings = f .settings; counters = c; tiles = set (f .tiles) t (head x); canisters = cs }) (pack (record { settings = f .settings; counters = c; tiles = set (view f .tiles) t x }))
+      → _≡_ {A = Floor} (refilled f c (set (f .tiles) t (head x)) cs) (pack (withCounters (withTile (view f) t x) c))
   unfolding pack view build
   pack-put c t x cs on lcs new old =
-      rw (filled 64 (λ u. head (g u)) zeroTile (set (f .tiles) t (head x)) (length-set (f .tiles) t (head x) ∙ fits-tiles f ok) heads, rows-filled g cs lcs spots)
+      rw (filled 64 (λ u. head (g u)) zeroTile (set (f .tiles) t (head x)) (length-set (f .tiles) t (head x) ∙ fits-tiles f ok) heads, rows-filled g cs lcs spots, layouts-back (f .layouts) (fits-layouts f ok))
     where
       g : ℕ → TileState
       g u = getD (set (tab C (stateOf f)) t x) u unused
@@ -207,7 +210,7 @@ module _ (f : Floor) (few : total (f .settings) ≤ 64) (ok : fits f ≡ true) w
 
   -- the same where the canisters stay
   pub pack-head : (t : ℕ) (x : TileState) → t < C → x .members ≡ stateOf f t .members
-      → _≡_ {A = Floor} (record { settings = f .settings; counters = f .counters; tiles = set (f .tiles) t (head x); canisters = f .canisters }) (pack (withTile (view f) t x))
+      → _≡_ {A = Floor} (retiled f (set (f .tiles) t (head x))) (pack (withTile (view f) t x))
   unfolding view
   pack-head t x on same = pack-put (f .counters) t x (f .canisters) on (fits-canisters f ok) new (λ i k n. refl)
     where
@@ -215,12 +218,12 @@ module _ (f : Floor) (few : total (f .settings) ≤ 64) (ok : fits f ≡ true) w
       new i k e = place-shown i k ∙ ap (λ (p : TileState). getD (p .members) (i % 16) zeroCanister) (ap (shown f) e ∙ tab-at C (stateOf f) t unused on) ∙ ap (λ (l : List Canister). getD l (i % 16) zeroCanister) (sym same)
 
 -- ---- arrays that a program filled, and a value given tile by tile
-pub pack-tab : (s : Settings) (c : Counters) (x : ℕ → TileState) (ts : List Tile) (cs : List Canister) → length ts ≡ 64 → length cs ≡ 1024
+pub pack-tab : (s : Settings) (c : Counters) (x : ℕ → TileState) (ts : List Tile) (cs : List Canister) (ls : List Layout) → length ts ≡ 64 → length cs ≡ 1024
     → ((t : ℕ) → t < 64 → t < total s → getD ts t zeroTile ≡ head (x t)) → ((t : ℕ) → t < 64 → total s ≤ t → getD ts t zeroTile ≡ zeroTile)
     → ((i : ℕ) → i < 1024 → i / 16 < total s → getD cs i zeroCanister ≡ placeAt x i) → ((i : ℕ) → i < 1024 → total s ≤ i / 16 → getD cs i zeroCanister ≡ zeroCanister)
-    → _≡_ {A = Floor} (record { settings = s; counters = c; tiles = ts; canisters = cs }) (pack (record { settings = s; counters = c; tiles = tab (total s) x }))
+    → _≡_ {A = Floor} (record { settings = s; counters = c; tiles = ts; canisters = cs; layouts = layoutPlaces 8 ls }) (pack (record { settings = s; counters = c; tiles = tab (total s) x; layouts = ls }))
 unfolding pack build head
-pack-tab s c x ts cs lt lc on off used free = rw (filled 64 (λ t. head (g t)) zeroTile ts lt heads, rows-filled g cs lc spots)
+pack-tab s c x ts cs ls lt lc on off used free = rw (filled 64 (λ t. head (g t)) zeroTile ts lt heads, rows-filled g cs lc spots)
   where
     g : ℕ → TileState
     g t = getD (tab (total s) x) t unused
@@ -239,12 +242,23 @@ pack-tab s c x ts cs lt lc on off used free = rw (filled 64 (λ t. head (g t)) z
         go (yes h) = used i k h ∙ sym (ap (λ (p : TileState). getD (p .members) (i % 16) zeroCanister) (tab-at (total s) x (i / 16) unused h))
         go (no h) = let q : total s ≤ i / 16 = omega arith in free i k q ∙ sym (ap (λ (p : TileState). getD (p .members) (i % 16) zeroCanister) (tab-off (total s) x (i / 16) unused q))
 
--- the same where the canisters stay as a floor that fits has them
+-- the same where the layouts stay as a floor that fits has them
+pub pack-refilled : (f : Floor) → fits f ≡ true → (c : Counters) (x : ℕ → TileState) (ts : List Tile) (cs : List Canister) → length ts ≡ 64 → length cs ≡ 1024
+    → ((t : ℕ) → t < 64 → t < total (f .settings) → getD ts t zeroTile ≡ head (x t)) → ((t : ℕ) → t < 64 → total (f .settings) ≤ t → getD ts t zeroTile ≡ zeroTile)
+    → ((i : ℕ) → i < 1024 → i / 16 < total (f .settings) → getD cs i zeroCanister ≡ placeAt x i) → ((i : ℕ) → i < 1024 → total (f .settings) ≤ i / 16 → getD cs i zeroCanister ≡ zeroCanister)
+    → _≡_ {A = Floor} (refilled f c ts cs) (pack (withCounters (withTiles (view f) (tab (total (f .settings)) x)) c))
+unfolding view
+pack-refilled f ok c x ts cs lt lc on off used free =
+    ap (λ (ls : List Layout). record { settings = f .settings; counters = c; tiles = ts; canisters = cs; layouts = ls }) (sym (layouts-back (f .layouts) (fits-layouts f ok)))
+    ∙ pack-tab (f .settings) c x ts cs (usedLayouts (f .layouts)) lt lc on off used free
+
+-- the same where the canisters stay too
 pub pack-heads : (f : Floor) → total (f .settings) ≤ 64 → fits f ≡ true
     → (x : ℕ → TileState) (ts : List Tile) → length ts ≡ 64 → ((t : ℕ) → t < total (f .settings) → x t .members ≡ stateOf f t .members)
     → ((t : ℕ) → t < 64 → t < total (f .settings) → getD ts t zeroTile ≡ head (x t)) → ((t : ℕ) → t < 64 → total (f .settings) ≤ t → getD ts t zeroTile ≡ headOf f t)
-    → _≡_ {A = Floor} (record { settings = f .settings; counters = f .counters; tiles = ts; canisters = f .canisters }) (pack (record { settings = f .settings; counters = f .counters; tiles = tab (total (f .settings)) x }))
-pack-heads f few ok x ts len same on off = pack-tab (f .settings) (f .counters) x ts (f .canisters) len (fits-canisters f ok) on (λ t k h. off t k h ∙ zero-off f few ok t k h) used free
+    → _≡_ {A = Floor} (retiled f ts) (pack (withTiles (view f) (tab (total (f .settings)) x)))
+unfolding view
+pack-heads f few ok x ts len same on off = pack-refilled f ok (f .counters) x ts (f .canisters) len (fits-canisters f ok) on (λ t k h. off t k h ∙ zero-off f few ok t k h) used free
   where
     used : (i : ℕ) → i < 1024 → i / 16 < total (f .settings) → getD (f .canisters) i zeroCanister ≡ placeAt x i
     used i k h =
@@ -280,5 +294,19 @@ well-few f h = well-measured f h .few
 pub well-lengths : (f : Floor) → wellFormed f ≡ true → (length (f .tiles) ≡ 64) × (length (f .canisters) ≡ 1024)
 well-lengths f h = (fits-tiles f (well-fits f h), fits-canisters f (well-fits f h))
 
+pub well-placed : (f : Floor) → wellFormed f ≡ true → Placed (view f .layouts)
+well-placed f h = sound-named (view f .settings) (view f .layouts) (well-sound f h .laid-out)
+
 pub well-head : (f : Floor) (t : ℕ) → wellFormed f ≡ true → t < total (f .settings) → head (stateOf f t) ≡ headOf f t
 well-head f t h on = head-state f (well-few f h) (well-fits f h) t on
+
+-- well formed in two parts, for the code
+pub well-parts : (f : Floor) → wellFormed f ≡ (stateWell f && layoutsWell f)
+unfolding wellFormed sound fits stateWell layoutsWell view
+well-parts f = exchange (stateSound (view f)) (layoutsSound (f .settings) (usedLayouts (f .layouts))) (stateFits f) (layoutsFit (f .layouts))
+  where
+    exchange : (a b c d : Bool) → ((a && b) && (c && d)) ≡ ((a && c) && (b && d))
+    exchange true b true d = refl
+    exchange true true false d = refl
+    exchange true false false d = refl
+    exchange false b c d = refl

@@ -1,24 +1,29 @@
 -- A floor in memory, place by place: its rows, its zeros, and `fits`.
 use mathlib.Core.Path.{_≡_, refl, sym, ap, _∙_}
-use mathlib.Core.Bool.{true, _&&_}
+use mathlib.Core.Logic.{_≢_}
+use mathlib.Core.Bool.{Bool, true, false, cond, _&&_}
 use mathlib.Core.List.{List, [], _∷_, _++_}
 use Prim.Native.Nat.{ℕ, zero, suc, _+_, _-_, _*_, _/_, _%_, _≤_, _<_}
 use native.Mathlib.Omega.{arith}
 use native.Mathlib.Decide.{decLe}
-use lib.Dec.{eqb}
+use lib.Dec.{leb, eqb}
 use lib.ListN.{length, getD, take, drop, length-append, length-drop, List·getD-append}
 use lib.Seq.{ext-getD, getD-drop, getD-append-add, drop-drop}
-use borrow.Author.Tests.{eqb-true, eq-eqb}
+use borrow.Author.Tests.{eqb-true, eq-eqb, ne-eqb, leb-true, ltb-true}
 use Rattle.laws.specs.Define.{allOf}
+use Rattle.laws.specs.Every.{All}
+use Rattle.laws.specs.Lists.{all-imp, all-true}
 use Rattle.laws.specs.Tests.{and-left, and-right, and-true}
 use Rattle.laws.specs.Tables.{tab-length, tab-at, all-at, all-from-each}
 use Rattle.floor.specs.declared.Canister.{Canister}
 use Rattle.floor.specs.declared.Settings.{Settings}
 use Rattle.floor.specs.declared.Tile.{Tile}
+use Rattle.floor.specs.declared.Layout.{Layout}
 use Rattle.floor.specs.declared.Floor.{Floor}
 use Rattle.floor.specs.Settings.{total}
 use Rattle.floor.specs.Model.{TileState}
-use Rattle.floor.specs.Memory.{zeroTile, zeroCanister, headOf, stateOf, view, places, rows, isZeroCanister, isZeroTile, block, tileFits, tilesFit, fits}
+use Rattle.floor.specs.Memory.{zeroTile, zeroCanister, headOf, stateOf, view, places, rows, isZeroCanister, isZeroTile, block, tileFits, tilesFit, stateFits, fits, zeroLayout, usedLayouts, layoutPlaces, isZeroLayout, layoutsFit}
+use Rattle.floor.specs.Layouts.{nameOk, layoutOk, layoutsSound}
 
 -- ---- sixteen places for each tile
 pub places-length : (n : ℕ) (l : List Canister) → length (places n l) ≡ n
@@ -136,28 +141,113 @@ fit-of s t (x ∷ hs) cs f = and-true first (fit-of s (suc t) hs (drop 16 cs) re
         let e : suc t + i ≡ t + suc i = omega arith in
         rw (e, drop-more i cs) (f (suc i) (omega arith))
 
-pub fits-tiles : (f : Floor) → fits f ≡ true → length (f .tiles) ≡ 64
+pub fits-state : (f : Floor) → fits f ≡ true → stateFits f ≡ true
 unfolding fits
-fits-tiles f h = eqb-true _ 64 (and-left _ _ h)
+fits-state f h = and-left (stateFits f) (layoutsFit (f .layouts)) h
+
+pub fits-tiles : (f : Floor) → fits f ≡ true → length (f .tiles) ≡ 64
+unfolding stateFits
+fits-tiles f h = eqb-true _ 64 (and-left _ _ (fits-state f h))
 
 pub fits-canisters : (f : Floor) → fits f ≡ true → length (f .canisters) ≡ 1024
-unfolding fits
-fits-canisters f h = eqb-true _ 1024 (and-left _ _ (and-right (eqb (length (f .tiles)) 64) _ h))
+unfolding stateFits
+fits-canisters f h = eqb-true _ 1024 (and-left _ _ (and-right (eqb (length (f .tiles)) 64) _ (fits-state f h)))
+
+pub state-fit-at : (f : Floor) → stateFits f ≡ true → (t : ℕ) → t < 64 → tileFits (f .settings) t (headOf f t) (block (f .canisters) t) ≡ true
+unfolding stateFits
+state-fit-at f h t l =
+    let e : 0 + t ≡ t = omega arith in
+    let n = eqb-true (length (f .tiles)) 64 (and-left _ _ h) in
+    let q = and-right (eqb (length (f .canisters)) 1024) _ (and-right (eqb (length (f .tiles)) 64) _ h) in
+    rw e at (fit-at (f .settings) 0 (f .tiles) (f .canisters) q t (omega arith))
 
 pub tiles-fit-at : (f : Floor) → fits f ≡ true → (t : ℕ) → t < 64 → tileFits (f .settings) t (headOf f t) (block (f .canisters) t) ≡ true
-unfolding fits
-tiles-fit-at f h t l =
-    let e : 0 + t ≡ t = omega arith in
-    let q = and-right (eqb (length (f .canisters)) 1024) _ (and-right (eqb (length (f .tiles)) 64) _ h) in
-    rw e at (fit-at (f .settings) 0 (f .tiles) (f .canisters) q t (omega (arith, fits-tiles f h)))
+tiles-fit-at f h = state-fit-at f (fits-state f h)
 
-pub fits-of : (f : Floor) → length (f .tiles) ≡ 64 → length (f .canisters) ≡ 1024
-    → ((t : ℕ) → t < 64 → tileFits (f .settings) t (headOf f t) (block (f .canisters) t) ≡ true) → fits f ≡ true
-unfolding fits
-fits-of f lt lc g = and-true (eq-eqb _ 64 lt) (and-true (eq-eqb _ 1024 lc) (fit-of (f .settings) 0 (f .tiles) (f .canisters) one))
+pub state-fits-of : (f : Floor) → length (f .tiles) ≡ 64 → length (f .canisters) ≡ 1024
+    → ((t : ℕ) → t < 64 → tileFits (f .settings) t (headOf f t) (block (f .canisters) t) ≡ true) → stateFits f ≡ true
+unfolding stateFits
+state-fits-of f lt lc g = and-true (eq-eqb _ 64 lt) (and-true (eq-eqb _ 1024 lc) (fit-of (f .settings) 0 (f .tiles) (f .canisters) one))
   where
     one : (t : ℕ) → t < length (f .tiles) → tileFits (f .settings) (0 + t) (headOf f t) (block (f .canisters) t) ≡ true
     one t l = let e : 0 + t ≡ t = omega arith in rw e (g t (omega arith))
+
+pub fits-of : (f : Floor) → length (f .tiles) ≡ 64 → length (f .canisters) ≡ 1024
+    → ((t : ℕ) → t < 64 → tileFits (f .settings) t (headOf f t) (block (f .canisters) t) ≡ true) → layoutsFit (f .layouts) ≡ true → fits f ≡ true
+unfolding fits
+fits-of f lt lc g ly = and-true (state-fits-of f lt lc g) ly
+
+pub fits-layouts : (f : Floor) → fits f ≡ true → layoutsFit (f .layouts) ≡ true
+unfolding fits
+fits-layouts f h = and-right (stateFits f) (layoutsFit (f .layouts)) h
+
+-- ---- layouts in their places
+zero-layout : (x : Layout) → isZeroLayout x ≡ true → x ≡ zeroLayout
+unfolding isZeroLayout
+zero-layout x p = layout-eq (eqb-true (x .name) 0 (and-left _ _ p)) (eqb-true (x .set) 0 (and-right (eqb (x .name) 0) _ p))
+  where
+    layout-eq : {n k : ℕ} → n ≡ 0 → k ≡ 0 → _≡_ {A = Layout} (record { name = n; set = k }) zeroLayout
+    layout-eq p q = rw (p, q)
+
+zero-places : (n : ℕ) (l : List Layout) → length l ≡ n → allOf isZeroLayout l ≡ true → layoutPlaces n [] ≡ l
+unfolding layoutPlaces allOf
+zero-places zero [] e h = refl
+zero-places zero (x ∷ l) e h = absurd (omega arith)
+zero-places (suc n) [] e h = absurd (omega arith)
+zero-places (suc n) (x ∷ l) e h = rw (zero-places n l (omega arith) (and-right (isZeroLayout x) (allOf isZeroLayout l) h), zero-layout x (and-left (isZeroLayout x) (allOf isZeroLayout l) h))
+
+places-used : (n : ℕ) (l : List Layout) → length l ≡ n → allOf isZeroLayout (drop (length (usedLayouts l)) l) ≡ true → layoutPlaces n (usedLayouts l) ≡ l
+unfolding layoutPlaces usedLayouts
+places-used zero [] e h = refl
+places-used zero (x ∷ l) e h = absurd (omega arith)
+places-used (suc n) [] e h = absurd (omega arith)
+places-used (suc n) (x ∷ l) e h = go (eqb (x .name) 0) refl (places-used n l)
+  where
+    go : (b : Bool) → eqb (x .name) 0 ≡ b → (length l ≡ n → allOf isZeroLayout (drop (length (usedLayouts l)) l) ≡ true → layoutPlaces n (usedLayouts l) ≡ l) → layoutPlaces (suc n) (cond (eqb (x .name) 0) [] (x ∷ usedLayouts l)) ≡ x ∷ l
+    go true q ih = rw q (zero-places (suc n) (x ∷ l) e (rw q at h))
+    go false q ih = rw q (ap (λ (k : List Layout). x ∷ k) (ih (omega arith) (rw q at h)))
+
+pub layouts-back : (l : List Layout) → layoutsFit l ≡ true → layoutPlaces 8 (usedLayouts l) ≡ l
+unfolding layoutsFit
+layouts-back l h = places-used 8 l (eqb-true (length l) 8 (and-left _ _ h)) (and-right (eqb (length l) 8) _ h)
+
+-- layouts that eight places hold: each has a name
+abbrev pub Placed : List Layout → Type 0
+Placed l = All (λ x. x .name ≢ 0) l × (length l ≤ 8)
+
+-- layouts with names, at most n of them
+pub used-places : (n : ℕ) (l : List Layout) → All (λ x. x .name ≢ 0) l → length l ≤ n → usedLayouts (layoutPlaces n l) ≡ l
+unfolding layoutPlaces usedLayouts
+used-places zero [] h k = refl
+used-places zero (x ∷ l) h k = absurd (omega arith)
+used-places (suc n) [] h k = refl
+used-places (suc n) (x ∷ l) h k = rw (ne-eqb (x .name) 0 (h .0)) (ap (λ (k : List Layout). x ∷ k) (used-places n l (h .1) (omega arith)))
+
+places-length′ : (n : ℕ) (l : List Layout) → length (layoutPlaces n l) ≡ n
+unfolding layoutPlaces
+places-length′ zero l = refl
+places-length′ (suc n) [] = ap suc (places-length′ n [])
+places-length′ (suc n) (x ∷ l) = ap suc (places-length′ n l)
+
+rest-places : (n : ℕ) (l : List Layout) → allOf isZeroLayout (drop (length l) (layoutPlaces n l)) ≡ true
+unfolding layoutPlaces allOf isZeroLayout
+rest-places zero [] = refl
+rest-places zero (x ∷ l) = refl
+rest-places (suc n) [] = rest-places n []
+rest-places (suc n) (x ∷ l) = rest-places n l
+
+pub layouts-fit : (l : List Layout) → All (λ x. x .name ≢ 0) l → length l ≤ 8 → layoutsFit (layoutPlaces 8 l) ≡ true
+unfolding layoutsFit
+layouts-fit l h k = and-true (eq-eqb (length (layoutPlaces 8 l)) 8 (places-length′ 8 l)) (rw (used-places 8 l h k) (rest-places 8 l))
+
+-- sound layouts have names, and are at most eight
+pub sound-named : (s : Settings) (l : List Layout) → layoutsSound s l ≡ true → Placed l
+unfolding layoutsSound layoutOk nameOk
+sound-named s l h =
+    let k = and-right (leb (length l) 8) _ h in (
+      all-imp (λ x. layoutOk s x ≡ true) (λ x. x .name ≢ 0) l (λ x p e. let q = ltb-true 0 (x .name) (and-left _ _ (and-left (nameOk (x .name)) _ p)) in omega arith) (all-true (layoutOk s) l (and-left (allOf (layoutOk s) l) _ k)),
+      leb-true (length l) 8 (and-left (leb (length l) 8) _ h),
+    )
 
 -- ---- reading the view
 pub view-at : (f : Floor) (t : ℕ) (z : TileState) → t < total (f .settings) → getD (view f .tiles) t z ≡ stateOf f t

@@ -9,7 +9,7 @@ use Rattle.floor.specs.declared.Canister.{Canister}
 use Rattle.floor.specs.declared.Settings.{Settings}
 use Rattle.floor.specs.declared.Tile.{Tile}
 use Rattle.floor.specs.declared.Floor.{Floor}
-use Rattle.floor.specs.Memory.{zeroFloor}
+use Rattle.floor.specs.Memory.{zeroFloor, refilled}
 use Rattle.floor.specs.Calls.{freshAnswer, roundAnswer, readAnswer}
 use Rattle.floor.specs.Demand3.{stop as stopping, outcome}
 use Rattle.floor.proofs.Calling.{got, several, settings, can, refusedRound, holds}
@@ -27,7 +27,7 @@ sixteen = tab 16 (λ n. can (suc n) (26 * (n % 4)) (26 * (n / 4)))
 unfoldable counting : ℕ → Floor → Floor
 counting n f =
     let h : Tile = record { running = 1; distance = 255; next = record { code = 0 }; token = record { code = 0 }; count = n } in
-    record { settings = f .settings; counters = record { last = 16; booked = 16; delivered = replicate 4 0 }; tiles = set (f .tiles) 63 h; canisters = take 1008 (f .canisters) ++ sixteen }
+    refilled f (record { last = 16; booked = 16; delivered = replicate 4 0 }) (set (f .tiles) 63 h) (take 1008 (f .canisters) ++ sixteen)
 
 -- hoppers and fill set on W 4
 unfoldable sets : ℕ → ℕ → Settings

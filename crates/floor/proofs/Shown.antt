@@ -10,15 +10,18 @@ use Rattle.laws.specs.Define.{tab, refusal}
 use Rattle.laws.specs.Every.{All}
 use Rattle.floor.specs.declared.Floor.{Floor}
 use Rattle.floor.specs.declared.Reading.{Reading}
+use Rattle.floor.specs.Layouts.{setOf}
 use Rattle.floor.specs.Model.{Model, tileOf, withTile}
 use Rattle.floor.specs.Memory.{zeroTile, zeroCanister, view, head, pack}
 use Rattle.floor.specs.Well.{wellFormed}
-use Rattle.floor.specs.Calls.{refusalOf, answer, bookTests, booked, bookAnswer, stopTests, stopped, stopAnswer, repairTests, repaired, repairAnswer, afterRound, reportOf, roundAnswer, readTests, readAnswer}
-use Rattle.floor.specs.Demand3.{Call, book, stop, repair, round, Typed, outcome}
+use Rattle.floor.specs.Calls.{refusalOf, answer, bookTests, booked, bookAnswer, stopTests, stopped, stopAnswer, repairTests, repaired, repairAnswer, keepTests, keptUnder, keepAnswer, heldTests, forgotten, forgetAnswer, recalled, recallAnswer, afterRound, reportOf, roundAnswer, readTests, readAnswer}
+use Rattle.floor.specs.Demand3.{Call, book, stop, repair, round, keep, forget, recall, Typed, outcome}
 use Rattle.floor.proofs.Sound.{Sound}
 use Rattle.floor.proofs.Pack.{well-sound}
 use Rattle.floor.proofs.Capacity.{view-packed}
 use Rattle.floor.proofs.Calls.{Accepted, book-keeps, stop-keeps, repair-keeps}
+use Rattle.floor.proofs.Laying.{keep-keeps, forget-keeps}
+use Rattle.floor.proofs.Stages.{recall-keeps}
 use Rattle.floor.proofs.Lists.{passed, round-accepted, round-report, view-round, call-keeps}
 
 -- f is well formed and its value is m
@@ -32,12 +35,18 @@ testsOf m (book t c) = bookTests m t c
 testsOf m (stop t) = stopTests m t
 testsOf m (repair t) = repairTests m t
 testsOf m round = []
+testsOf m (keep name) = keepTests m name
+testsOf m (forget name) = heldTests m name
+testsOf m (recall name) = heldTests m name
 
 unfoldable pub changed : Model → Call → Model
 changed m (book t c) = booked m t c
 changed m (stop t) = withTile m t (stopped (tileOf m t))
 changed m (repair t) = withTile m t (repaired (tileOf m t))
 changed m round = afterRound m
+changed m (keep name) = keptUnder m name
+changed m (forget name) = forgotten m name
+changed m (recall name) = recalled m (setOf (m .layouts) name)
 
 unfoldable pub refusalBy : Model → Call → ℕ
 refusalBy m c = refusal (testsOf m c)
@@ -68,18 +77,24 @@ module _ (f : Floor) (w : wellFormed f ≡ true) where
       go false e = refl
 
   refusal-here : (c : Call) → outcome f c .refusal ≡ refusalBy (view f) c
-  unfolding outcome bookAnswer stopAnswer repairAnswer roundAnswer answer refusalBy testsOf
+  unfolding outcome bookAnswer stopAnswer repairAnswer roundAnswer keepAnswer forgetAnswer recallAnswer answer refusalBy testsOf
   refusal-here (book t c) = plain (bookTests (view f) t c)
   refusal-here (stop t) = plain (stopTests (view f) t)
   refusal-here (repair t) = plain (repairTests (view f) t)
   refusal-here round = plain []
+  refusal-here (keep name) = plain (keepTests (view f) name)
+  refusal-here (forget name) = plain (heldTests (view f) name)
+  refusal-here (recall name) = plain (heldTests (view f) name)
 
   value-here : (c : Call) → Typed c → view (outcome f c .floor) ≡ valueBy (view f) c
-  unfolding outcome bookAnswer stopAnswer repairAnswer answer bookTests stopTests repairTests valueBy refusalBy testsOf changed refusal
+  unfolding outcome bookAnswer stopAnswer repairAnswer keepAnswer forgetAnswer recallAnswer answer bookTests stopTests repairTests keepTests heldTests valueBy refusalBy testsOf changed refusal
   value-here (book t c) h = after (bookTests (view f) t c) (omega arith) (booked (view f) t c) (λ T. book-keeps (view f) S t c T h .well)
   value-here (stop t) h = after (stopTests (view f) t) (omega arith) (withTile (view f) t (stopped (tileOf (view f) t))) (λ T. stop-keeps (view f) S t T .well)
   value-here (repair t) h = after (repairTests (view f) t) (omega arith) (withTile (view f) t (repaired (tileOf (view f) t))) (λ T. repair-keeps (view f) S t T .well)
   value-here round h = view-round f w round refl
+  value-here (keep name) h = after (keepTests (view f) name) (omega arith) (keptUnder (view f) name) (λ T. keep-keeps (view f) S name T .well)
+  value-here (forget name) h = after (heldTests (view f) name) (omega arith) (forgotten (view f) name) (λ _. forget-keeps (view f) S name .well)
+  value-here (recall name) h = after (heldTests (view f) name) (omega arith) (recalled (view f) (setOf (view f .layouts) name)) (λ T. recall-keeps (view f) S name T .well)
 
   read-here : (t : ℕ) → readAnswer f t ≡ readBy (view f) t
   unfolding readAnswer readBy

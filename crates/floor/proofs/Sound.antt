@@ -11,6 +11,7 @@ use Rattle.floor.specs.declared.Canister.{Canister}
 use Rattle.floor.specs.declared.Settings.{Settings}
 use Rattle.floor.specs.Settings.{total, spacing, span, isHopper, hoppersOf}
 use Rattle.floor.specs.Grid.{neighbour}
+use Rattle.floor.specs.Layouts.{layoutsSound}
 use Rattle.floor.specs.Model.{Model, tileOf, runsOf, distanceOf, nextOf, tokenOf, membersOf, numbersOn}
 
 -- settings that pass 1 to 3
@@ -78,3 +79,4 @@ pub record Sound (m : Model) : Type 0 where
   pub counted : m .counters .booked ≡ sum (m .counters .delivered) + length (numbersOn m)
   pub booked-last : m .counters .booked ≤ m .counters .last
   pub last-fits : m .counters .last < 2 ^ 32
+  pub laid-out : layoutsSound (m .settings) (m .layouts) ≡ true

@@ -84,7 +84,7 @@ module _ (f : Floor) (w : wellFormed f ≡ true) (cs : List Call) (typed : All T
     counts-live = λ t. carry (λ s r. LivePath s r t ↔ connected s r t ≡ true) (live-iff (view now .settings) (runsOf (view now)) (laid (view now) S) t);
     emptied = λ ds h q.
         carry (λ s r. bound s (connectedCount (view now) r) ≤ roundsIn ds → (t : ℕ) → LivePath s r t → membersOf (view (floorAfter now ds)) t ≡ [])
-        (λ b t p. ap (λ (x : Model). membersOf x t) (quiet-rounds now well ds h q) ∙ cleared (view now) S (roundsIn ds) b t p);
+        (λ b t p. ap (λ (x : Model). membersOf x t) (quiet-rounds now well ds h q .1) ∙ cleared (view now) S (roundsIn ds) b t p);
   }
 
 pub demand3 : Demand3

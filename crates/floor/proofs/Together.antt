@@ -17,7 +17,7 @@ use Rattle.floor.specs.declared.Canister.{Canister}
 use Rattle.floor.specs.declared.Floor.{Floor}
 use Rattle.floor.specs.declared.Report.{Report}
 use Rattle.floor.specs.Settings.{total, spacing, isHopper}
-use Rattle.floor.specs.Model.{TileState, Model, noTile, tileOf, runs, runsOf, membersOf, withTile, withMembers}
+use Rattle.floor.specs.Model.{TileState, Model, noTile, tileOf, runs, runsOf, membersOf, withTiles, withTile, withCounters, withMembers}
 use Rattle.floor.specs.Memory.{view, build, pack}
 use Rattle.floor.specs.Well.{apart, wellFormed}
 use Rattle.floor.specs.Move.{insert}
@@ -59,7 +59,7 @@ module _ (t u : ℕ) (n : t ≢ u) where
   press-beside p q = record {
     tests-first = λ m. press-tests p m (pressed q m) refl (first-tile m (pressTile q (tileOf m u)));
     tests-second = λ m. press-tests q m (pressed p m) refl (second-tile m (pressTile p (tileOf m t)));
-    changes = λ m. ap (λ (l : List TileState). record { settings = m .settings; counters = m .counters; tiles = l }) (tiles-swap (pressTile p) (pressTile q) m);
+    changes = λ m. ap (λ (l : List TileState). withTiles m l) (tiles-swap (pressTile p) (pressTile q) m);
   }
 
   book-tests : (b : Canister) (m : Model) (x : TileState) → bookTests (withTile m u x) t b ≡ bookTests m t b
@@ -73,7 +73,7 @@ module _ (t u : ℕ) (n : t ≢ u) where
   book-beside b h q = record {
     tests-first = λ m. book-tests b m (pressTile q (tileOf m u));
     tests-second = λ m. press-tests q m (booked m t b) refl (second-tile m (withMembers (tileOf m t) (insert b (membersOf m t))));
-    changes = λ m. ap (λ (l : List TileState). record { settings = m .settings; counters = record { last = b .number; booked = m .counters .booked + 1; delivered = m .counters .delivered }; tiles = l })
+    changes = λ m. ap (λ (l : List TileState). withCounters (withTiles m l) (record { last = b .number; booked = m .counters .booked + 1; delivered = m .counters .delivered }))
         (tiles-swap (λ x. withMembers x (insert b (x .members))) (pressTile q) m);
   }
 
@@ -189,7 +189,7 @@ module _ (t : ℕ) where
     same-value : stopIt (repairIt (stopIt (view f))) ≡ stopIt (view f)
     unfolding stopped repaired
     same-value =
-        ap (λ (l : List TileState). record { settings = view f .settings; counters = view f .counters; tiles = l })
+        ap (λ (l : List TileState). withTiles (view f) l)
         (set-set (set (view f .tiles) t (stopped (tileOf (view f) t))) t (repaired (tileOf (stopIt (view f)) t)) (stopped (tileOf (repairIt (stopIt (view f))) t))
         ∙ set-set (view f .tiles) t (stopped (tileOf (view f) t)) (stopped (tileOf (repairIt (stopIt (view f))) t))
         ∙ ap (λ (x : TileState). set (view f .tiles) t (stopped x)) at2)
@@ -239,7 +239,7 @@ module _ (t : ℕ) where
 
     back-value : stopIt (repairIt (view f)) ≡ view f
     back-value =
-        ap (λ (l : List TileState). record { settings = view f .settings; counters = view f .counters; tiles = l })
+        ap (λ (l : List TileState). withTiles (view f) l)
         (set-set (view f .tiles) t (repaired (tileOf (view f) t)) (stopped (tileOf (repairIt (view f)) t))
         ∙ ap (λ (x : TileState). set (view f .tiles) t x) (ap stopped at-one ∙ same-tile)
         ∙ set-getD (view f .tiles) t noTile)

@@ -1,25 +1,29 @@
--- What a booking, a stop and a repair leave true of each tile.
-use mathlib.Core.Path.{_≡_, sym, subst}
-use mathlib.Core.Bool.{true, cond}
+-- What a booking, a stop, a repair, a recall, keeping and forgetting leave true of each tile.
+use mathlib.Core.Path.{_≡_, sym, _∙_, subst}
+use mathlib.Core.Bool.{Bool, true, false, cond}
 use mathlib.Core.List.{List}
-use Prim.Native.Nat.{ℕ, _^_, _<_}
+use Prim.Native.Nat.{ℕ, suc, _^_, _<_}
 use native.Mathlib.Omega.{arith}
-use native.Mathlib.Decide.{ℕ-discrete}
+use native.Mathlib.Decide.{decLe, ℕ-discrete}
+use lib.ListN.{getD, List·getD-eq-default}
 use lib.Seq.{getD-set-same, getD-set-other}
 use borrow.Author.Tests.{leb-false}
+use Rattle.laws.specs.Define.{tab, bit}
+use Rattle.laws.specs.Tables.{tab-at, tab-off}
 use Rattle.floor.specs.declared.Canister.{Canister}
 use Rattle.floor.specs.declared.Floor.{Floor}
 use Rattle.floor.specs.Settings.{total}
-use Rattle.floor.specs.Model.{TileState, Model, noTile, tileOf, withTile, withMembers}
+use Rattle.floor.specs.Layouts.{setOf}
+use Rattle.floor.specs.Model.{TileState, Model, noTile, tileOf, runs, withTile, withMembers}
 use Rattle.floor.specs.Memory.{view, pack}
 use Rattle.floor.specs.Well.{wellFormed}
 use Rattle.floor.specs.Move.{insert}
-use Rattle.floor.specs.Calls.{bookTests, booked, stopTests, repairTests}
-use Rattle.floor.specs.Demand3.{Call, book, outcome}
+use Rattle.floor.specs.Calls.{bookTests, booked, stopTests, stopped, repairTests, repaired, keptUnder, forgotten, recallTile, recalled}
+use Rattle.floor.specs.Demand3.{Call, book, keep, forget, recall, outcome}
 use Rattle.floor.specs.Together.{Presses, stops, repairs}
 use Rattle.floor.proofs.Pack.{well-sound}
 use Rattle.floor.proofs.Calls.{Accepted}
-use Rattle.floor.proofs.Forms.{Form, floorBy, by-form, new-view, pressTests, pressTile, pressForm, press-answers, bookForm, book-answers}
+use Rattle.floor.proofs.Forms.{Form, floorBy, by-form, new-view, pressTests, pressTile, pressForm, press-answers, bookForm, book-answers, keepForm, keep-answers, forgetForm, forget-answers, recallForm, recall-answers}
 
 module _ (P : TileState → Type 0) (f : Floor) (w : wellFormed f ≡ true) (u t : ℕ) (p : P (tileOf (view f) t)) where
   -- g is what the call makes of tile u
@@ -46,3 +50,39 @@ module _ (P : TileState → Type 0) (f : Floor) (w : wellFormed f ≡ true) (u t
 
   pub press-tile : {c : Call} (q : Presses u c) → ((x : TileState) → P x → P (pressTile q x)) → P (tileOf (view (outcome f c .floor)) t)
   press-tile q pg = subst (λ (g : Floor). P (tileOf (view g) t)) (sym (press-answers q .floor f)) (by-floor (pressForm q) (λ A. put-tile (pressTile q) pg (press-on q A)))
+
+-- keeping, forgetting and recalling, at tile t
+module _ (P : TileState → Type 0) (f : Floor) (w : wellFormed f ≡ true) (t : ℕ) (p : P (tileOf (view f) t)) (name : ℕ) where
+  pub keep-tile : P (tileOf (view (outcome f (keep name) .floor)) t)
+  unfolding keptUnder
+  keep-tile = subst (λ (g : Floor). P (tileOf (view g) t)) (sym (keep-answers name .floor f)) (by-floor P f w t t p (keepForm name) (λ A. p))
+
+  pub forget-tile : P (tileOf (view (outcome f (forget name) .floor)) t)
+  unfolding forgotten
+  forget-tile = subst (λ (g : Floor). P (tileOf (view g) t)) (sym (forget-answers name .floor f)) (by-floor P f w t t p (forgetForm name) (λ A. p))
+
+  -- one of three is made of it
+  recalled-tile : (set : ℕ) → ((x : TileState) → P x → P (stopped x)) → ((x : TileState) → P x → P (repaired x)) → P (tileOf (recalled (view f) set) t)
+  unfolding recalled recallTile
+  recalled-tile set ps pr = go (decLe (suc t) C)
+    where
+      C : ℕ
+      C = total (view f .settings)
+
+      x : TileState
+      x = tileOf (view f) t
+
+      one : (b r : Bool) → P (cond b (cond r x (repaired x)) (cond r (stopped x) x))
+      one true true = p
+      one true false = pr x p
+      one false true = ps x p
+      one false false = p
+
+      go : Dec (t < C) → P (getD (tab C (λ u. recallTile set u (tileOf (view f) u))) t noTile)
+      go (yes h) = rw (tab-at C (λ u. recallTile set u (tileOf (view f) u)) t noTile h) (one (bit set t) (runs x))
+      go (no h) =
+          subst P (List·getD-eq-default (view f .tiles) noTile (omega (arith, well-sound f w .len)) ∙ sym (tab-off C (λ u. recallTile set u (tileOf (view f) u)) t noTile (omega arith))) p
+
+  pub recall-tile : ((x : TileState) → P x → P (stopped x)) → ((x : TileState) → P x → P (repaired x)) → P (tileOf (view (outcome f (recall name) .floor)) t)
+  recall-tile ps pr =
+      subst (λ (g : Floor). P (tileOf (view g) t)) (sym (recall-answers name .floor f)) (by-floor P f w t t p (recallForm name) (λ A. recalled-tile (setOf (view f .layouts) name) ps pr))

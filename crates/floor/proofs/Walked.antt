@@ -1,24 +1,26 @@
 -- Lists of calls from a floor that shows a value: their answers, what they book, report and grant, and the floor after them, by the value alone.
 use mathlib.Core.Path.{_≡_, refl, ap, _∙_}
-use mathlib.Core.Logic.{_≢_}
 use mathlib.Core.Bool.{Bool, true, false, cond, not, _&&_, _||_}
 use mathlib.Core.List.{List, [], _∷_, _++_}
 use Prim.Native.Nat.{ℕ, _^_}
 use lib.Dec.{ltb, eqb}
 use lib.ListN.{getD}
-use borrow.Author.Tests.{ltb-true}
-use Rattle.laws.specs.Define.{allOf}
+use borrow.Author.Tests.{ltb-true, not-true}
+use Rattle.laws.specs.Define.{allOf, allBelow, bit}
 use Rattle.laws.specs.Every.{All}
-use Rattle.laws.specs.Tests.{r-ne, and-left, and-right}
+use Rattle.laws.specs.Tests.{and-left, and-right}
 use Rattle.floor.specs.declared.Floor.{Floor}
 use Rattle.floor.specs.declared.Report.{Report}
+use Rattle.floor.specs.Settings.{total}
+use Rattle.floor.specs.Layouts.{setOf}
 use Rattle.floor.specs.Model.{Model, runsOf}
 use Rattle.floor.specs.Memory.{view}
 use Rattle.floor.specs.Calls.{zeroReport, reportOf}
 use Rattle.floor.specs.Reports.{listedAt}
-use Rattle.floor.specs.Demand3.{Call, book, stop, repair, round, Typed, outcome, floorAfter, bookedIn, reportedIn, runsAfter, isRound, Quiet}
+use Rattle.floor.specs.Demand3.{Call, book, stop, repair, round, keep, forget, recall, Typed, outcome, floorAfter, bookedIn, reportedIn, recallSet, recallMakes, runsAfter, isRound, changesRunning, disturbs, Quiet}
 use Rattle.floor.specs.Together.{reportTo, saidIn}
 use Rattle.floor.specs.Fairness.{wants, Waiting, granted, grantsIn}
+use Rattle.floor.specs.Arrows.{Unpressed}
 use Rattle.floor.proofs.Lists.{list-runs}
 use Rattle.floor.proofs.Shown.{Shows, refusalBy, valueBy, shows-refusal, shows-call, shows-report}
 
@@ -28,6 +30,9 @@ isTyped (book t c) = ltb (c .number) (2 ^ 32)
 isTyped (stop t) = true
 isTyped (repair t) = true
 isTyped round = true
+isTyped (keep name) = true
+isTyped (forget name) = true
+isTyped (recall name) = true
 
 pub typed : (c : Call) → isTyped c ≡ true → Typed c
 unfolding isTyped
@@ -35,6 +40,9 @@ typed (book t c) h = ltb-true (c .number) (2 ^ 32) h
 typed (stop t) h = tt
 typed (repair t) h = tt
 typed round h = tt
+typed (keep name) h = tt
+typed (forget name) h = tt
+typed (recall name) h = tt
 
 pub all-typed : (cs : List Call) → allOf isTyped cs ≡ true → All Typed cs
 unfolding allOf
@@ -61,6 +69,9 @@ bookedOf n (book t c) = cond (eqb n 0) (c .number ∷ []) []
 bookedOf n (stop t) = []
 bookedOf n (repair t) = []
 bookedOf n round = []
+bookedOf n (keep name) = []
+bookedOf n (forget name) = []
+bookedOf n (recall name) = []
 
 unfoldable pub bookedBy : Model → List Call → List ℕ
 bookedBy m [] = []
@@ -71,6 +82,9 @@ reportBy m (book t c) = zeroReport
 reportBy m (stop t) = zeroReport
 reportBy m (repair t) = zeroReport
 reportBy m round = reportOf m
+reportBy m (keep name) = zeroReport
+reportBy m (forget name) = zeroReport
+reportBy m (recall name) = zeroReport
 
 unfoldable pub saidBy : Model → List Call → List (ℕ × Report)
 saidBy m [] = []
@@ -81,6 +95,9 @@ reportedOf m (book t c) k = []
 reportedOf m (stop t) k = []
 reportedOf m (repair t) k = []
 reportedOf m round k = listedAt (reportOf m) k
+reportedOf m (keep name) k = []
+reportedOf m (forget name) k = []
+reportedOf m (recall name) k = []
 
 unfoldable pub reportedBy : Model → List Call → ℕ → List ℕ
 reportedBy m [] k = []
@@ -90,9 +107,39 @@ unfoldable pub grantsBy : Model → List Call → ℕ → List ℕ
 grantsBy m [] t = []
 grantsBy m (c ∷ cs) t = cond (isRound c) (getD (reportOf m .grants) t 0 ∷ []) [] ++ grantsBy (valueBy m c) cs t
 
+-- whether an accepted recall stops or repairs tile t
+unfoldable pub makesBy : Model → ℕ → ℕ → Bool
+makesBy m name t = ltb t (total (m .settings)) && cond (bit (setOf (m .layouts) name) t) (not (runsOf m t)) (runsOf m t)
+
+unfoldable pub changesBy : Model → Call → Bool
+unfolding makesBy
+changesBy m (book t c) = false
+changesBy m (stop t) = eqb (refusalBy m (stop t)) 0
+changesBy m (repair t) = eqb (refusalBy m (repair t)) 0
+changesBy m round = false
+changesBy m (keep name) = false
+changesBy m (forget name) = false
+changesBy m (recall name) = eqb (refusalBy m (recall name)) 0 && not (allBelow (λ t. not (makesBy m name t)) (total (m .settings)))
+
+unfoldable pub disturbsBy : Model → Call → Bool
+unfolding changesBy
+disturbsBy m (book t c) = eqb (refusalBy m (book t c)) 0
+disturbsBy m (stop t) = changesBy m (stop t)
+disturbsBy m (repair t) = changesBy m (repair t)
+disturbsBy m round = false
+disturbsBy m (keep name) = false
+disturbsBy m (forget name) = false
+disturbsBy m (recall name) = changesBy m (recall name)
+
 unfoldable pub quietBy : Model → List Call → Bool
+unfolding disturbsBy
 quietBy m [] = true
-quietBy m (c ∷ cs) = (isRound c || not (eqb (refusalBy m c) 0)) && quietBy (valueBy m c) cs
+quietBy m (c ∷ cs) = not (disturbsBy m c) && quietBy (valueBy m c) cs
+
+unfoldable pub unpressedBy : Model → List Call → Bool
+unfolding changesBy
+unpressedBy m [] = true
+unpressedBy m (c ∷ cs) = not (changesBy m c) && unpressedBy (valueBy m c) cs
 
 unfoldable pub waitingBy : Model → List Call → ℕ → ℕ → Bool
 waitingBy m [] t k = true
@@ -106,6 +153,9 @@ module _ (f : Floor) (m : Model) (s : Shows f m) where
   call-booked (stop t) = refl
   call-booked (repair t) = refl
   call-booked round = refl
+  call-booked (keep name) = refl
+  call-booked (forget name) = refl
+  call-booked (recall name) = refl
 
   call-report : (c : Call) → reportTo f c ≡ reportBy m c
   unfolding reportTo reportBy
@@ -113,6 +163,9 @@ module _ (f : Floor) (m : Model) (s : Shows f m) where
   call-report (stop t) = refl
   call-report (repair t) = refl
   call-report round = shows-report f m s
+  call-report (keep name) = refl
+  call-report (forget name) = refl
+  call-report (recall name) = refl
 
   call-reported : (c : Call) (k : ℕ) → outcome f c .reported k ≡ reportedOf m c k
   unfolding outcome reportedOf
@@ -120,10 +173,35 @@ module _ (f : Floor) (m : Model) (s : Shows f m) where
   call-reported (stop t) k = refl
   call-reported (repair t) k = refl
   call-reported round k = ap (λ (r : Report). listedAt r k) (shows-report f m s)
+  call-reported (keep name) k = refl
+  call-reported (forget name) k = refl
+  call-reported (recall name) k = refl
 
   pub call-granted : (t : ℕ) → granted f t ≡ getD (reportOf m .grants) t 0
   unfolding granted
   call-granted t = ap (λ (r : Report). getD (r .grants) t 0) (shows-report f m s)
+
+  pub call-changes : (c : Call) → changesRunning f c ≡ changesBy m c
+  unfolding changesRunning recallMakes recallSet changesBy makesBy view
+  call-changes (book t c) = refl
+  call-changes (stop t) = ap (λ (n : ℕ). eqb n 0) (shows-refusal f m s (stop t))
+  call-changes (repair t) = ap (λ (n : ℕ). eqb n 0) (shows-refusal f m s (repair t))
+  call-changes round = refl
+  call-changes (keep name) = refl
+  call-changes (forget name) = refl
+  call-changes (recall name) =
+      let idle : Model → Bool = λ x. allBelow (λ t. not (makesBy x name t)) (total (x .settings)) in
+      ap (λ (n : ℕ). eqb n 0 && not (idle (view f))) (shows-refusal f m s (recall name)) ∙ ap (λ (x : Model). eqb (refusalBy m (recall name)) 0 && not (idle x)) (s .value)
+
+  pub call-disturbs : (c : Call) → disturbs f c ≡ disturbsBy m c
+  unfolding disturbs disturbsBy
+  call-disturbs (book t c) = ap (λ (n : ℕ). eqb n 0) (shows-refusal f m s (book t c))
+  call-disturbs (stop t) = call-changes (stop t)
+  call-disturbs (repair t) = call-changes (repair t)
+  call-disturbs round = refl
+  call-disturbs (keep name) = refl
+  call-disturbs (forget name) = refl
+  call-disturbs (recall name) = call-changes (recall name)
 
 pub shows-list : (f : Floor) (m : Model) → Shows f m → (cs : List Call) → All Typed cs → Shows (floorAfter f cs) (valueAfter m cs)
 unfolding floorAfter valueAfter
@@ -164,11 +242,15 @@ pub quiet : (f : Floor) (m : Model) → Shows f m → (cs : List Call) → All T
 unfolding quietBy
 quiet f m s [] h q = tt
 quiet f m s (c ∷ cs) h q =
-    let p = isRound c || not (eqb (refusalBy m c) 0) in
-    (λ e. here e (and-left p _ q), quiet (outcome f c .floor) (valueBy m c) (shows-call f m s c (h .0)) cs (h .1) (and-right p _ q))
-  where
-    here : isRound c ≡ false → (isRound c || not (eqb (refusalBy m c) 0)) ≡ true → outcome f c .refusal ≢ 0
-    here e k = rw (shows-refusal f m s c) (r-ne (refusalBy m c) 0 .0 (rw e at k))
+    let p = not (disturbsBy m c) in
+    (call-disturbs f m s c ∙ not-true (disturbsBy m c) (and-left p _ q), quiet (outcome f c .floor) (valueBy m c) (shows-call f m s c (h .0)) cs (h .1) (and-right p _ q))
+
+pub unpressed : (f : Floor) (m : Model) → Shows f m → (cs : List Call) → All Typed cs → unpressedBy m cs ≡ true → Unpressed f cs
+unfolding unpressedBy
+unpressed f m s [] h q = tt
+unpressed f m s (c ∷ cs) h q =
+    let p = not (changesBy m c) in
+    (call-changes f m s c ∙ not-true (changesBy m c) (and-left p _ q), unpressed (outcome f c .floor) (valueBy m c) (shows-call f m s c (h .0)) cs (h .1) (and-right p _ q))
 
 pub waiting : (f : Floor) (m : Model) → Shows f m → (cs : List Call) → All Typed cs → (t k : ℕ) → waitingBy m cs t k ≡ true → Waiting f cs t k
 unfolding waitingBy

@@ -23,7 +23,8 @@ use Rattle.floor.specs.Sides.{sides}
 use Rattle.floor.specs.Settings.{total, spacing, span, isHopper, hoppersOf, settingsTests, settingsRefusal, settingsPass}
 use Rattle.floor.specs.Model.{TileState, Model, noTile, tileOf, runs, numbersOn}
 use Rattle.floor.specs.Memory.{head}
-use Rattle.floor.specs.Well.{hopperSound, runningSound, stoppedSound, faces, headSound, inside, apart, inOrder, membersSound, tileSound, numbersSound, countersSound, sound}
+use Rattle.floor.specs.Layouts.{layoutsSound}
+use Rattle.floor.specs.Well.{hopperSound, runningSound, stoppedSound, faces, headSound, inside, apart, inOrder, membersSound, tileSound, numbersSound, countersSound, stateSound, sound}
 use Rattle.floor.proofs.Grid.{neighbour-side}
 use Rattle.floor.proofs.Sound.{Measured, Inside, Apart, Faces, Sound}
 
@@ -235,8 +236,8 @@ module _ (m : Model) where
   abbrev Facts : Type 0
   Facts = Measured S × ((length (m .tiles) ≡ total S) × (((t : ℕ) → t < total S → SoundTile S t (tileOf m t)) × Counted))
 
-  facts : sound m ≡ true ↔ Facts
-  unfolding sound numbersSound countersSound
+  facts : stateSound m ≡ true ↔ Facts
+  unfolding stateSound numbersSound countersSound
   facts =
       r-then (settings-fact S)
       (λ M. r-and (r-eq _ _)
@@ -274,8 +275,8 @@ module _ (m : Model) where
       go (yes l) = f t l
       go (no l) = subst (SoundTile S t) (sym (List·getD-eq-default (m .tiles) noTile (omega (arith, e)))) (no-tile M t (omega arith))
 
-  pub sound-of : Measured S → length (m .tiles) ≡ total S → ((t : ℕ) → t < total S → SoundTile S t (tileOf m t)) → Counted → Sound m
-  sound-of M e f C =
+  pub sound-of : Measured S → length (m .tiles) ≡ total S → ((t : ℕ) → t < total S → SoundTile S t (tileOf m t)) → Counted → layoutsSound S (m .layouts) ≡ true → Sound m
+  sound-of M e f C L =
       let T = everywhere M e f in
       record {
         measured = M;
@@ -304,6 +305,7 @@ module _ (m : Model) where
         counted = C .1 .1 .1 .0;
         booked-last = C .1 .1 .1 .1 .0;
         last-fits = C .1 .1 .1 .1 .1;
+        laid-out = L;
       }
 
   -- what Sound tells of one tile
@@ -329,4 +331,8 @@ module _ (m : Model) where
   sound-facts F = (F .measured, (F .len, (λ t _. sound-tile F t, ((all-both (λ n. 0 < n) (λ n. n ≤ m .counters .last) N (F .positive) (F .below), F .unique), (F .four, (F .spare, (F .counted, (F .booked-last, F .last-fits))))))))
 
   pub sound-fact : sound m ≡ true ↔ Sound m
-  sound-fact = (λ h. let F = facts .0 h in sound-of (F .0) (F .1 .0) (F .1 .1 .0) (F .1 .1 .1), λ F. facts .1 (sound-facts F))
+  unfolding sound
+  sound-fact = (
+    λ h. let F = facts .0 (and-left (stateSound m) (layoutsSound S (m .layouts)) h) in sound-of (F .0) (F .1 .0) (F .1 .1 .0) (F .1 .1 .1) (and-right (stateSound m) (layoutsSound S (m .layouts)) h),
+    λ F. and-true (facts .1 (sound-facts F)) (F .laid-out),
+  )

@@ -1,7 +1,7 @@
 -- The arrow keeps its side: the rule of a round, what holds once a round changes no distance, and when that is. The theorem is `arrows` of proofs/Arrows.
 use mathlib.Core.Path.{_≡_}
 use mathlib.Core.Logic.{_≢_}
-use mathlib.Core.Bool.{Bool, true, false}
+use mathlib.Core.Bool.{true, false}
 use mathlib.Core.List.{List, [], _∷_, List·Memᴰ}
 use Prim.Native.Nat.{ℕ, _-_, _≤_, _<_}
 use Rattle.laws.specs.Every.{All}
@@ -12,7 +12,7 @@ use Rattle.floor.specs.Grid.{neighbour}
 use Rattle.floor.specs.Model.{Model, distanceOf, nextOf}
 use Rattle.floor.specs.Memory.{view}
 use Rattle.floor.specs.Well.{wellFormed}
-use Rattle.floor.specs.Demand3.{Call, book, stop, repair, round, Typed, outcome, floorAfter, roundsIn}
+use Rattle.floor.specs.Demand3.{Call, round, Typed, outcome, floorAfter, changesRunning, roundsIn}
 
 -- the distance beyond side k of tile t
 abbrev pub beyond : Model → ℕ → ℕ → ℕ
@@ -31,16 +31,10 @@ pub record Chooses (m n : Model) (t : ℕ) : Type 0 where
   -- "Otherwise the old order of ties holds": each side before the arrow's is farther
   pub ties : ¬ (FacesNearest m t (nextOf m t)) → (j : ℕ) → List·Memᴰ j sides → j < nextOf n t → beyond m t (nextOf n t) < beyond m t j
 
-abbrev pub isPress : Call → Bool
-isPress (book t c) = false
-isPress (stop t) = true
-isPress (repair t) = true
-isPress round = false
-
--- a list without an accepted stop or repair
+-- a list without an accepted stop or repair, and without a recall that makes one
 abbrev pub Unpressed : Floor → List Call → Type 0
 Unpressed f [] = Unit {0}
-Unpressed f (c ∷ cs) = (isPress c ≡ true → outcome f c .refusal ≢ 0) × Unpressed (outcome f c .floor) cs
+Unpressed f (c ∷ cs) = (changesRunning f c ≡ false) × Unpressed (outcome f c .floor) cs
 
 -- "a round changes no distance"
 abbrev pub Steady : Floor → Type 0

@@ -1,5 +1,5 @@
 -- The calls: the refusals of each, in its order, and its answer on all inputs.
-use mathlib.Core.Bool.{Bool, cond, not}
+use mathlib.Core.Bool.{Bool, cond, not, _&&_}
 use mathlib.Core.List.{List, [], _∷_}
 use Prim.Native.Nat.{ℕ, _+_}
 use lib.Dec.{leb, eqb}
@@ -14,7 +14,8 @@ use Rattle.floor.specs.declared.Answer.{Answer}
 use Rattle.floor.specs.declared.Rounded.{Rounded}
 use Rattle.floor.specs.declared.Reading.{Reading}
 use Rattle.floor.specs.Settings.{total, spacing, isHopper, settingsRefusal}
-use Rattle.floor.specs.Model.{TileState, Model, tileOf, runsOf, membersOf, withTile, withCounters, withMembers}
+use Rattle.floor.specs.Layouts.{nameOk, setBelow, held, setOf, keepIn, forgetIn}
+use Rattle.floor.specs.Model.{TileState, Model, tileOf, runs, runsOf, membersOf, withTiles, withTile, withCounters, withLayouts, withMembers}
 use Rattle.floor.specs.Memory.{zeroTile, zeroCanister, zeroFloor, view, head, pack}
 use Rattle.floor.specs.Well.{inside, apart, wellFormed}
 use Rattle.floor.specs.Route.{route}
@@ -36,7 +37,7 @@ unfoldable pub freshTile : Settings → ℕ → TileState
 freshTile s t = record { running = 1; distance = cond (isHopper s t) 0 255; next = 0; token = 0; members = [] }
 
 unfoldable pub freshFloor : Settings → Model
-freshFloor s = record { settings = s; counters = record { last = 0; booked = 0; delivered = replicate 4 0 }; tiles = tab (total s) (freshTile s) }
+freshFloor s = record { settings = s; counters = record { last = 0; booked = 0; delivered = replicate 4 0 }; tiles = tab (total s) (freshTile s); layouts = [] }
 
 -- "Fresh: 1, 2, 3." "A refused … fresh floor gives the all-zero floor."
 unfoldable pub freshAnswer : Settings → Answer
@@ -81,6 +82,42 @@ repaired x = record { running = 1; distance = x .distance; next = x .next; token
 
 unfoldable pub repairAnswer : Floor → ℕ → Answer
 repairAnswer f t = let m = view f in answer f (repairTests m t) (withTile m t (repaired (tileOf m t)))
+
+-- ---- layouts; a name is the number of its eight bytes (`nameNumber`)
+-- "44, bad name, after 30"; "46, eight other names held, after 44, at keeping"
+unfoldable pub keepTests : Model → ℕ → List (Bool × ℕ)
+keepTests m name = (not (nameOk name), 44) ∷ (leb 8 (length (m .layouts)) && not (held (m .layouts) name), 46) ∷ []
+
+-- "the set of tiles that ran when it was kept"
+unfoldable pub runningSet : Model → ℕ
+runningSet m = setBelow (runsOf m) (total (m .settings))
+
+-- "Keeping and forgetting change no tile"
+unfoldable pub keptUnder : Model → ℕ → Model
+keptUnder m name = withLayouts m (keepIn (record { name = name; set = runningSet m }) (m .layouts))
+
+unfoldable pub keepAnswer : Floor → ℕ → Answer
+keepAnswer f name = let m = view f in answer f (keepTests m name) (keptUnder m name)
+
+-- "45, name not held, after 44, at recall and forgetting"
+unfoldable pub heldTests : Model → ℕ → List (Bool × ℕ)
+heldTests m name = (not (nameOk name), 44) ∷ (not (held (m .layouts) name), 45) ∷ []
+
+unfoldable pub forgotten : Model → ℕ → Model
+forgotten m name = withLayouts m (forgetIn name (m .layouts))
+
+unfoldable pub forgetAnswer : Floor → ℕ → Answer
+forgetAnswer f name = let m = view f in answer f (heldTests m name) (forgotten m name)
+
+-- "Recall makes the stops and repairs needed": a stopped tile of the set is repaired, a running one outside it is stopped; the others stay as they are
+unfoldable pub recallTile : ℕ → ℕ → TileState → TileState
+recallTile set t x = cond (bit set t) (cond (runs x) x (repaired x)) (cond (runs x) (stopped x) x)
+
+unfoldable pub recalled : Model → ℕ → Model
+recalled m set = withTiles m (tab (total (m .settings)) (λ t. recallTile set t (tileOf m t)))
+
+unfoldable pub recallAnswer : Floor → ℕ → Answer
+recallAnswer f name = let m = view f in answer f (heldTests m name) (recalled m (setOf (m .layouts) name))
 
 -- ---- a round
 -- "Each step reads only what the step before left, for all tiles together."

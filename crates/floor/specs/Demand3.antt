@@ -1,30 +1,34 @@
 -- Demand 3: what is promised of every list of calls. The theorem is `demand3` of proofs/Theorem.
 use mathlib.Core.Path.{_≡_}
-use mathlib.Core.Logic.{_↔_, _≢_}
+use mathlib.Core.Logic.{_↔_}
 use mathlib.Core.Bool.{Bool, true, false, cond, not, _&&_}
 use mathlib.Core.List.{List, [], _∷_, _++_, List·Permᴰ}
 use Prim.Native.Nat.{ℕ, _+_, _^_, _≤_, _<_}
-use lib.Dec.{eqb}
+use lib.Dec.{ltb, eqb}
 use lib.ListN.{length, getD}
-use Rattle.laws.specs.Define.{cat, allOf, pairsOf}
+use Rattle.laws.specs.Define.{cat, allOf, pairsOf, allBelow, bit}
 use Rattle.laws.specs.Every.{All}
 use Rattle.floor.specs.declared.Canister.{Canister}
 use Rattle.floor.specs.declared.Floor.{Floor}
-use Rattle.floor.specs.Settings.{spacing}
+use Rattle.floor.specs.Settings.{total, spacing}
+use Rattle.floor.specs.Layouts.{setOf}
 use Rattle.floor.specs.Model.{runsOf, membersOf, numbersOn}
 use Rattle.floor.specs.Memory.{view}
 use Rattle.floor.specs.Well.{inside, apart, wellFormed}
-use Rattle.floor.specs.Calls.{bookAnswer, stopAnswer, repairAnswer, roundAnswer}
+use Rattle.floor.specs.Calls.{bookAnswer, stopAnswer, repairAnswer, keepAnswer, forgetAnswer, recallAnswer, roundAnswer}
 use Rattle.floor.specs.Reports.{listedAt}
 use Rattle.floor.specs.Bound.{bound}
 use Rattle.floor.specs.Live.{LivePath, connected, connectedCount}
 
--- "a list holds bookings, stops, repairs and rounds in any order and number; it may be empty"
+-- "a list holds bookings, stops, repairs and rounds in any order and number; it may be empty"; recalls, and "Keeping and forgetting … may stand in its lists", each with the number of its name
 pub data Call : Type 0 where
   book : ℕ → Canister → Call
   stop : ℕ → Call
   repair : ℕ → Call
   round : Call
+  keep : ℕ → Call
+  forget : ℕ → Call
+  recall : ℕ → Call
 
 -- a booking's number has its parameter's 32 bits; no other width is needed
 abbrev pub Typed : Call → Type 0
@@ -32,6 +36,9 @@ Typed (book t c) = c .number < 2 ^ 32
 Typed (stop t) = Unit {0}
 Typed (repair t) = Unit {0}
 Typed round = Unit {0}
+Typed (keep name) = Unit {0}
+Typed (forget name) = Unit {0}
+Typed (recall name) = Unit {0}
 
 -- a call's answer: its refusal number, 0 if accepted; its floor; the numbers that it booked; the numbers that it reported delivered to each hopper, the hoppers in tile order from 0 on
 pub record Outcome : Type 0 where
@@ -46,6 +53,9 @@ outcome f (book t c) = let r = bookAnswer f t c in record { refusal = r .refusal
 outcome f (stop t) = let r = stopAnswer f t in record { refusal = r .refusal; floor = r .floor; booked = []; reported = λ _. [] }
 outcome f (repair t) = let r = repairAnswer f t in record { refusal = r .refusal; floor = r .floor; booked = []; reported = λ _. [] }
 outcome f round = let r = roundAnswer f in record { refusal = r .refusal; floor = r .floor; booked = []; reported = listedAt (r .report) }
+outcome f (keep name) = let r = keepAnswer f name in record { refusal = r .refusal; floor = r .floor; booked = []; reported = λ _. [] }
+outcome f (forget name) = let r = forgetAnswer f name in record { refusal = r .refusal; floor = r .floor; booked = []; reported = λ _. [] }
+outcome f (recall name) = let r = recallAnswer f name in record { refusal = r .refusal; floor = r .floor; booked = []; reported = λ _. [] }
 
 -- "Each call gets its own arguments and the floor the last one gave; a refused call gives that floor back and stays in the list."
 unfoldable pub floorAfter : Floor → List Call → Floor
@@ -66,12 +76,23 @@ reportedIn f (c ∷ cs) k = outcome f c .reported k ++ reportedIn (outcome f c .
 unfoldable pub reportedAll : Floor → List Call → List ℕ
 reportedAll f cs = cat 4 (reportedIn f cs)
 
--- "A tile runs if the latest accepted stop or repair of it since the first floor was a repair or, without one, if it ran on the first floor."
+-- the set that a recall brings back
+unfoldable pub recallSet : Floor → ℕ → ℕ
+recallSet f name = setOf (view f .layouts) name
+
+-- whether a recall that is accepted stops or repairs tile t: it runs and is not in the set, or it is stopped and in it
+unfoldable pub recallMakes : Floor → ℕ → ℕ → Bool
+recallMakes f name t = ltb t (total (f .settings)) && cond (bit (recallSet f name) t) (not (runsOf (view f) t)) (runsOf (view f) t)
+
+-- "A tile runs if the latest accepted stop or repair of it since the first floor was a repair or, without one, if it ran on the first floor."; a recall "counts as" its stops and repairs
 unfoldable pub runsBy : Floor → Call → ℕ → Bool → Bool
 runsBy f (book u c) t r = r
 runsBy f (stop u) t r = cond (eqb (outcome f (stop u) .refusal) 0 && eqb u t) false r
 runsBy f (repair u) t r = cond (eqb (outcome f (repair u) .refusal) 0 && eqb u t) true r
 runsBy f round t r = r
+runsBy f (keep name) t r = r
+runsBy f (forget name) t r = r
+runsBy f (recall name) t r = cond (eqb (outcome f (recall name) .refusal) 0 && recallMakes f name t) (bit (recallSet f name) t) r
 
 unfoldable pub latest : Floor → List Call → ℕ → Bool → Bool
 latest f [] t r = r
@@ -85,11 +106,34 @@ isRound (book t c) = false
 isRound (stop t) = false
 isRound (repair t) = false
 isRound round = true
+isRound (keep name) = false
+isRound (forget name) = false
+isRound (recall name) = false
+
+-- whether it is an accepted stop or repair; a recall counts as those that it makes
+unfoldable pub changesRunning : Floor → Call → Bool
+changesRunning f (book t c) = false
+changesRunning f (stop t) = eqb (outcome f (stop t) .refusal) 0
+changesRunning f (repair t) = eqb (outcome f (repair t) .refusal) 0
+changesRunning f round = false
+changesRunning f (keep name) = false
+changesRunning f (forget name) = false
+changesRunning f (recall name) = eqb (outcome f (recall name) .refusal) 0 && not (allBelow (λ t. not (recallMakes f name t)) (total (f .settings)))
+
+-- whether it is an accepted booking, stop or repair; keeping and forgetting are none
+unfoldable pub disturbs : Floor → Call → Bool
+disturbs f (book t c) = eqb (outcome f (book t c) .refusal) 0
+disturbs f (stop t) = changesRunning f (stop t)
+disturbs f (repair t) = changesRunning f (repair t)
+disturbs f round = false
+disturbs f (keep name) = false
+disturbs f (forget name) = false
+disturbs f (recall name) = changesRunning f (recall name)
 
 -- a list with "no accepted booking, stop or repair", and its rounds
 abbrev pub Quiet : Floor → List Call → Type 0
 Quiet f [] = Unit {0}
-Quiet f (c ∷ cs) = (isRound c ≡ false → outcome f c .refusal ≢ 0) × Quiet (outcome f c .floor) cs
+Quiet f (c ∷ cs) = (disturbs f c ≡ false) × Quiet (outcome f c .floor) cs
 
 abbrev pub roundsIn : List Call → ℕ
 roundsIn [] = 0

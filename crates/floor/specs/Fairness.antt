@@ -3,13 +3,14 @@ use mathlib.Core.Path.{_≡_}
 use mathlib.Core.Logic.{_≢_}
 use mathlib.Core.Bool.{Bool, true, false, cond, _&&_}
 use mathlib.Core.List.{List, [], _∷_, _++_, List·Memᴰ}
-use Prim.Native.Nat.{ℕ, _≤_}
+use Prim.Native.Nat.{ℕ, _≤_, _<_}
 use lib.Dec.{ltb, eqb}
 use lib.ListN.{length, getD}
-use Rattle.laws.specs.Define.{keep}
+use Rattle.laws.specs.Define.{keep, bit}
 use Rattle.laws.specs.Every.{All}
 use Rattle.floor.specs.declared.Floor.{Floor}
 use Rattle.floor.specs.Sides.{chosen}
+use Rattle.floor.specs.Settings.{total}
 use Rattle.floor.specs.Grid.{around}
 use Rattle.floor.specs.Model.{Model, runsOf, tokenOf, membersOf}
 use Rattle.floor.specs.Memory.{view}
@@ -17,7 +18,7 @@ use Rattle.floor.specs.Well.{wellFormed}
 use Rattle.floor.specs.Route.{route}
 use Rattle.floor.specs.Signal.{requests, missing, shownOf}
 use Rattle.floor.specs.Calls.{roundAnswer}
-use Rattle.floor.specs.Demand3.{Call, stop, Typed, outcome, floorAfter, isRound, roundsIn}
+use Rattle.floor.specs.Demand3.{Call, stop, recall, Typed, outcome, floorAfter, recallSet, isRound, roundsIn}
 
 -- which sides of tile t want in the round that begins with m: "the neighbour there has canisters and its new arrow faces here"
 unfoldable pub wants : Model → ℕ → ℕ → Bool
@@ -49,12 +50,15 @@ grantCount gs = length (keep (λ j. ltb 0 j) gs)
 unfoldable pub turnOf : Model → ℕ → ℕ
 turnOf m t = chosen (wants m t) (tokenOf m t)
 
--- f is any well-formed floor, so also the one that any stretch of a longer list begins with; a list holds bookings, stops, repairs and rounds, refused ones among them; t and k are any numbers
+-- f is any well-formed floor, so also the one that any stretch of a longer list begins with; a list holds bookings, stops, repairs, recalls, keepings, forgettings and rounds, refused ones among them; t and k are any numbers
 pub record NobodyWaits (f : Floor) : Type 0 where
   -- "while a side of a running tile wants in every round, no other side of that tile is granted twice without the waiting side granted between"
   pub fair : (cs : List Call) → All Typed cs → (t k : ℕ) → Waiting f cs t k → Fair k (grantsIn f cs t)
   -- "A stop of the granting tile ends the count": after an accepted one no side of the tile wants in the next round, so that no side wants in every round
   pub stop-ends : (t : ℕ) → outcome f (stop t) .refusal ≡ 0 → (cs : List Call) → All Typed cs → roundsIn cs ≡ 0 → (k : ℕ) → wants (view (floorAfter f (stop t ∷ cs))) t k ≡ false
+  -- a recall that leaves the granting tile stopped ends it likewise
+  pub recall-ends : (name t : ℕ) → outcome f (recall name) .refusal ≡ 0 → t < total (f .settings) → bit (recallSet f name) t ≡ false → (cs : List Call) → All Typed cs → roundsIn cs ≡ 0 → (k : ℕ)
+      → wants (view (floorAfter f (recall name ∷ cs))) t k ≡ false
   -- while a side wants in every round and is not granted, at most three grants go to others
   pub three : (cs : List Call) → All Typed cs → (t k : ℕ) → Waiting f cs t k → ¬ (List·Memᴰ k (grantsIn f cs t)) → grantCount (grantsIn f cs t) ≤ 3
   -- a running tile grants the side whose turn it is, exactly if that side wants and the tile has the gap for it; if any side wants, that one does

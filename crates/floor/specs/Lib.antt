@@ -1,6 +1,7 @@
 pub mod Sides
 pub mod Settings
 pub mod Grid
+pub mod Layouts
 pub mod Model
 pub mod Memory
 pub mod Well
@@ -13,6 +14,7 @@ pub mod Reports
 pub mod Bound
 pub mod Live
 pub mod Demand3
+pub mod Named
 pub mod Together
 pub mod Fairness
 pub mod Arrows

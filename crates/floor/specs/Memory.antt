@@ -9,6 +9,7 @@ use Rattle.floor.specs.declared.Canister.{Canister}
 use Rattle.floor.specs.declared.Settings.{Settings}
 use Rattle.floor.specs.declared.Counters.{Counters}
 use Rattle.floor.specs.declared.Tile.{Tile}
+use Rattle.floor.specs.declared.Layout.{Layout}
 use Rattle.floor.specs.declared.Floor.{Floor}
 use Rattle.floor.specs.Settings.{total}
 use Rattle.floor.specs.Model.{TileState, Model}
@@ -19,11 +20,20 @@ zeroTile = record { running = 0; distance = 0; next = record { code = 0 }; token
 abbrev pub zeroCanister : Canister
 zeroCanister = record { number = 0; a = 0; b = 0 }
 
+abbrev pub zeroLayout : Layout
+zeroLayout = record { name = 0; set = 0 }
+
 -- "the all-zero floor"
 unfoldable pub zeroFloor : Floor
 zeroFloor =
     let s : Settings = record { columns = 0; rows = 0; hoppers = 0; sources = 0; width = 0; length = 0; gap = 0; travel = 0 } in
-    record { settings = s; counters = record { last = 0; booked = 0; delivered = replicate 4 0 }; tiles = replicate 64 zeroTile; canisters = replicate 1024 zeroCanister }
+    record {
+      settings = s;
+      counters = record { last = 0; booked = 0; delivered = replicate 4 0 };
+      tiles = replicate 64 zeroTile;
+      canisters = replicate 1024 zeroCanister;
+      layouts = replicate 8 zeroLayout;
+    }
 
 -- ---- what memory shows: tile t, its canisters the first `count` of the sixteen places from 16 × t on
 abbrev pub headOf : Floor → ℕ → Tile
@@ -38,8 +48,16 @@ stateOf f t =
     let l = take (h .count) (drop (16 * t) (f .canisters)) in
     stateFrom h l
 
+-- the layouts in use: those before the first place without a name
+unfoldable pub usedLayouts : List Layout → List Layout
+usedLayouts [] = []
+usedLayouts (x ∷ l) = let r = usedLayouts l in cond (eqb (x .name) 0) [] (x ∷ r)
+
 unfoldable pub view : Floor → Model
-view f = let ts = tab (total (f .settings)) (stateOf f) in record { settings = f .settings; counters = f .counters; tiles = ts }
+view f =
+    let ts = tab (total (f .settings)) (stateOf f) in
+    let ls = usedLayouts (f .layouts) in
+    record { settings = f .settings; counters = f .counters; tiles = ts; layouts = ls }
 
 -- ---- how a floor as a value lies in memory: 64 tiles, "sixteen places for each", zeros where nothing is
 abbrev pub unused : TileState
@@ -59,14 +77,21 @@ unfoldable pub rows : ℕ → ℕ → (ℕ → TileState) → List Canister
 rows zero k g = []
 rows (suc n) k g = places 16 (g k .members) ++ rows n (suc k) g
 
-unfoldable pub build : Settings → Counters → (ℕ → TileState) → Floor
-build s c g =
+-- n places for the layouts l: they, then zeros
+unfoldable pub layoutPlaces : ℕ → List Layout → List Layout
+layoutPlaces zero l = []
+layoutPlaces (suc n) [] = zeroLayout ∷ layoutPlaces n []
+layoutPlaces (suc n) (x ∷ l) = x ∷ layoutPlaces n l
+
+unfoldable pub build : Settings → Counters → (ℕ → TileState) → List Layout → Floor
+build s c g l =
     let ts = tab 64 (λ t. head (g t)) in
     let cs = rows 64 0 g in
-    record { settings = s; counters = c; tiles = ts; canisters = cs }
+    let ls = layoutPlaces 8 l in
+    record { settings = s; counters = c; tiles = ts; canisters = cs; layouts = ls }
 
 unfoldable pub pack : Model → Floor
-pack m = let ts = m .tiles in build (m .settings) (m .counters) (λ t. getD ts t unused)
+pack m = let ts = m .tiles in build (m .settings) (m .counters) (λ t. getD ts t unused) (m .layouts)
 
 -- ---- "Unused places in memory are zero", and the lengths that the arrays have by their type
 unfoldable pub isZeroCanister : Canister → Bool
@@ -91,9 +116,25 @@ unfoldable pub tilesFit : Settings → ℕ → List Tile → List Canister → B
 tilesFit s t [] cs = true
 tilesFit s t (h ∷ hs) cs = tileFits s t h (take 16 cs) && tilesFit s (suc t) hs (drop 16 cs)
 
-unfoldable pub fits : Floor → Bool
-fits f = eqb (length (f .tiles)) 64 && (eqb (length (f .canisters)) 1024 && tilesFit (f .settings) 0 (f .tiles) (f .canisters))
+unfoldable pub stateFits : Floor → Bool
+stateFits f = eqb (length (f .tiles)) 64 && (eqb (length (f .canisters)) 1024 && tilesFit (f .settings) 0 (f .tiles) (f .canisters))
 
--- ---- for the passes over a floor: its memory with other tiles
+unfoldable pub isZeroLayout : Layout → Bool
+isZeroLayout x = eqb (x .name) 0 && eqb (x .set) 0
+
+-- the layouts in use, then zeros
+unfoldable pub layoutsFit : List Layout → Bool
+layoutsFit l = eqb (length l) 8 && allOf isZeroLayout (drop (length (usedLayouts l)) l)
+
+unfoldable pub fits : Floor → Bool
+fits f = stateFits f && layoutsFit (f .layouts)
+
+-- ---- the memory of a floor with other counters, tiles and canisters; with other tiles; with other layouts
+abbrev pub refilled : Floor → Counters → List Tile → List Canister → Floor
+refilled f c ts cs = record { settings = f .settings; counters = c; tiles = ts; canisters = cs; layouts = f .layouts }
+
 abbrev pub retiled : Floor → List Tile → Floor
-retiled f ts = record { settings = f .settings; counters = f .counters; tiles = ts; canisters = f .canisters }
+retiled f ts = refilled f (f .counters) ts (f .canisters)
+
+abbrev pub relaid : Floor → List Layout → Floor
+relaid f ls = record { settings = f .settings; counters = f .counters; tiles = f .tiles; canisters = f .canisters; layouts = ls }

@@ -8,6 +8,7 @@ use Rattle.laws.specs.Define.{cat}
 use Rattle.floor.specs.declared.Canister.{Canister}
 use Rattle.floor.specs.declared.Settings.{Settings}
 use Rattle.floor.specs.declared.Counters.{Counters}
+use Rattle.floor.specs.declared.Layout.{Layout}
 use Rattle.floor.specs.Settings.{total}
 
 -- "A tile has: running or stopped; distance; arrow (a side); turn (a side); canisters." Running is 1, stopped 0; distance none is 255.
@@ -18,11 +19,12 @@ pub record TileState : Type 0 where
   pub token : ℕ
   pub members : List Canister
 
--- the settings, the counters of 32 bits: "last number booked, booked", and delivered "for each hopper in tile order", and the C tiles by their number
+-- the settings, the counters of 32 bits: "last number booked, booked", and delivered "for each hopper in tile order", the C tiles by their number, and the layouts "by rising name"
 pub record Model : Type 0 where
   pub settings : Settings
   pub counters : Counters
   pub tiles : List TileState
+  pub layouts : List Layout
 
 -- what is read where no tile is: stopped, distance none, no sides, no canisters
 abbrev pub noTile : TileState
@@ -57,15 +59,18 @@ numbers l = map (λ c. c .number) l
 unfoldable pub numbersOn : Model → List ℕ
 numbersOn m = cat (total (m .settings)) (λ t. numbers (membersOf m t))
 
--- the floor with other tiles, with one tile anew, with other counters
+-- the floor with other tiles, with one tile anew, with other counters, with other layouts
 abbrev pub withTiles : Model → List TileState → Model
-withTiles m ts = record { settings = m .settings; counters = m .counters; tiles = ts }
+withTiles m ts = record { settings = m .settings; counters = m .counters; tiles = ts; layouts = m .layouts }
 
 abbrev pub withTile : Model → ℕ → TileState → Model
 withTile m t x = withTiles m (set (m .tiles) t x)
 
 abbrev pub withCounters : Model → Counters → Model
-withCounters m c = record { settings = m .settings; counters = c; tiles = m .tiles }
+withCounters m c = record { settings = m .settings; counters = c; tiles = m .tiles; layouts = m .layouts }
+
+abbrev pub withLayouts : Model → List Layout → Model
+withLayouts m l = record { settings = m .settings; counters = m .counters; tiles = m .tiles; layouts = l }
 
 abbrev pub withMembers : TileState → List Canister → TileState
 withMembers x l = record { running = x .running; distance = x .distance; next = x .next; token = x .token; members = l }

@@ -11,7 +11,7 @@ use Rattle.floor.specs.declared.Counters.{Counters}
 use Rattle.floor.specs.Sides.{bySide}
 use Rattle.floor.specs.Settings.{total, span, isHopper, hoppersOf}
 use Rattle.floor.specs.Grid.{neighbour}
-use Rattle.floor.specs.Model.{TileState, Model, tileOf, nextOf, membersOf, withMembers, numbers}
+use Rattle.floor.specs.Model.{TileState, Model, tileOf, nextOf, membersOf, withTiles, withCounters, withMembers, numbers}
 
 -- "A tile whose arrow leads to a tile that granted it": the side along which it moves, none where it stands still; `ahead` is the grant of the tile that the arrow leads to, and opposite sides add up to five
 unfoldable pub wayOf : ℕ → ℕ → ℕ
@@ -76,4 +76,4 @@ raised c ds = record { last = c .last; booked = c .booked; delivered = tab 4 (λ
 
 -- "for all tiles together"
 unfoldable pub move : Model → (ℕ → ℕ) → Model
-move m g = record { settings = m .settings; counters = raised (m .counters) (deliveredBy m g); tiles = tab (total (m .settings)) (moveTile m g) }
+move m g = withCounters (withTiles m (tab (total (m .settings)) (moveTile m g))) (raised (m .counters) (deliveredBy m g))

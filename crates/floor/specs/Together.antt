@@ -12,7 +12,7 @@ use Rattle.floor.specs.Model.{runsOf}
 use Rattle.floor.specs.Memory.{view}
 use Rattle.floor.specs.Well.{wellFormed}
 use Rattle.floor.specs.Calls.{zeroReport, roundAnswer}
-use Rattle.floor.specs.Demand3.{Call, book, stop, repair, round, outcome, floorAfter}
+use Rattle.floor.specs.Demand3.{Call, book, stop, repair, round, keep, forget, recall, outcome, floorAfter}
 
 -- a stop or a repair of tile t
 pub data Presses (t : ℕ) : Call → Type 0 where
@@ -38,6 +38,9 @@ reportTo f (book t b) = zeroReport
 reportTo f (stop t) = zeroReport
 reportTo f (repair t) = zeroReport
 reportTo f round = roundAnswer f .report
+reportTo f (keep name) = zeroReport
+reportTo f (forget name) = zeroReport
+reportTo f (recall name) = zeroReport
 
 -- all that a call answers beside its floor: its refusal number and its report
 abbrev pub said : Floor → Call → ℕ × Report

@@ -12,8 +12,9 @@ use Rattle.floor.specs.declared.Tile.{Tile}
 use Rattle.floor.specs.declared.Floor.{Floor}
 use Rattle.floor.specs.Settings.{total, spacing, span, isHopper, hoppersOf, settingsPass}
 use Rattle.floor.specs.Grid.{neighbour}
+use Rattle.floor.specs.Layouts.{layoutsSound}
 use Rattle.floor.specs.Model.{TileState, Model, tileOf, numbersOn}
-use Rattle.floor.specs.Memory.{view, head, fits}
+use Rattle.floor.specs.Memory.{usedLayouts, view, head, stateFits, layoutsFit, fits}
 
 -- each hopper: "The hopper runs, has distance 0, arrow none and no canisters."
 unfoldable pub hopperSound : Tile → Bool
@@ -64,13 +65,23 @@ countersSound h c n =
     eqb (length (c .delivered)) 4 && (allOf (λ k. eqb k 0) (drop h (c .delivered))
     && (eqb (c .booked) (sum (c .delivered) + n) && (leb (c .booked) (c .last) && ltb (c .last) (2 ^ 32))))
 
--- the value: its settings, C tiles, each tile, the numbers, the counters
-unfoldable pub sound : Model → Bool
-sound m =
+-- the value but for its layouts: its settings, C tiles, each tile, the numbers, the counters
+unfoldable pub stateSound : Model → Bool
+stateSound m =
     settingsPass (m .settings)
     && (eqb (length (m .tiles)) (total (m .settings))
     && (allBelow (λ t. tileSound (m .settings) t (tileOf m t)) (total (m .settings))
     && (numbersSound (m .counters .last) (numbersOn m) && countersSound (length (hoppersOf (m .settings))) (m .counters) (length (numbersOn m)))))
+
+unfoldable pub sound : Model → Bool
+sound m = stateSound m && layoutsSound (m .settings) (m .layouts)
+
+-- a floor in memory but for its layouts, and its layouts: well formed is both (`well-parts` of proofs/Pack)
+unfoldable pub stateWell : Floor → Bool
+stateWell f = let m = view f in stateSound m && stateFits f
+
+unfoldable pub layoutsWell : Floor → Bool
+layoutsWell f = layoutsSound (f .settings) (usedLayouts (f .layouts)) && layoutsFit (f .layouts)
 
 -- "Well formed": the value is, and "unused places in memory are zero"
 unfoldable pub wellFormed : Floor → Bool

@@ -123,13 +123,27 @@ pub struct Counters {
     pub delivered: [u32; 4],
 }
 
-// A floor. The canisters of tile t stand from place 16 * t on, by rising number; unused places are zero.
+// A name as its eight bytes, the first letter first, zero filled.
+#[repr(C)]
+pub struct Name {
+    pub letters: [u8; 8],
+}
+
+// A layout: its name as one number, the first letter in the highest byte, zero filled; and the set of tiles that ran when it was kept.
+#[repr(C)]
+pub struct Layout {
+    pub name: u64,
+    pub set: u64,
+}
+
+// A floor. The canisters of tile t stand from place 16 * t on, by rising number, the layouts by rising name; unused places are zero.
 #[repr(C)]
 pub struct Floor {
     pub settings: Settings,
     pub counters: Counters,
     pub tiles: [Tile; 64],
     pub canisters: [Canister; 1024],
+    pub layouts: [Layout; 8],
 }
 
 // What a round delivered to one hopper: how many, and their numbers, rising, then zeros.
@@ -149,7 +163,7 @@ pub struct Report {
     pub deliveries: [Delivery; 4],
 }
 
-// The answer of fresh, book, stop, repair and load: document 01's refusal number, 0 where the call was accepted.
+// The answer of fresh, book, stop, repair, keep, forget, recall and load: document 01's refusal number, 0 where the call was accepted.
 // The number stands last: padding before the floor costs another copy of it.
 #[repr(C)]
 pub struct Answer {
@@ -212,6 +226,7 @@ pub fn zero_floor() -> Floor
         a: 0,
         b: 0,
     };
+    let layout = Layout { name: 0, set: 0 };
     Floor {
         settings: Settings {
             columns: 0,
@@ -230,5 +245,6 @@ pub fn zero_floor() -> Floor
         },
         tiles: [tile; 64],
         canisters: [canister; 1024],
+        layouts: [layout; 8],
     }
 }

@@ -5,9 +5,9 @@ use mathlib.Core.List.{List, [], _∷_, _++_, append-assoc, append-nil}
 use Prim.Native.Nat.{ℕ, suc, _+_, _-_, _*_, _≤_, _<_}
 use native.Mathlib.Omega.{arith}
 use native.Mathlib.Decide.{decLe}
-use lib.Dec.{ltb, eqb}
-use borrow.Author.Tests.{le-ltb, lt-ltb, ltb-true, eq-eqb}
-use lib.ListN.{length, getD, take, drop, length-append}
+use lib.Dec.{leb, ltb, eqb}
+use borrow.Author.Tests.{le-ltb, lt-ltb, lt-leb, ltb-true, eq-eqb}
+use lib.ListN.{length, getD, take, drop, length-append, length-take}
 use lib.Seq.{drop-at}
 use Rattle.laws.specs.Define.{tab, refusal}
 use Rattle.laws.specs.Tables.{tab-at, tab-off, filled}
@@ -18,10 +18,11 @@ use Rattle.floor.specs.declared.Settings.{Settings}
 use Rattle.floor.specs.declared.Counters.{Counters}
 use Rattle.floor.specs.Settings.{total, settingsRefusal}
 use Rattle.floor.specs.Model.{TileState, Model}
-use Rattle.image.specs.Image.{lowest, oneTile, hopperCount, several, byteWrong, lengthIn, settingsWidths, settingsValues, countersWidths, countersValues, tileWidths, tileValues, canisterWidths, canisterValues, recordOf, settingsBody, countersBody, canistersBody, tileBody, tilesBytes, encode, bodyIn, restIn, settingsIn, countersIn, canisterIn, canistersIn, tileIn, tilesIn, modelIn, settingsFaults, countersFaults, tileFaults, endFaults, ownFaults, recordFault, orElse, endFault, tilesFault, fault}
+use Rattle.image.specs.Image.{lowest, oneTile, hopperCount, several, byteWrong, lengthIn, settingsWidths, settingsValues, countersWidths, countersValues, tileWidths, tileValues, canisterWidths, canisterValues, recordOf, settingsBody, countersBody, canistersBody, tileBody, layoutsBytes, tilesBytes, encode, kindIn, bodyIn, restIn, isLayout, layoutsIn, afterLayouts, settingsIn, countersIn, canisterIn, canistersIn, tileIn, tilesIn, modelIn, settingsFaults, countersFaults, tileFaults, endFaults, ownFaults, recordFault, orElse, endFault, tilesFault, fault}
 use Rattle.image.proofs.Hoppers.{none-spliced}
-use Rattle.image.proofs.Records.{record-length, length-in, body-in, rest-in, fault-in, cut-off, cut-after}
+use Rattle.image.proofs.Records.{record-length, length-in, kind-in, body-in, rest-in, fault-in, kind-take, cut-off, cut-after}
 use Rattle.image.proofs.Sizes.{settings-size, counters-size, canister-size, tile-size}
+use Rattle.image.proofs.Layouts.{LayoutFits, LaidBack, laid-back, bothFault, laid-cut}
 
 -- ---- each value fits its bytes
 pub record TileFits (x : TileState) : Type 0 where
@@ -41,6 +42,8 @@ pub record Fits (m : Model) : Type 0 where
   pub few : length (m .tiles) ≤ 64
   pub passed : settingsRefusal (m .settings) ≡ 0
   pub hoppers-few : hopperCount (m .settings) ≤ 4
+  pub laid : All LayoutFits (m .layouts)
+  pub eight : length (m .layouts) ≤ 8
 
 -- ---- a body that is read after it was written
 module _ (s : Settings) (ys : List ℕ) (h : Fit (settingsWidths (several s)) (settingsValues s)) where
@@ -213,6 +216,33 @@ three-none : {a b : Bool} {z : ℕ} (l : List (Bool × ℕ)) → a ≡ true → 
 unfolding refusal
 three-none l p q r h = rw (p, q, r) h
 
+-- the tiles' records begin with kind 3, or 4 where there is none
+kind-off : (xs : List ℕ) (k : ℕ) → kindIn xs ≡ k → eqb k 5 ≡ false → isLayout xs ≡ false
+unfolding isLayout
+kind-off xs k e h = rw (e, h) (and-off (leb 4 (length xs)))
+  where
+    and-off : (b : Bool) → (b && false) ≡ false
+    and-off true = refl
+    and-off false = refl
+
+tiles-kind : (t : ℕ) (l : List TileState) (ys : List ℕ) → All TileFits l → eqb (kindIn (tilesBytes t l ++ ys)) 5 ≡ false
+unfolding tilesBytes
+tiles-kind t [] ys h = ap (λ (k : ℕ). eqb k 5) (kind-in 4 [] ys (omega arith) (omega arith))
+tiles-kind t (x ∷ l) ys h =
+    ap (λ (b : List ℕ). eqb (kindIn b) 5) (append-assoc (recordOf 3 (tileBody t x)) (tilesBytes (suc t) l) ys)
+    ∙ ap (λ (k : ℕ). eqb k 5) (kind-in 3 (tileBody t x) (tilesBytes (suc t) l ++ ys) (omega (arith, tile-size t x, h .0 .few)) (omega arith))
+
+few-off : (xs : List ℕ) → length xs < 4 → isLayout xs ≡ false
+unfolding isLayout
+few-off xs h = rw (lt-leb 4 (length xs) h)
+
+cut-kind : (j t : ℕ) (l : List TileState) → All TileFits l → isLayout (take j (tilesBytes t l)) ≡ false
+cut-kind j t l h = go (decLe 4 j)
+  where
+    go : Dec (4 ≤ j) → isLayout (take j (tilesBytes t l)) ≡ false
+    go (yes p) = kind-off (take j (tilesBytes t l)) (kindIn (tilesBytes t l)) (kind-take j (tilesBytes t l) p) (ap (λ (b : List ℕ). eqb (kindIn b) 5) (sym (append-nil (tilesBytes t l))) ∙ tiles-kind t l [] h)
+    go (no p) = few-off (take j (tilesBytes t l)) (omega (arith, length-take j (tilesBytes t l)))
+
 -- ---- the whole: record 1 with any bytes after it, then record 2
 size-short : (m : Model) → length (settingsBody (m .settings)) ≤ 28
 size-short m = subst (λ (n : ℕ). n ≤ 28) (sym (settings-size (m .settings))) (go (several (m .settings)))
@@ -248,11 +278,11 @@ module _ (m : Model) (g : Fits m) (ys : List ℕ) where
   unfolding ownFaults
   fault-1 = rw (fault-in 1 (settingsBody (m .settings)) ys short-1 (omega arith)) own-1
 
-  fault-first : fault (recordOf 1 (settingsBody (m .settings)) ++ ys) ≡ orElse (recordFault 2 (hopperCount (m .settings)) ys) (tilesFault (total (m .settings)) 0 (restIn ys))
+  fault-first : fault (recordOf 1 (settingsBody (m .settings)) ++ ys) ≡ orElse (recordFault 2 (hopperCount (m .settings)) ys) (bothFault 8 (total (m .settings)) (restIn ys))
   unfolding fault
   fault-first = rw (fault-1, rest-1, long-1, inner-1, settings-read)
 
-  model-first : modelIn (recordOf 1 (settingsBody (m .settings)) ++ ys) ≡ record { settings = m .settings; counters = countersIn (hopperCount (m .settings)) (bodyIn ys); tiles = tilesIn (total (m .settings)) (restIn ys) }
+  model-first : modelIn (recordOf 1 (settingsBody (m .settings)) ++ ys) ≡ record { settings = m .settings; counters = countersIn (hopperCount (m .settings)) (bodyIn ys); tiles = tilesIn (total (m .settings)) (afterLayouts 8 (restIn ys)); layouts = layoutsIn 8 (restIn ys) }
   unfolding modelIn
   model-first = rw (rest-1, long-1, inner-1, settings-read)
 
@@ -272,25 +302,28 @@ module _ (m : Model) (g : Fits m) (ys : List ℕ) where
   counters-read : countersIn (hopperCount (m .settings)) ((countersBody (hopperCount (m .settings)) (m .counters)) ++ ys) ≡ m .counters
   counters-read = counters-back (hopperCount (m .settings)) (m .counters) ys (g .counters) (g .four) (g .spare)
 
--- ---- the whole: what is read where the tiles are due is ys
+-- ---- the whole: what is read where the layouts are due is ys
 module _ (m : Model) (g : Fits m) (ys : List ℕ) where
-  fault-second : fault (recordOf 1 (settingsBody (m .settings)) ++ (recordOf 2 (countersBody (hopperCount (m .settings)) (m .counters)) ++ ys)) ≡ tilesFault (total (m .settings)) 0 ys
+  fault-second : fault (recordOf 1 (settingsBody (m .settings)) ++ (recordOf 2 (countersBody (hopperCount (m .settings)) (m .counters)) ++ ys)) ≡ bothFault 8 (total (m .settings)) ys
   fault-second = fault-first m g (recordOf 2 (countersBody (hopperCount (m .settings)) (m .counters)) ++ ys) ∙ rw (fault-2 m g ys, rest-2 m g ys)
 
-  model-second : modelIn (recordOf 1 (settingsBody (m .settings)) ++ (recordOf 2 (countersBody (hopperCount (m .settings)) (m .counters)) ++ ys)) ≡ record { settings = m .settings; counters = m .counters; tiles = tilesIn (total (m .settings)) ys }
+  model-second : modelIn (recordOf 1 (settingsBody (m .settings)) ++ (recordOf 2 (countersBody (hopperCount (m .settings)) (m .counters)) ++ ys)) ≡ record { settings = m .settings; counters = m .counters; tiles = tilesIn (total (m .settings)) (afterLayouts 8 ys); layouts = layoutsIn 8 ys }
   model-second = model-first m g (recordOf 2 (countersBody (hopperCount (m .settings)) (m .counters)) ++ ys) ∙ rw (inner-2 m g ys, counters-read m g ys, rest-2 m g ys)
 
 module _ (m : Model) (g : Fits m) where
-  encode-append : (ys : List ℕ) → encode m ++ ys ≡ recordOf 1 (settingsBody (m .settings)) ++ (recordOf 2 (countersBody (hopperCount (m .settings)) (m .counters)) ++ (tilesBytes 0 (m .tiles) ++ ys))
+  encode-append : (ys : List ℕ) → encode m ++ ys ≡ recordOf 1 (settingsBody (m .settings)) ++ (recordOf 2 (countersBody (hopperCount (m .settings)) (m .counters)) ++ (layoutsBytes (m .layouts) ++ (tilesBytes 0 (m .tiles) ++ ys)))
   unfolding encode
   encode-append ys = simp append-assoc
 
   tiles-read : (ys : List ℕ) → (tilesFault (total (m .settings)) 0 (tilesBytes 0 (m .tiles) ++ ys) ≡ leftover ys) × (tilesIn (total (m .settings)) (tilesBytes 0 (m .tiles) ++ ys) ≡ m .tiles)
   tiles-read ys = rw (← g .many) (tiles-back 0 (m .tiles) ys (g .each) (omega (arith, g .few)))
 
+  layouts-read : (ys : List ℕ) → LaidBack 8 (m .layouts) (tilesBytes 0 (m .tiles) ++ ys)
+  layouts-read ys = laid-back 8 (m .layouts) (tilesBytes 0 (m .tiles) ++ ys) (g .laid) (g .eight) (kind-off (tilesBytes 0 (m .tiles) ++ ys) _ refl (tiles-kind 0 (m .tiles) ys (g .each)))
+
   -- bytes after the end are 9
   pub fault-append : (ys : List ℕ) → fault (encode m ++ ys) ≡ leftover ys
-  fault-append ys = rw (encode-append ys) (fault-second m g (tilesBytes 0 (m .tiles) ++ ys) ∙ tiles-read ys .0)
+  fault-append ys = rw (encode-append ys) (fault-second m g (layoutsBytes (m .layouts) ++ (tilesBytes 0 (m .tiles) ++ ys)) ∙ rw (layouts-read ys .faults, layouts-read ys .rest) (tiles-read ys .0))
 
   pub no-fault : fault (encode m) ≡ 0
   unfolding leftover
@@ -299,13 +332,16 @@ module _ (m : Model) (g : Fits m) where
   pub read-back : modelIn (encode m) ≡ m
   read-back =
       let e : tilesIn (total (m .settings)) (tilesBytes 0 (m .tiles) ++ []) ≡ m .tiles = tiles-read [] .1 in
-      ap modelIn (sym (append-nil (encode m)) ∙ encode-append []) ∙ model-second m g (tilesBytes 0 (m .tiles) ++ []) ∙ rw e
+      ap modelIn (sym (append-nil (encode m)) ∙ encode-append []) ∙ model-second m g (layoutsBytes (m .layouts) ++ (tilesBytes 0 (m .tiles) ++ [])) ∙ rw (layouts-read [] .rest, layouts-read [] .values, e)
 
   abbrev first : List ℕ
   first = settingsBody (m .settings)
 
   abbrev second : List ℕ
   second = countersBody (hopperCount (m .settings)) (m .counters)
+
+  abbrev later : List ℕ
+  later = layoutsBytes (m .layouts) ++ tilesBytes 0 (m .tiles)
 
   cut-first : (n : ℕ) (ys : List ℕ) → n < 4 + length first → fault (take n (recordOf 1 first ++ ys)) ≡ 9
   unfolding fault
@@ -319,22 +355,24 @@ module _ (m : Model) (g : Fits m) where
   unfolding encode
   fault-cut n h = go (decLe (4 + length first) n) (decLe (4 + length second) (n - (4 + length first)))
     where
-      go : Dec (4 + length first ≤ n) → Dec (4 + length second ≤ n - (4 + length first)) → fault (take n (recordOf 1 first ++ (recordOf 2 second ++ tilesBytes 0 (m .tiles)))) ≡ 9
-      go (no p) q = cut-first n (recordOf 2 second ++ tilesBytes 0 (m .tiles)) (omega arith)
+      tiles : (j : ℕ) → j < length (tilesBytes 0 (m .tiles)) → tilesFault (total (m .settings)) 0 (take j (tilesBytes 0 (m .tiles))) ≡ 9
+      tiles j k = rw (← g .many) (tiles-cut 0 j (m .tiles) (g .each) (omega (arith, g .few)) k)
+
+      go : Dec (4 + length first ≤ n) → Dec (4 + length second ≤ n - (4 + length first)) → fault (take n (recordOf 1 first ++ (recordOf 2 second ++ later))) ≡ 9
+      go (no p) q = cut-first n (recordOf 2 second ++ later) (omega arith)
       go (yes p) (no q) =
           rw (
-            cut-after 1 n first (recordOf 2 second ++ tilesBytes 0 (m .tiles)) p,
-            fault-first m g (take (n - (4 + length first)) (recordOf 2 second ++ tilesBytes 0 (m .tiles))),
-            cut-second (n - (4 + length first)) (tilesBytes 0 (m .tiles)) (omega arith),
+            cut-after 1 n first (recordOf 2 second ++ later) p,
+            fault-first m g (take (n - (4 + length first)) (recordOf 2 second ++ later)),
+            cut-second (n - (4 + length first)) (later) (omega arith),
           )
       go (yes p) (yes q) =
-          let e : length (recordOf 1 first ++ (recordOf 2 second ++ tilesBytes 0 (m .tiles))) ≡ 4 + length first + (4 + length second + length (tilesBytes 0 (m .tiles))) =
+          let e : length (recordOf 1 first ++ (recordOf 2 second ++ later)) ≡ 4 + length first + (4 + length second + length (later)) =
           rw (length-append, record-length 1 first, length-append, record-length 2 second) in
-          let k : n - (4 + length first) - (4 + length second) < length (tilesBytes 0 (m .tiles)) = omega arith in
+          let k : n - (4 + length first) - (4 + length second) < length (later) = omega arith in
           rw (
-            cut-after 1 n first (recordOf 2 second ++ tilesBytes 0 (m .tiles)) p,
-            cut-after 2 (n - (4 + length first)) second (tilesBytes 0 (m .tiles)) q,
-            fault-second m g (take (n - (4 + length first) - (4 + length second)) (tilesBytes 0 (m .tiles))),
-            ← g .many,
+            cut-after 1 n first (recordOf 2 second ++ later) p,
+            cut-after 2 (n - (4 + length first)) second (later) q,
+            fault-second m g (take (n - (4 + length first) - (4 + length second)) (later)),
           )
-          (tiles-cut 0 (n - (4 + length first) - (4 + length second)) (m .tiles) (g .each) (omega (arith, g .few)) k)
+          (laid-cut (total (m .settings)) (tilesBytes 0 (m .tiles)) (λ j. cut-kind j 0 (m .tiles) (g .each)) tiles 8 (n - (4 + length first) - (4 + length second)) (m .layouts) (g .eight) k)

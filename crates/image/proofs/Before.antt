@@ -1,6 +1,6 @@
--- "With one hopper, images keep their bytes": the image of document 01, what is written now, and what is read of it.
-use mathlib.Core.Path.{_≡_, subst}
-use mathlib.Core.Bool.{true}
+-- Images of before: document 01's, as "With one hopper, images keep their bytes", and those without records of kind 5, as "Older images read as having no layouts."
+use mathlib.Core.Path.{_≡_, subst, _∙_}
+use mathlib.Core.Bool.{true, false}
 use mathlib.Core.List.{List, [], _∷_, _++_}
 use Prim.Native.Nat.{ℕ}
 use lib.ListN.{length, getD}
@@ -9,15 +9,44 @@ use Rattle.wire.specs.Bytes.{bytesOf}
 use Rattle.floor.specs.declared.Settings.{Settings}
 use Rattle.floor.specs.declared.Counters.{Counters}
 use Rattle.floor.specs.declared.Floor.{Floor}
+use Rattle.floor.specs.Settings.{total}
 use Rattle.floor.specs.Model.{Model}
 use Rattle.floor.specs.Memory.{view}
 use Rattle.floor.specs.Well.{wellFormed}
 use Rattle.floor.proofs.Sound.{Measured}
 use Rattle.floor.proofs.Pack.{well-sound}
-use Rattle.image.specs.Image.{oneTile, hopperCount, recordOf, settingsBody, countersBody, tilesBytes, encode, loadAnswer}
+use Rattle.image.specs.Image.{oneTile, hopperCount, recordOf, settingsBody, countersBody, layoutsBytes, tilesBytes, encode, lengthIn, bodyIn, restIn, settingsIn, tilesIn, isLayout, layoutsIn, afterLayouts, modelIn, recordFault, orElse, tilesFault, laidFault, fault, loadAnswer}
 use Rattle.image.proofs.Hoppers.{byte-again, not-several, one-counted}
 use Rattle.image.proofs.Promises.{written-loads}
 
+-- ---- without layouts
+unfoldable pub imageWithout : Model → List ℕ
+imageWithout m = recordOf 1 (settingsBody (m .settings)) ++ (recordOf 2 (countersBody (hopperCount (m .settings)) (m .counters)) ++ tilesBytes 0 (m .tiles))
+
+pub same-without : (m : Model) → m .layouts ≡ [] → encode m ≡ imageWithout m
+unfolding encode imageWithout layoutsBytes
+same-without m e = rw e
+
+pub image-without : (f : Floor) → wellFormed f ≡ true → view f .layouts ≡ []
+    → (encode (view f) ≡ imageWithout (view f)) × (loadAnswer (imageWithout (view f)) ≡ record { refusal = 0; floor = f })
+image-without f w none =
+    let e = same-without (view f) none in
+    (e, subst (λ (xs : List ℕ). loadAnswer xs ≡ record { refusal = 0; floor = f }) e (written-loads f w))
+
+-- any bytes without such a record: what refuses them is as before, and what is read has no layouts
+unfoldable pub faultWithout : List ℕ → ℕ
+faultWithout xs =
+    let s = settingsIn (lengthIn xs) (bodyIn xs) in
+    orElse (recordFault 1 0 xs)
+    (orElse (recordFault 2 (hopperCount s) (restIn xs))
+    (tilesFault (total s) 0 (restIn (restIn xs))))
+
+pub read-without : (xs : List ℕ) → isLayout (restIn (restIn xs)) ≡ false
+    → (fault xs ≡ faultWithout xs) × ((modelIn xs .tiles ≡ tilesIn (total (modelIn xs .settings)) (restIn (restIn xs))) × (modelIn xs .layouts ≡ []))
+unfolding fault faultWithout modelIn laidFault afterLayouts layoutsIn
+read-without xs e = (rw e, (rw e, rw e))
+
+-- ---- with one hopper
 -- "Kind 1, 20 bytes: W, H, hopper, a zero byte; U, l, r, v (2 each); fill set (8)."
 abbrev pub settingsBefore : ℕ → Settings → List ℕ
 settingsBefore h s = bytesOf (1 ∷ 1 ∷ 1 ∷ 1 ∷ 2 ∷ 2 ∷ 2 ∷ 2 ∷ 8 ∷ []) (s .columns ∷ s .rows ∷ h ∷ 0 ∷ s .width ∷ s .length ∷ s .gap ∷ s .travel ∷ s .sources ∷ [])
@@ -29,7 +58,7 @@ countersBefore c = bytesOf (4 ∷ 4 ∷ 4 ∷ []) (c .last ∷ c .booked ∷ get
 abbrev pub imageBefore : ℕ → Model → List ℕ
 imageBefore h m = recordOf 1 (settingsBefore h (m .settings)) ++ (recordOf 2 (countersBefore (m .counters)) ++ tilesBytes 0 (m .tiles))
 
-module _ (m : Model) (M : Measured (m .settings)) (h : ℕ) (one : m .settings .hoppers ≡ oneTile h) where
+module _ (m : Model) (M : Measured (m .settings)) (h : ℕ) (one : m .settings .hoppers ≡ oneTile h) (none : m .layouts ≡ []) where
   first : settingsBody (m .settings) ≡ settingsBefore h (m .settings)
   unfolding settingsBody
   first = rw (not-several (m .settings) h one M, byte-again (m .settings) h one M)
@@ -39,12 +68,12 @@ module _ (m : Model) (M : Measured (m .settings)) (h : ℕ) (one : m .settings .
   second = rw (one-counted (m .settings) h one M)
 
   pub same-bytes : encode m ≡ imageBefore h m
-  unfolding encode
-  same-bytes = rw (first, second)
+  unfolding imageWithout
+  same-bytes = same-without m none ∙ rw (first, second)
 
--- the one hopper h: the bytes are those of document 01, and loading them gives the same floor
-pub image-before : (f : Floor) → wellFormed f ≡ true → (h : ℕ) → view f .settings .hoppers ≡ oneTile h
+-- the one hopper h, and no layouts: the bytes are those of document 01, and loading them gives the same floor
+pub image-before : (f : Floor) → wellFormed f ≡ true → (h : ℕ) → view f .settings .hoppers ≡ oneTile h → view f .layouts ≡ []
     → (encode (view f) ≡ imageBefore h (view f)) × (loadAnswer (imageBefore h (view f)) ≡ record { refusal = 0; floor = f })
-image-before f w h one =
-    let e = same-bytes (view f) (well-sound f w .measured) h one in
+image-before f w h one none =
+    let e = same-bytes (view f) (well-sound f w .measured) h one none in
     (e, subst (λ (xs : List ℕ). loadAnswer xs ≡ record { refusal = 0; floor = f }) e (written-loads f w))

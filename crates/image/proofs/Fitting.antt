@@ -7,21 +7,26 @@ use Prim.Native.Nat.{ℕ, zero, suc, _^_, _≤_, _<_}
 use native.Mathlib.Omega.{arith}
 use native.Mathlib.Nat.{lt-of-lt-of-le}
 use lib.Pow.{pow-mono}
+use lib.Dec.{ltb}
 use lib.ListN.{length, getD, replicate}
-use borrow.Author.Tests.{eqb-true}
+use borrow.Author.Tests.{eqb-true, ltb-true}
 use Rattle.laws.specs.Define.{tab}
 use Rattle.laws.specs.Every.{All}
+use Rattle.laws.specs.Tests.{and-left, and-right}
 use Rattle.laws.specs.Lists.{all-imp, all-both, all-unmap, cat-all}
 use Rattle.wire.specs.Bytes.{Fit}
 use Rattle.floor.specs.Settings.{total, isHopper, settingsPass, settingsRefusal}
+use Rattle.floor.specs.Layouts.{nameOk, layoutOk}
 use Rattle.floor.specs.Model.{Model, noTile, tileOf, membersOf, numbers, numbersOn}
 use Rattle.floor.proofs.Sound.{Sound, Inside}
 use Rattle.floor.proofs.Well.{settings-fact, faces-le}
 use Rattle.floor.proofs.First.{part-le}
 use Rattle.floor.proofs.Capacity.{sound-small}
+use Rattle.floor.proofs.Laying.{laid-of}
 use Rattle.image.specs.Image.{hopperCount, several, settingsWidths, settingsValues, countersWidths, countersValues, canisterWidths, canisterValues, encode}
 use Rattle.image.proofs.Hoppers.{single, lowest-small}
 use Rattle.image.proofs.Sizes.{encode-most}
+use Rattle.image.proofs.Layouts.{LayoutFits}
 use Rattle.image.proofs.Back.{TileFits, Fits}
 
 -- what holds at every place of a list holds of all its elements
@@ -101,6 +106,16 @@ module _ (m : Model) (S : Sound m) where
       count : length (membersOf m t) < 256
       count = omega (arith, sound-small m S t)
 
+  layouts-fit : All LayoutFits (m .layouts)
+  unfolding layoutOk nameOk
+  layouts-fit =
+      all-imp (λ x. layoutOk (m .settings) x ≡ true) LayoutFits (m .layouts)
+      (λ x h. let k = and-right (nameOk (x .name)) _ h in
+      let n = ltb-true (x .name) (2 ^ 64) (and-left (ltb (x .name) (2 ^ 64)) _ (and-right (ltb 0 (x .name)) _ (and-left (nameOk (x .name)) _ h))) in
+      let s = ltb-true (x .set) (2 ^ total (m .settings)) (and-left (ltb (x .set) (2 ^ total (m .settings))) _ k) in
+      record { name = n; set = lt-of-lt-of-le s (pow-mono (S .measured .few)) })
+      (laid-of (m .settings) (m .layouts) (S .laid-out) .each)
+
   passed : settingsRefusal (m .settings) ≡ 0
   unfolding settingsPass
   passed = eqb-true (settingsRefusal (m .settings)) 0 (settings-fact (m .settings) .1 (S .measured))
@@ -117,10 +132,12 @@ module _ (m : Model) (S : Sound m) where
     single = single (m .settings) (S .measured);
     four = S .four;
     spare = S .spare;
+    laid = layouts-fit;
+    eight = laid-of (m .settings) (m .layouts) (S .laid-out) .eight;
   }
 
-  -- "The longest image is 8,748 bytes."
-  pub sound-most : length (encode m) ≤ 8748
+  -- "The longest image is 8,908 bytes."
+  pub sound-most : length (encode m) ≤ 8908
   unfolding isHopper
   sound-most =
-      encode-most m (omega (arith, S .len, S .measured .few)) (S .len) (S .measured .hoppers-some) (sound-small m S) (S .hopper-empty)
+      encode-most m (laid-of (m .settings) (m .layouts) (S .laid-out) .eight) (omega (arith, S .len, S .measured .few)) (S .len) (S .measured .hoppers-some) (sound-small m S) (S .hopper-empty)

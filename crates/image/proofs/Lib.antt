@@ -1,6 +1,7 @@
 pub mod Hoppers
 pub mod Records
 pub mod Sizes
+pub mod Layouts
 pub mod Again
 pub mod Back
 pub mod Fitting
@@ -8,3 +9,4 @@ pub mod Read
 pub mod Promises
 pub mod Before
 pub mod Trials
+pub mod LayoutTrials

@@ -1,7 +1,7 @@
 -- What is promised of images: loading what was written, writing what was loaded, the longest image, and bytes missing or left over.
-use mathlib.Core.Path.{_≡_, refl, sym, ap, _∙_}
-use mathlib.Core.Logic.{_≢_}
-use mathlib.Core.Bool.{Bool, true, false, not, _&&_}
+use mathlib.Core.Path.{_≡_, sym, ap, _∙_}
+use mathlib.Core.Logic.{_⊎_, inl, inr, _≢_}
+use mathlib.Core.Bool.{Bool, true, false, cond, not, _&&_}
 use mathlib.Core.List.{List, [], _∷_, _++_}
 use Prim.Native.Nat.{ℕ, _+_, _≤_, _<_}
 use native.Mathlib.Omega.{arith}
@@ -11,7 +11,7 @@ use borrow.Author.Tests.{eqb-true, eq-eqb, ne-eqb, le-ltb, lt-ltb, not-true, not
 use lib.ListN.{length, take, drop}
 use lib.Seq.{take-append-seam}
 use Rattle.laws.specs.Define.{refusal}
-use Rattle.laws.specs.Tests.{and-left, and-right, test-none}
+use Rattle.laws.specs.Tests.{by-test, not-both, and-left, and-right, test-none}
 use Rattle.wire.specs.Bytes.{Bytes}
 use Rattle.wire.specs.Put.{put}
 use Rattle.floor.specs.declared.Floor.{Floor}
@@ -23,12 +23,12 @@ use Rattle.floor.proofs.Well.{sound-fact}
 use Rattle.floor.proofs.Pack.{well-sound}
 use Rattle.floor.proofs.Capacity.{well-pack}
 use Rattle.floor.proofs.First.{pack-view-well}
-use Rattle.image.specs.Image.{encode, modelIn, fault, answerBy, recordsAnswer, loadRefusal, loadAnswer, writeRefusal, writeAnswer, written}
+use Rattle.image.specs.Image.{encode, modelIn, fault, answerBy, named, recordsRefusal, recordsAnswer, loadRefusal, loadAnswer, writeRefusal, writeAnswer, written}
 use Rattle.image.proofs.Records.{orElse-none, not-off}
 use Rattle.image.proofs.Again.{written-again}
 use Rattle.image.proofs.Back.{Fits, leftover, fault-append, no-fault, read-back, fault-cut}
 use Rattle.image.proofs.Fitting.{sound-fits, sound-most}
-use Rattle.image.proofs.Read.{view-read, well-read}
+use Rattle.image.proofs.Read.{view-read, well-read, sound-names}
 
 -- ---- the number that loading answers
 pub load-none : (xs : List ℕ) → loadRefusal xs ≡ 0 → (fault xs ≡ 0) × (sound (modelIn xs) ≡ true)
@@ -71,8 +71,8 @@ module _ (f : Floor) (w : wellFormed f ≡ true) where
       let p : pack (modelIn (encode (view f))) ≡ f = rw b (pack-view-well f w) in
       load-floor (encode (view f)) (load-sound (encode (view f)) (no-fault (view f) fits-here) s) ∙ rw p
 
-  -- "The longest image is 8,748 bytes."
-  pub image-most : length (encode (view f)) ≤ 8748
+  -- "The longest image is 8,908 bytes."
+  pub image-most : length (encode (view f)) ≤ 8908
   image-most = sound-most (view f) (well-sound f w)
 
   -- every proper prefix of its image is refused by 9
@@ -101,7 +101,7 @@ module _ (xs : List ℕ) (a : loadAnswer xs .refusal ≡ 0) where
   pub loaded-writes : Bytes xs → encode (view (loadAnswer xs .floor)) ≡ xs
   loaded-writes b =
       let z = load-none xs accepted .0 in
-      rw (loaded, view-read xs z) (written-again xs b z)
+      rw (loaded, view-read xs z (sound-names (modelIn xs) (load-none xs accepted .1))) (written-again xs b z)
 
   pub loaded-written : Bytes xs → (buffer : List ℕ) → length xs ≤ length buffer
       → (writeAnswer (loadAnswer xs .floor) (length buffer) ≡ record { refusal = 0; length = length xs }) × (written (loadAnswer xs .floor) buffer ≡ xs ++ drop (length xs) buffer)
@@ -112,21 +112,40 @@ module _ (xs : List ℕ) (a : loadAnswer xs .refusal ≡ 0) where
       none = write-none (loadAnswer xs .floor) (length buffer) loaded-well (rw (loaded-writes b) h)
 
 -- ---- loading, in the order of the code: the records first, then 12 of the floor in memory
+records-none : (xs : List ℕ) → recordsRefusal xs ≡ 0 → (fault xs ≡ 0) × (named (modelIn xs) ≡ true)
+unfolding recordsRefusal
+records-none xs h =
+    let o = orElse-none (fault xs) _ h in
+    (o .0, not-off (named (modelIn xs)) (test-none (not (named (modelIn xs))) 12 [] (omega arith) (o .1) .0))
+
+records-load : (xs : List ℕ) → recordsRefusal xs ≢ 0 → recordsRefusal xs ≡ loadRefusal xs
+unfolding recordsRefusal loadRefusal refusal
+records-load xs n = go (by-test (named (modelIn xs))) (by-test (sound (modelIn xs))) (by-test (eqb (fault xs) 0))
+  where
+    go : (named (modelIn xs) ≡ true) ⊎ (named (modelIn xs) ≡ false) → (sound (modelIn xs) ≡ true) ⊎ (sound (modelIn xs) ≡ false) → (eqb (fault xs) 0 ≡ true) ⊎ (eqb (fault xs) 0 ≡ false)
+        → cond (eqb (fault xs) 0) (cond (not (named (modelIn xs))) 12 0) (fault xs) ≡ cond (eqb (fault xs) 0) (cond (not (sound (modelIn xs))) 12 0) (fault xs)
+    go a b (inr e) = rw e
+    go (inl a) b (inl e) = absurd (n (rw (e, a)))
+    go (inr a) (inr b) (inl e) = rw (a, b)
+    go (inr a) (inl b) (inl e) = not-both (sound-names (modelIn xs) b) a
+
 load-refuses : (xs : List ℕ) → recordsAnswer xs .refusal ≢ 0 → recordsAnswer xs ≡ loadAnswer xs
 unfolding recordsAnswer loadAnswer answerBy
-load-refuses xs n = rw (load-fault xs (fault xs) refl n)
+load-refuses xs n = ap (λ (k : ℕ). answerBy k (modelIn xs)) (records-load xs n)
 
 load-accepts : (xs : List ℕ) → recordsAnswer xs .refusal ≡ 0 → wellFormed (recordsAnswer xs .floor) ≡ true → recordsAnswer xs ≡ loadAnswer xs
 unfolding recordsAnswer loadAnswer loadRefusal answerBy refusal
 load-accepts xs z w =
     let e : wellFormed (pack (modelIn xs)) ≡ true = rw z at w in
-    rw (z, ← well-read xs z, e)
+    let r = records-none xs z in
+    rw (z, r .0, ← well-read xs (r .0) (r .1), e)
 
 load-malformed : (xs : List ℕ) → recordsAnswer xs .refusal ≡ 0 → wellFormed (recordsAnswer xs .floor) ≡ false → record { refusal = 12; floor = zeroFloor } ≡ loadAnswer xs
 unfolding recordsAnswer loadAnswer loadRefusal answerBy refusal
 load-malformed xs z w =
     let e : wellFormed (pack (modelIn xs)) ≡ false = rw z at w in
-    rw (z, ← well-read xs z, e)
+    let r = records-none xs z in
+    rw (r .0, ← well-read xs (r .0) (r .1), e)
 
 -- as the code asks: r is what the records give, b whether its floor is well formed
 pub load-12 : (xs : List ℕ) (r : Answer) (b : Bool) → r ≡ recordsAnswer xs → b ≡ wellFormed (r .floor) → (eqb (r .refusal) 0 && not b) ≡ true → record { refusal = 12; floor = zeroFloor } ≡ loadAnswer xs

@@ -1,20 +1,27 @@
 -- What holds of the floor that is read from an image without a fault, before 12 is asked.
 use mathlib.Core.Path.{_≡_, refl, ap}
+use mathlib.Core.Logic.{_≢_}
 use mathlib.Core.Bool.{true}
 use mathlib.Core.List.{List}
 use Prim.Native.Nat.{ℕ, zero, suc, _≤_}
 use native.Mathlib.Omega.{arith}
+use lib.Dec.{ltb}
 use lib.ListN.{length, drop, getD}
-use Rattle.laws.specs.Tests.{and-yes}
+use borrow.Author.Tests.{ltb-true, lt-ltb}
+use Rattle.laws.specs.Lists.{all-imp, all-true, true-all}
+use Rattle.laws.specs.Tests.{and-yes, and-right}
 use Rattle.wire.specs.Bytes.{field}
 use Rattle.floor.specs.Settings.{total}
-use Rattle.floor.specs.Model.{noTile, membersOf}
+use Rattle.floor.specs.Layouts.{layoutsSound}
+use Rattle.floor.specs.Model.{Model, noTile, membersOf}
 use Rattle.floor.specs.Memory.{view, pack, fits}
-use Rattle.floor.specs.Well.{sound, wellFormed}
+use Rattle.floor.specs.Well.{stateSound, sound, wellFormed}
 use Rattle.floor.proofs.Sound.{Measured}
+use Rattle.floor.proofs.Rows.{Placed, sound-named}
 use Rattle.floor.proofs.Pack.{view-pack, fits-pack}
-use Rattle.image.specs.Image.{hopperCount, tileWidths, lengthIn, bodyIn, restIn, settingsIn, tileIn, tilesIn, modelIn, recordFault, tilesFault, fault}
+use Rattle.image.specs.Image.{hopperCount, tileWidths, lengthIn, bodyIn, restIn, settingsIn, tileIn, tilesIn, afterLayouts, modelIn, recordFault, tilesFault, laidFault, fault, named}
 use Rattle.image.proofs.Records.{orElse-none, whole}
+use Rattle.image.proofs.Layouts.{laid-few}
 use Rattle.image.proofs.Again.{canisters-length, tile-good, settings-good}
 
 -- ---- the settings pass 1 to 3
@@ -41,13 +48,16 @@ tiles-small (suc n) t xs h (suc k) = tiles-small n (suc t) (restIn xs) (orElse-n
 
 -- ---- the whole
 module _ (xs : List ℕ) (z : fault xs ≡ 0) where
-  parts : (recordFault 1 0 xs ≡ 0) × ((recordFault 2 (hopperCount (settingsIn (lengthIn xs) (bodyIn xs))) (restIn xs) ≡ 0) × (tilesFault (total (settingsIn (lengthIn xs) (bodyIn xs))) 0 (restIn (restIn xs)) ≡ 0))
+  parts : (recordFault 1 0 xs ≡ 0) × ((recordFault 2 (hopperCount (settingsIn (lengthIn xs) (bodyIn xs))) (restIn xs) ≡ 0) × ((laidFault 8 (restIn (restIn xs)) ≡ 0) × (tilesFault (total (settingsIn (lengthIn xs) (bodyIn xs))) 0 (afterLayouts 8 (restIn (restIn xs))) ≡ 0)))
   unfolding fault
-  parts = let o = orElse-none (recordFault 1 0 xs) _ z in (o .0, orElse-none (recordFault 2 (hopperCount (settingsIn (lengthIn xs) (bodyIn xs))) (restIn xs)) _ (o .1))
+  parts =
+      let o = orElse-none (recordFault 1 0 xs) _ z in
+      let p = orElse-none (recordFault 2 (hopperCount (settingsIn (lengthIn xs) (bodyIn xs))) (restIn xs)) _ (o .1) in
+      (o .0, (p .0, orElse-none (laidFault 8 (restIn (restIn xs))) _ (p .1)))
 
   read-length : length (modelIn xs .tiles) ≡ total (modelIn xs .settings)
   unfolding modelIn
-  read-length = tiles-length (total (settingsIn (lengthIn xs) (bodyIn xs))) (restIn (restIn xs))
+  read-length = tiles-length (total (settingsIn (lengthIn xs) (bodyIn xs))) (afterLayouts 8 (restIn (restIn xs)))
 
   read-few : total (modelIn xs .settings) ≤ 64
   unfolding modelIn
@@ -55,14 +65,28 @@ module _ (xs : List ℕ) (z : fault xs ≡ 0) where
 
   read-small : (t : ℕ) → length (membersOf (modelIn xs) t) ≤ 16
   unfolding modelIn
-  read-small t = tiles-small (total (settingsIn (lengthIn xs) (bodyIn xs))) 0 (restIn (restIn xs)) (parts .1 .1) t
+  read-small t = tiles-small (total (settingsIn (lengthIn xs) (bodyIn xs))) 0 (afterLayouts 8 (restIn (restIn xs))) (parts .1 .1 .1) t
 
-  pub view-read : view (pack (modelIn xs)) ≡ modelIn xs
-  view-read = view-pack (modelIn xs) read-length read-few (λ t _. read-small t)
+  read-eight : length (modelIn xs .layouts) ≤ 8
+  unfolding modelIn
+  read-eight = laid-few 8 (restIn (restIn xs))
 
-  -- in memory it is well formed where it is sound; so the code may ask for either
-  pub well-read : wellFormed (pack (modelIn xs)) ≡ sound (modelIn xs)
-  unfolding wellFormed
-  well-read =
-      let e : fits (pack (modelIn xs)) ≡ true = fits-pack (modelIn xs) read-length read-few (λ t _. read-small t) in
-      rw (view-read, e) (and-yes (sound (modelIn xs)))
+  module _ (n : named (modelIn xs) ≡ true) where
+    placed : Placed (modelIn xs .layouts)
+    unfolding named
+    placed = (all-imp (λ x. ltb 0 (x .name) ≡ true) (λ x. x .name ≢ 0) (modelIn xs .layouts) (λ x h e. omega (arith, ltb-true 0 (x .name) h)) (all-true (λ x. ltb 0 (x .name)) (modelIn xs .layouts) n), read-eight)
+
+    pub view-read : view (pack (modelIn xs)) ≡ modelIn xs
+    view-read = view-pack (modelIn xs) read-length read-few (λ t _. read-small t) placed
+
+    -- in memory it is well formed where it is sound; so the code may ask for either
+    pub well-read : wellFormed (pack (modelIn xs)) ≡ sound (modelIn xs)
+    unfolding wellFormed
+    well-read =
+        let e : fits (pack (modelIn xs)) ≡ true = fits-pack (modelIn xs) read-length read-few (λ t _. read-small t) placed in
+        rw (view-read, e) (and-yes (sound (modelIn xs)))
+
+-- layouts that are sound have names
+pub sound-names : (m : Model) → sound m ≡ true → named m ≡ true
+unfolding sound named
+sound-names m h = true-all (λ x. ltb 0 (x .name)) (m .layouts) (all-imp (λ x. x .name ≢ 0) (λ x. ltb 0 (x .name) ≡ true) (m .layouts) (λ x n. lt-ltb 0 (x .name) (omega arith)) (sound-named (m .settings) (m .layouts) (and-right (stateSound m) (layoutsSound (m .settings) (m .layouts)) h) .0))

@@ -40,7 +40,7 @@ module _ (k : ℕ) (b ys : List ℕ) (short : length b < 65536) where
   unfolding recordOf
   length-in = rw (append-assoc (bytes 2 (length b)) (bytes 2 k ++ b) ys) (le-bytes 2 (length b) _ short)
 
-  kind-in : k < 65536 → kindIn (recordOf k b ++ ys) ≡ k
+  pub kind-in : k < 65536 → kindIn (recordOf k b ++ ys) ≡ k
   unfolding recordOf
   kind-in h =
       rw (append-assoc (bytes 2 (length b)) (bytes 2 k ++ b) ys, drop-at (bytes 2 (length b)) ((bytes 2 k ++ b) ++ ys) 2 (bytes-length 2 (length b)), append-assoc (bytes 2 k) b ys)
@@ -101,10 +101,18 @@ le-take zero (suc k) xs h = absurd (omega arith)
 le-take (suc n) (suc k) [] h = refl
 le-take (suc n) (suc k) (x ∷ xs) h = rw (le-take n k xs (omega arith))
 
--- fewer bytes than the record has: 9
-pub cut-off : (k t n : ℕ) (b ys : List ℕ) → length b < 65536 → n < 4 + length b → recordFault k t (take n (recordOf k b ++ ys)) ≡ 9
+pub kind-take : (n : ℕ) (xs : List ℕ) → 4 ≤ n → kindIn (take n xs) ≡ kindIn xs
+unfolding le
+kind-take zero xs h = absurd (omega arith)
+kind-take (suc zero) xs h = absurd (omega arith)
+kind-take (suc (suc n)) [] h = refl
+kind-take (suc (suc n)) (x ∷ []) h = refl
+kind-take (suc (suc n)) (x ∷ y ∷ xs) h = le-take n 2 xs (omega arith)
+
+-- fewer bytes than the record has: 9, whatever kind is due
+pub cut-short : (due k t n : ℕ) (b ys : List ℕ) → length b < 65536 → n < 4 + length b → recordFault due t (take n (recordOf k b ++ ys)) ≡ 9
 unfolding recordFault refusal
-cut-off k t n b ys short h =
+cut-short due k t n b ys short h =
     let xs : List ℕ = recordOf k b ++ ys in
     let l : 4 + length b ≤ length xs = rw (length-append, record-length k b) (omega arith) in
     let m : length (take n xs) ≡ n = length-take-le n xs (omega arith) in
@@ -115,6 +123,9 @@ cut-off k t n b ys short h =
         let e : lengthIn (take n (recordOf k b ++ ys)) ≡ length b = le-take n 2 (recordOf k b ++ ys) p ∙ length-in k b ys short in
         omega arith
     go m (no p) = omega arith
+
+pub cut-off : (k t n : ℕ) (b ys : List ℕ) → length b < 65536 → n < 4 + length b → recordFault k t (take n (recordOf k b ++ ys)) ≡ 9
+cut-off k t n b ys short h = cut-short k k t n b ys short h
 
 -- as many or more: the record, and what is left of the rest
 pub cut-after : (k n : ℕ) (b ys : List ℕ) → 4 + length b ≤ n → take n (recordOf k b ++ ys) ≡ recordOf k b ++ take (n - (4 + length b)) ys

@@ -9,13 +9,15 @@ use borrow.Author.Tests.{ltb-true, ltb-false}
 use lib.ListN.{length, getD, replicate, length-append, length-replicate}
 use Rattle.laws.specs.Define.{tab, sum, bit, bitsBelow}
 use Rattle.laws.specs.Tables.{tab-length}
-use Rattle.wire.specs.Bytes.{bytesOf, width, row-length}
+use Rattle.wire.specs.Bytes.{bytes, bytesOf, width, row-length}
 use Rattle.floor.specs.declared.Canister.{Canister}
 use Rattle.floor.specs.declared.Settings.{Settings}
 use Rattle.floor.specs.declared.Counters.{Counters}
+use Rattle.floor.specs.declared.Layout.{Layout}
 use Rattle.floor.specs.Settings.{total, hoppersOf}
+use Rattle.floor.specs.Layouts.{letters}
 use Rattle.floor.specs.Model.{TileState, Model, noTile}
-use Rattle.image.specs.Image.{settingsWidths, lowest, hopperCount, several, countersWidths, countersValues, tileWidths, tileValues, canisterWidths, canisterValues, settingsBody, countersBody, canistersBody, tileBody, tilesBytes, encode}
+use Rattle.image.specs.Image.{settingsWidths, lowest, hopperCount, several, countersWidths, countersValues, tileWidths, tileValues, canisterWidths, canisterValues, settingsBody, countersBody, canistersBody, tileBody, layoutBody, layoutsBytes, tilesBytes, encode}
 use Rattle.image.proofs.Records.{record-length}
 
 pub settings-size : (s : Settings) → length (settingsBody s) ≡ cond (several s) 28 20
@@ -60,11 +62,20 @@ unfolding tilesBytes sum tileSize
 tiles-size t [] = record-length 4 []
 tiles-size t (x ∷ l) = rw (length-append, record-length 3 (tileBody t x), tile-size t x, tiles-size (suc t) l) (omega arith)
 
-pub encode-size : (m : Model) → length (encode m) ≡ 20 + cond (several (m .settings)) 28 20 + 4 * hopperCount (m .settings) + sum (map tileSize (m .tiles))
+pub layout-size : (x : Layout) → length (layoutBody x) ≡ 16
+unfolding layoutBody letters bytes
+layout-size x = refl
+
+pub layouts-size : (l : List Layout) → length (layoutsBytes l) ≡ 20 * length l
+unfolding layoutsBytes
+layouts-size [] = refl
+layouts-size (x ∷ l) = rw (length-append, record-length 5 (layoutBody x), layout-size x, layouts-size l) (omega arith)
+
+pub encode-size : (m : Model) → length (encode m) ≡ 20 + cond (several (m .settings)) 28 20 + 4 * hopperCount (m .settings) + 20 * length (m .layouts) + sum (map tileSize (m .tiles))
 unfolding encode
 encode-size m =
     let h = hopperCount (m .settings) in
-    rw (length-append, record-length 1 (settingsBody (m .settings)), settings-size (m .settings), length-append, record-length 2 (countersBody h (m .counters)), counters-size h (m .counters), tiles-size 0 (m .tiles))
+    rw (length-append, record-length 1 (settingsBody (m .settings)), settings-size (m .settings), length-append, record-length 2 (countersBody h (m .counters)), counters-size h (m .counters), length-append, layouts-size (m .layouts), tiles-size 0 (m .tiles))
     (omega arith)
 
 -- ---- at most 16 canisters on each tile, none on those of a set
@@ -98,11 +109,11 @@ bare-most f x (suc n) a b =
     here true e = omega (arith, b n (omega arith) e)
     here false e = omega (arith, a n (omega arith))
 
--- "The longest image is 8,748 bytes."
-pub encode-most : (m : Model) → length (m .tiles) ≤ 64 → length (m .tiles) ≡ total (m .settings) → 1 ≤ hopperCount (m .settings) → ((k : ℕ) → length (getD (m .tiles) k noTile .members) ≤ 16)
-    → ((k : ℕ) → bit (m .settings .hoppers) k ≡ true → getD (m .tiles) k noTile .members ≡ []) → length (encode m) ≤ 8748
+-- "The longest image is 8,908 bytes."
+pub encode-most : (m : Model) → length (m .layouts) ≤ 8 → length (m .tiles) ≤ 64 → length (m .tiles) ≡ total (m .settings) → 1 ≤ hopperCount (m .settings) → ((k : ℕ) → length (getD (m .tiles) k noTile .members) ≤ 16)
+    → ((k : ℕ) → bit (m .settings .hoppers) k ≡ true → getD (m .tiles) k noTile .members ≡ []) → length (encode m) ≤ 8908
 unfolding several hoppersOf tileSize
-encode-most m few all some most bare =
+encode-most m laid few all some most bare =
     let x = m .settings .hoppers in
     let f : ℕ → ℕ = λ k. tileSize (getD (m .tiles) k noTile) in
     let b : sum (tab (length (m .tiles)) f) + 128 * length (bitsBelow x (length (m .tiles))) ≤ 138 * length (m .tiles)
@@ -111,9 +122,9 @@ encode-most m few all some most bare =
     go (ltb 1 (length (bitsBelow x (total (m .settings))))) refl (encode-size m) b e
   where
     go : (c : Bool) → ltb 1 (length (bitsBelow (m .settings .hoppers) (total (m .settings)))) ≡ c
-        → length (encode m) ≡ 20 + cond c 28 20 + 4 * length (bitsBelow (m .settings .hoppers) (total (m .settings))) + sum (map tileSize (m .tiles))
+        → length (encode m) ≡ 20 + cond c 28 20 + 4 * length (bitsBelow (m .settings .hoppers) (total (m .settings))) + 20 * length (m .layouts) + sum (map tileSize (m .tiles))
         → sum (tab (length (m .tiles)) (λ k. tileSize (getD (m .tiles) k noTile))) + 128 * length (bitsBelow (m .settings .hoppers) (length (m .tiles))) ≤ 138 * length (m .tiles)
         → length (bitsBelow (m .settings .hoppers) (length (m .tiles))) ≡ length (bitsBelow (m .settings .hoppers) (total (m .settings)))
-        → length (encode m) ≤ 8748
-    go true t z b e = omega (arith, ltb-true 1 (length (bitsBelow (m .settings .hoppers) (total (m .settings)))) t, by-table (m .tiles), few)
-    go false t z b e = omega (arith, ltb-false 1 (length (bitsBelow (m .settings .hoppers) (total (m .settings)))) t, some, by-table (m .tiles), few)
+        → length (encode m) ≤ 8908
+    go true t z b e = omega (arith, ltb-true 1 (length (bitsBelow (m .settings .hoppers) (total (m .settings)))) t, by-table (m .tiles), few, laid)
+    go false t z b e = omega (arith, ltb-false 1 (length (bitsBelow (m .settings .hoppers) (total (m .settings)))) t, some, by-table (m .tiles), few, laid)

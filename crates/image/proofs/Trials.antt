@@ -11,7 +11,15 @@ use Rattle.floor.specs.declared.Floor.{Floor}
 use Rattle.floor.specs.Memory.{zeroFloor, view}
 use Rattle.floor.specs.Calls.{freshAnswer}
 use Rattle.floor.proofs.Calling.{got, several, fresh, book, rounds, same, sameFloor, holds}
-use Rattle.image.specs.Image.{lowest, oneTile, several as isSeveral, byteWrong, recordOf, settingsBody, countersBody, canistersBody, tileBody, tilesBytes, encode, settingsIn, countersIn, canisterIn, canistersIn, tileIn, tilesIn, modelIn, settingsFaults, countersFaults, tileFaults, endFaults, ownFaults, recordFault, endFault, tilesFault, fault, answerBy, recordsAnswer, loadRefusal, loadAnswer, writeRefusal, writeAnswer, written}
+use Rattle.image.specs.Image.{lowest, oneTile, several as isSeveral, byteWrong, recordOf, settingsBody, countersBody, canistersBody, tileBody, layoutBody, layoutsBytes, tilesBytes, encode, settingsIn, countersIn, canisterIn, canistersIn, tileIn, tilesIn, layoutIn, isLayout, layoutsIn, afterLayouts, modelIn, settingsFaults, countersFaults, tileFaults, layoutFaults, endFaults, ownFaults, recordFault, endFault, tilesFault, laidFault, fault, answerBy, loadRefusal, loadAnswer, writeRefusal, writeAnswer, written}
+
+-- what loading and writing compute: a table's line names this alone
+unfoldable pub shows : List ℕ → ℕ → Bool
+unfolding holds le bytes fieldsOf bytesOf
+    lowest oneTile isSeveral byteWrong recordOf settingsBody countersBody canistersBody tileBody layoutBody layoutsBytes tilesBytes encode
+    settingsIn countersIn canisterIn canistersIn tileIn tilesIn layoutIn isLayout layoutsIn afterLayouts modelIn
+    settingsFaults countersFaults tileFaults layoutFaults endFaults ownFaults recordFault endFault tilesFault laidFault fault answerBy loadRefusal loadAnswer writeRefusal writeAnswer written
+shows xs k = eqb (loadAnswer xs .refusal) k
 
 -- ---- the floors
 -- "a fresh floor, H 1, U 100, l 30, r 10, v 20, every tile but the hopper a fill tile"; W 2, hopper 1
@@ -78,9 +86,6 @@ counters n = take 32 pairBytes ++ (n ∷ 0 ∷ 2 ∷ 0 ∷ replicate n 0) ++ dro
 -- byte k made x
 unfoldable with : ℕ → ℕ → List ℕ
 with k x = set good k x
-
-unfoldable shows : List ℕ → ℕ → Bool
-shows xs k = eqb (loadAnswer xs .refusal) k
 
 -- ---- the table
 unfoldable table : List Bool
@@ -178,7 +183,5 @@ table =
     ∷ []
 
 trials : allOf (λ b. b) table ≡ true
-unfolding holds blank one moved pair good movedBytes pairBytes hoppers larger counters with shows table le bytes fieldsOf bytesOf
-    lowest oneTile isSeveral byteWrong recordOf settingsBody countersBody canistersBody tileBody tilesBytes encode settingsIn countersIn canisterIn canistersIn tileIn tilesIn modelIn
-    settingsFaults countersFaults tileFaults endFaults ownFaults recordFault endFault tilesFault fault answerBy recordsAnswer loadRefusal loadAnswer writeRefusal writeAnswer written
+unfolding shows blank one moved pair good movedBytes pairBytes hoppers larger counters with table
 trials = refl

@@ -2,16 +2,18 @@
 use mathlib.Core.Bool.{Bool, true, cond, not, _&&_, _||_}
 use mathlib.Core.List.{List, [], _∷_, _++_}
 use Prim.Native.Nat.{ℕ, zero, suc, _+_, _*_, _^_}
-use lib.Dec.{ltb, eqb}
-use lib.ListN.{length, getD, drop, replicate}
-use Rattle.laws.specs.Define.{tab, bitsBelow, refusal}
+use lib.Dec.{leb, ltb, eqb}
+use lib.ListN.{length, getD, take, drop, replicate}
+use Rattle.laws.specs.Define.{tab, allOf, bitsBelow, refusal}
 use Rattle.wire.specs.Bytes.{le, bytes, bytesOf, field}
 use Rattle.floor.specs.declared.Canister.{Canister}
 use Rattle.floor.specs.declared.Settings.{Settings}
 use Rattle.floor.specs.declared.Counters.{Counters}
+use Rattle.floor.specs.declared.Layout.{Layout}
 use Rattle.floor.specs.declared.Floor.{Floor}
 use Rattle.floor.specs.declared.Answer.{Answer}
 use Rattle.floor.specs.Settings.{total, hoppersOf, sizeTests, setTests, measureTests}
+use Rattle.floor.specs.Layouts.{nameNumber, letters}
 use Rattle.floor.specs.Model.{TileState, Model}
 use Rattle.floor.specs.Memory.{view, pack, zeroFloor}
 use Rattle.floor.specs.Well.{sound}
@@ -84,13 +86,24 @@ canistersBody (c ∷ l) = bytesOf canisterWidths (canisterValues c) ++ canisters
 unfoldable pub tileBody : ℕ → TileState → List ℕ
 tileBody t x = bytesOf tileWidths (tileValues t x) ++ canistersBody (x .members)
 
+-- "name (8 bytes, zero filled), set (8)": the first letter first
+unfoldable pub layoutBody : Layout → List ℕ
+layoutBody x = letters 8 (x .name) ++ bytes 8 (x .set)
+
+-- "kind 5 records between kinds 2 and 3, by rising name"
+unfoldable pub layoutsBytes : List Layout → List ℕ
+layoutsBytes [] = []
+layoutsBytes (x ∷ l) = recordOf 5 (layoutBody x) ++ layoutsBytes l
+
 -- "Kind 3, once for each tile in order"; "Kind 4, 0 bytes: end."
 unfoldable pub tilesBytes : ℕ → List TileState → List ℕ
 tilesBytes t [] = recordOf 4 []
 tilesBytes t (x ∷ l) = recordOf 3 (tileBody t x) ++ tilesBytes (suc t) l
 
 unfoldable pub encode : Model → List ℕ
-encode m = recordOf 1 (settingsBody (m .settings)) ++ (recordOf 2 (countersBody (hopperCount (m .settings)) (m .counters)) ++ tilesBytes 0 (m .tiles))
+encode m =
+    recordOf 1 (settingsBody (m .settings))
+    ++ (recordOf 2 (countersBody (hopperCount (m .settings)) (m .counters)) ++ (layoutsBytes (m .layouts) ++ tilesBytes 0 (m .tiles)))
 
 -- ---- reading: the record at the front of the bytes that are left, and what is left after it
 abbrev pub lengthIn : List ℕ → ℕ
@@ -133,11 +146,28 @@ unfoldable pub tilesIn : ℕ → List ℕ → List TileState
 tilesIn zero xs = []
 tilesIn (suc n) xs = tileIn (bodyIn xs) ∷ tilesIn n (restIn xs)
 
--- the floor that the bytes hold
+unfoldable pub layoutIn : List ℕ → Layout
+layoutIn b = record { name = nameNumber (take 8 b); set = le 8 (drop 8 b) }
+
+-- whether a record of kind 5 stands here, as far as its first four bytes tell
+unfoldable pub isLayout : List ℕ → Bool
+isLayout xs = leb 4 (length xs) && eqb (kindIn xs) 5
+
+-- the layouts of at most n such records, and the bytes after these
+unfoldable pub layoutsIn : ℕ → List ℕ → List Layout
+layoutsIn zero xs = []
+layoutsIn (suc n) xs = let r = layoutsIn n (restIn xs) in cond (isLayout xs) (layoutIn (bodyIn xs) ∷ r) []
+
+unfoldable pub afterLayouts : ℕ → List ℕ → List ℕ
+afterLayouts zero xs = xs
+afterLayouts (suc n) xs = let r = afterLayouts n (restIn xs) in cond (isLayout xs) r xs
+
+-- the floor that the bytes hold; "Older images read as having no layouts."
 unfoldable pub modelIn : List ℕ → Model
 modelIn xs =
     let s = settingsIn (lengthIn xs) (bodyIn xs) in
-    record { settings = s; counters = countersIn (hopperCount s) (bodyIn (restIn xs)); tiles = tilesIn (total s) (restIn (restIn xs)) }
+    let ys = restIn (restIn xs) in
+    record { settings = s; counters = countersIn (hopperCount s) (bodyIn (restIn xs)); tiles = tilesIn (total s) (afterLayouts 8 ys); layouts = layoutsIn 8 ys }
 
 -- ---- the refusals of a record's own: n is the length of its body b, t the tile that is due
 -- "the hopper byte the lowest of them (else 11; not tested for an empty set)"
@@ -163,12 +193,17 @@ tileFaults t n b =
     (ltb n 6, 11) ∷ (not (eqb (field tileWidths 0 b) t), 11) ∷ (ltb 16 (field tileWidths 5 b), 11)
     ∷ (not (eqb n (6 + 8 * field tileWidths 5 b)), 11) ∷ []
 
+-- the length alone: what is wrong in name or set is 12
+unfoldable pub layoutFaults : ℕ → List (Bool × ℕ)
+layoutFaults n = (not (eqb n 16), 11) ∷ []
+
 unfoldable pub endFaults : ℕ → List (Bool × ℕ)
 endFaults n = (not (eqb n 0), 11) ∷ []
 
 -- the kind that is due decides which tests are a record's own; t is the tile that is due and, for kind 2, the number of hoppers
 unfoldable pub ownFaults : ℕ → ℕ → ℕ → List ℕ → List (Bool × ℕ)
-ownFaults due t n b = cond (eqb due 1) (settingsFaults n b) (cond (eqb due 2) (countersFaults t n) (cond (eqb due 3) (tileFaults t n b) (endFaults n)))
+ownFaults due t n b =
+    cond (eqb due 1) (settingsFaults n b) (cond (eqb due 2) (countersFaults t n) (cond (eqb due 3) (tileFaults t n b) (cond (eqb due 5) (layoutFaults n) (endFaults n))))
 
 -- "within a record 9, 10, 11 …, then 1 to 3"; "9. Image ends within a record"; "10. Record of another kind than the one due."
 unfoldable pub recordFault : ℕ → ℕ → List ℕ → ℕ
@@ -188,22 +223,36 @@ unfoldable pub tilesFault : ℕ → ℕ → List ℕ → ℕ
 tilesFault zero t xs = endFault xs
 tilesFault (suc n) t xs = orElse (recordFault 3 t xs) (tilesFault n (suc t) (restIn xs))
 
+-- at most n records of kind 5; "a ninth such record is 10", as kind 3 is due then
+unfoldable pub laidFault : ℕ → List ℕ → ℕ
+laidFault zero xs = 0
+laidFault (suc n) xs = let r = orElse (recordFault 5 0 xs) (laidFault n (restIn xs)) in cond (isLayout xs) r 0
+
 unfoldable pub fault : List ℕ → ℕ
 fault xs =
     let s = settingsIn (lengthIn xs) (bodyIn xs) in
+    let ys = restIn (restIn xs) in
     orElse (recordFault 1 0 xs)
     (orElse (recordFault 2 (hopperCount s) (restIn xs))
-    (tilesFault (total s) 0 (restIn (restIn xs))))
+    (orElse (laidFault 8 ys)
+    (tilesFault (total s) 0 (afterLayouts 8 ys))))
 
 -- the number n, and a floor where it is 0: "A refused load … gives the all-zero floor"
 unfoldable pub answerBy : ℕ → Model → Answer
 answerBy n m = record { refusal = n; floor = cond (eqb n 0) (pack m) zeroFloor }
 
--- the answer without 12
-unfoldable pub recordsAnswer : List ℕ → Answer
-recordsAnswer xs = answerBy (fault xs) (modelIn xs)
+-- every layout has a name: one without is bad, and would not show in memory
+unfoldable pub named : Model → Bool
+named m = allOf (λ x. ltb 0 (x .name)) (m .layouts)
 
--- "then 12": "Image complete, floor not well formed."
+-- the answer without 12 but for this
+unfoldable pub recordsRefusal : List ℕ → ℕ
+recordsRefusal xs = orElse (fault xs) (refusal ((not (named (modelIn xs)), 12) ∷ []))
+
+unfoldable pub recordsAnswer : List ℕ → Answer
+recordsAnswer xs = answerBy (recordsRefusal xs) (modelIn xs)
+
+-- "then 12": "Image complete, floor not well formed."; "Bad, unsorted or repeated names, a stopped hopper or a bit for no tile are 12"
 unfoldable pub loadRefusal : List ℕ → ℕ
 loadRefusal xs = orElse (fault xs) (refusal ((not (sound (modelIn xs)), 12) ∷ []))
 

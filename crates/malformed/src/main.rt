@@ -1,10 +1,12 @@
 // Floors that aren't well formed: every call that takes a floor answers 30 and gives the same floor, zeros for a reading, the same
 // bytes for a writing.
 mod hoppers;
+mod layouts;
 
 use floor::Canister;
 use floor::Delivery;
 use floor::Floor;
+use floor::Layout;
 use floor::Report;
 use floor::Settings;
 use floor::Side;
@@ -55,6 +57,20 @@ fn same_tiles(xs: [Tile; 64], ys: [Tile; 64]) -> bool {
     all
 }
 
+fn same_layout(x: Layout, y: Layout) -> bool {
+    (x.name == y.name) & (x.set == y.set)
+}
+
+fn same_layouts(xs: [Layout; 8], ys: [Layout; 8]) -> bool {
+    let mut all = true;
+    let mut k: usize = 0;
+    while k < 8 {
+        all = all & same_layout(xs[k], ys[k]);
+        k += 1;
+    }
+    all
+}
+
 // Every field of two floors.
 fn same_floor(x: Floor, y: Floor) -> bool {
     let s = x.settings;
@@ -67,6 +83,8 @@ fn same_floor(x: Floor, y: Floor) -> bool {
     let yt = y.tiles;
     let xc = x.canisters;
     let yc = y.canisters;
+    let xl = x.layouts;
+    let yl = y.layouts;
     same_settings(s, r)
         & (c.last == d.last)
         & (c.booked == d.booked)
@@ -76,6 +94,7 @@ fn same_floor(x: Floor, y: Floor) -> bool {
         & (cd[3] == dd[3])
         & same_tiles(xt, yt)
         & same_canisters(xc, yc)
+        & same_layouts(xl, yl)
 }
 
 fn empty_delivery(d: Delivery) -> bool {
@@ -149,7 +168,23 @@ fn unwritten(f: Floor) -> bool {
     (w.refusal == 30) & (w.length == 0) & same
 }
 
-// Book, stop, repair, round, read and write.
+// Keep, forget and recall.
+fn names_refuse(f: Floor) -> bool {
+    let keep = calls::keep(f, floors::name(65));
+    let forget = calls::forget(f, floors::name(65));
+    let recall = calls::recall(f, floors::name(65));
+    let a = keep.floor;
+    let b = forget.floor;
+    let c = recall.floor;
+    (keep.refusal == 30)
+        & (forget.refusal == 30)
+        & (recall.refusal == 30)
+        & same_floor(a, f)
+        & same_floor(b, f)
+        & same_floor(c, f)
+}
+
+// Book, stop, repair, round, read, write, keep, forget and recall.
 fn all_refuse(f: Floor) -> bool {
     let book = floors::book(f, 1, 900, 0, 0);
     let stop = calls::stop(f, 1);
@@ -171,6 +206,7 @@ fn all_refuse(f: Floor) -> bool {
         & empty_report(report)
         & empty_reading(f)
         & unwritten(f)
+        & names_refuse(f)
 }
 
 // W 3, H 2, hopper 5, canisters 3 and 4 on tile 0, 7 on tile 1, three rounds gone.
@@ -263,7 +299,7 @@ fn canister_name(kind: u8) {
     }
 }
 
-// Six calls on a damaged floor, whose name is written before.
+// Nine calls on a damaged floor, whose name is written before.
 fn refused(t: Tally, f: Floor) -> Tally {
     let ok = all_refuse(f);
     if ok {
@@ -288,6 +324,12 @@ fn one_of_several(t: Tally, f: Floor, kind: u8) -> Tally {
     tally::text(b"malformed, ");
     hoppers::name(kind);
     refused(t, hoppers::damaged(f, kind))
+}
+
+fn one_of_layouts(t: Tally, f: Floor, kind: u8) -> Tally {
+    tally::text(b"malformed, ");
+    layouts::name(kind);
+    refused(t, layouts::damaged(f, kind))
 }
 
 // The floor before it is damaged: the calls accept it.
@@ -346,9 +388,20 @@ fn several(t: Tally) -> Tally {
     next
 }
 
+fn laid(t: Tally) -> Tally {
+    let f = layouts::sound_floor(hoppers::sound_floor());
+    let mut next = layouts::accepted(t, f);
+    let mut kind: u8 = 0;
+    while kind < 9 {
+        next = one_of_layouts(next, f, kind);
+        kind += 1;
+    }
+    next
+}
+
 fn main() {
     let start = Tally { good: 0, bad: 0 };
     let one_hopper = all(start);
     let done = several(one_hopper);
-    tally::end(done);
+    tally::end(laid(done));
 }

@@ -6,19 +6,19 @@ use mathlib.Core.List.{List, [], _∷_}
 use Prim.Native.Nat.{ℕ, zero, suc, _+_, _-_, _^_, _≤_, _<_}
 use native.Mathlib.Nat.{zero-div}
 use native.Mathlib.Omega.{arith}
-use native.Mathlib.Decide.{ℕ-discrete}
+use native.Mathlib.Decide.{decLe, ℕ-discrete}
 use lib.Dec.{ltb, eqb}
-use lib.ListN.{length, take, drop, getD, set, replicate, length-take, length-drop, length-set}
+use lib.ListN.{length, take, drop, getD, set, replicate, length-take, length-drop, length-set, List·getD-eq-default}
 use lib.Seq.{drop-cons, drop-drop, getD-drop, getD-set-same, getD-set-other}
-use borrow.Author.Tests.{eq-eqb, ne-eqb, lt-ltb, ltb-true, le-leb}
+use borrow.Author.Tests.{eq-eqb, ne-eqb, lt-ltb, le-ltb, ltb-true, le-leb}
 use Rattle.laws.specs.Define.{tab, allOf, anyOf, bit}
 use Rattle.laws.specs.Tests.{same-test}
-use Rattle.laws.specs.Tables.{tab-length, tab-at, filled, below-zero, below-more}
+use Rattle.laws.specs.Tables.{tab-length, tab-at, filled, below-zero, below-more, Upto, From}
 use Rattle.words.specs.Text.{hasSome, numberOf}
 use Rattle.words.specs.Laws.{from-place, from-end}
 use Rattle.words.specs.declared.Parsed.{Parsed}
 use Rattle.words.specs.declared.Parsed.the-variants.{Value}
-use Rattle.parse.specs.Line.{remark, isValue, valueOf, numberAt, allNumbers, valueAt, parts, isTile, onlyTiles, lists, TilesIn, allWord, noneWord, SourcesIn}
+use Rattle.parse.specs.Line.{remark, isValue, valueOf, numberAt, allNumbers, valueAt, parts, isTile, onlyTiles, lists, TilesIn, allWord, noneWord, SourcesIn, nameIn}
 use Rattle.parse.specs.declared.Sources.{Sources}
 use Rattle.parse.specs.declared.Sources.the-variants.{All, Set, Unreadable as NoTiles}
 
@@ -161,3 +161,28 @@ said-none {w} q = record { all = λ p. not-two w p q; none = λ _. refl; tiles =
 
 pub said-tiles : {w : List ℕ} {r : Sources} → w ≢ allWord → w ≢ noneWord → TilesIn w r → SourcesIn w r
 said-tiles m n t = record { all = λ p. absurd (m p); none = λ q. absurd (n q); tiles = λ _ _. t }
+
+-- ---- a name
+pub name-long : (w : List ℕ) → 8 < length w → replicate 8 0 ≡ nameIn w
+unfolding nameIn
+name-long w h = rw (lt-ltb 8 (length w) h)
+
+-- the first n bytes are copied, the others are zero
+pub name-copied : (w all : List ℕ) (n : ℕ) → length w ≤ 8 → length all ≡ 8 → n ≡ length w → Upto n (λ i. getD w i 0) 0 all → From n (λ _. 0) 0 all → all ≡ nameIn w
+unfolding nameIn
+name-copied w all n few len e up off = rw (le-ltb 8 (length w) few) (filled 8 (λ i. getD w i 0) 0 all len one)
+  where
+    one : (i : ℕ) → i < 8 → getD all i 0 ≡ getD w i 0
+    one i h = go (decLe (suc i) n)
+      where
+        go : Dec (i < n) → getD all i 0 ≡ getD w i 0
+        go (yes l) = up i l
+        go (no l) = off i (omega arith) ∙ sym (List·getD-eq-default w 0 (omega arith))
+
+pub name-start : From {A = ℕ} 0 (λ _. 0) 0 (replicate 8 0)
+name-start i h = go 8 i
+  where
+    go : (n i : ℕ) → _≡_ {A = ℕ} (getD (replicate n 0) i 0) 0
+    go zero i = refl
+    go (suc n) zero = refl
+    go (suc n) (suc i) = go n i

@@ -5,6 +5,7 @@ use mathlib.Core.Bool.{Bool, true, false, cond, not, _&&_}
 use mathlib.Core.List.{List, [], _∷_}
 use Prim.Native.Nat.{ℕ, _+_}
 use lib.Dec.{leb, ltb, eqb}
+use lib.ListN.{length, getD, replicate}
 use Rattle.laws.specs.Define.{tab, allOf, anyOf, allBelow, bit}
 use Rattle.words.specs.Text.{nthWord, hasSome, numberOf}
 use Rattle.words.specs.declared.Parsed.{Parsed}
@@ -94,3 +95,7 @@ pub record SourcesIn (word : List ℕ) (r : Sources) : Type 0 where
   pub all : word ≡ allWord → r ≡ All
   pub none : word ≡ noneWord → r ≡ Set 0
   pub tiles : word ≢ allWord → word ≢ noneWord → TilesIn word r
+
+-- a word as the eight bytes of a name; a longer one is none
+unfoldable pub nameIn : List ℕ → List ℕ
+nameIn word = cond (ltb 8 (length word)) (replicate 8 0) (tab 8 (λ i. getD word i 0))

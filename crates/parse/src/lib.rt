@@ -3,7 +3,7 @@ ghost use mathlib.Core.Path.{_≡_};
 ghost use mathlib.Core.Bool.{true};
 ghost use Prim.Native.Nat.{_≤_, min};
 ghost use Rattle.words.specs.Text.{nthWord};
-ghost use Rattle.parse.specs.Line.{endsBy, remark, isValue, valueOf, numberAt, numbersOf, argumentsOf, TilesIn, SourcesIn};
+ghost use Rattle.parse.specs.Line.{endsBy, remark, isValue, valueOf, numberAt, numbersOf, argumentsOf, TilesIn, SourcesIn, nameIn};
 use words::Parsed;
 
 // Up to four numbers, and whether each was one.
@@ -153,6 +153,32 @@ pub fn sources_at(line: &[u8], k: usize) -> Sources
         return Sources::Set(0);
     }
     tiles_at(line, k)
+}
+
+// The eight bytes of a name, zero filled. A longer word is no name and gives zeros, which the library refuses by the same number.
+fn letters(word: &[u8]) -> [u8; 8]
+    ensures { λ r. ⌜ r ≡ nameIn (now (word .entry)) ⌝ }
+{
+    let mut all = [0u8; 8];
+    if 8 < word.len() {
+        return all;
+    }
+    let mut i: usize = 0;
+    while i < word.len() {
+        all[i] = word[i];
+        i += 1;
+    }
+    all
+}
+
+// The name that the line's word with k words before it writes.
+pub fn name_at(line: &[u8], k: usize) -> [u8; 8]
+    ensures { λ r. ⌜ r ≡ nameIn (nthWord k (now (line .entry))) ⌝ }
+{
+    let w = words::nth(line, k);
+    let from = w.from;
+    let to = w.to;
+    letters(&line[from..to])
 }
 
 // The nearest number that fits. What is cut off here is refused by the library with the same number as what was typed.

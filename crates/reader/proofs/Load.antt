@@ -1,28 +1,28 @@
 -- The parts joined: the two arrays are those of the floor that was read, and each return of read_image is the definition's answer.
 use mathlib.Core.Path.{_≡_, refl, sym, ap, _∙_}
-use mathlib.Core.Logic.{_⊎_, _≢_}
-use mathlib.Core.Bool.{cond, _&&_}
-use mathlib.Core.List.{List}
+use mathlib.Core.Logic.{_⊎_, inl, inr, _≢_}
+use mathlib.Core.Bool.{true, false, cond, not, _&&_}
+use mathlib.Core.List.{List, [], _∷_}
 use Prim.Native.Nat.{ℕ, zero, suc, _+_, _*_, _/_, _%_, _≤_, _<_}
 use native.Mathlib.Omega.{arith}
 use native.Mathlib.Decide.{decLe}
-use lib.Dec.{ltb}
+use lib.Dec.{ltb, eqb}
 use borrow.Author.Tests.{lt-ltb, le-ltb, ne-eqb}
 use lib.ListN.{length, drop, getD, List·getD-eq-default}
 use lib.Seq.{drop-drop}
-use Rattle.laws.specs.Define.{tab, bitsBelow}
+use Rattle.laws.specs.Define.{tab, allOf, bitsBelow, refusal}
+use Rattle.laws.specs.Tests.{by-test}
 use Rattle.laws.specs.SetBits.{bits-within}
 use Rattle.laws.specs.Tables.{tab-length, tab-at, tab-same}
 use Rattle.wire.specs.Bytes.{le, field}
-use Rattle.floor.specs.declared.Canister.{Canister}
 use Rattle.floor.specs.declared.Settings.{Settings}
 use Rattle.floor.specs.declared.Counters.{Counters}
-use Rattle.floor.specs.declared.Tile.{Tile}
+use Rattle.floor.specs.declared.Answer.{Answer}
 use Rattle.floor.specs.Settings.{total, hoppersOf}
 use Rattle.floor.specs.Model.{TileState}
-use Rattle.floor.specs.Memory.{zeroTile, zeroCanister, zeroFloor, unused, head, rows, build, pack}
+use Rattle.floor.specs.Memory.{zeroTile, zeroCanister, zeroFloor, unused, head, rows}
 use Rattle.floor.proofs.Rows.{rows-filled}
-use Rattle.image.specs.Image.{hopperCount, tileWidths, lengthIn, bodyIn, restIn, settingsIn, countersIn, canisterIn, canistersIn, tileIn, tilesIn, modelIn, recordFault, tilesFault, fault, answerBy, recordsAnswer}
+use Rattle.image.specs.Image.{hopperCount, tileWidths, lengthIn, bodyIn, restIn, settingsIn, countersIn, canisterIn, canistersIn, tileIn, tilesIn, layoutsIn, afterLayouts, modelIn, recordFault, orElse, tilesFault, laidFault, fault, answerBy, named, recordsRefusal, recordsAnswer}
 use Rattle.image.proofs.Records.{whole}
 use Rattle.image.proofs.Again.{canisters-length, settings-good, counters-good}
 use Rattle.faults.proofs.Refusals.{room-20}
@@ -30,6 +30,7 @@ use Rattle.image.proofs.Read.{first-measured, tiles-length}
 use Rattle.faults.specs.Scan.{after, Starts}
 use Rattle.faults.proofs.Walk.{rest-at, record-room}
 use Rattle.reader.specs.Arrays.{tileAt, canisterAt, tileFrom, canisterFrom}
+use Rattle.reader.specs.Rest.{restModel, restRefusal, restAnswer}
 
 -- ---- the tiles and the canisters, by their place
 after-rest : (t : ℕ) (xs : List ℕ) → after t (restIn xs) ≡ restIn (after t xs)
@@ -81,7 +82,7 @@ module _ (s xs starts : List ℕ) (n : ℕ) (f : Starts s xs starts n) where
       go (yes h) = rw (lt-ltb t n h, tile-is t h)
       go (no h) = let k : n ≤ t = omega arith in rw (le-ltb t n k, tile-off t k) head-unused
 
-  tiles-are : tab 64 (tileFrom s starts n) ≡ tab 64 (λ t. head (shown t))
+  pub tiles-are : tab 64 (tileFrom s starts n) ≡ tab 64 (λ t. head (shown t))
   tiles-are = tab-same 64 _ _ (λ t h. head-is t)
 
   place-is : (t j : ℕ) → canisterAt s (getD starts t 0) (ltb t n) j ≡ getD (shown t .members) j zeroCanister
@@ -106,10 +107,17 @@ module _ (s xs starts : List ℕ) (n : ℕ) (f : Starts s xs starts n) where
           let e : getD (shown t .members) j zeroCanister ≡ zeroCanister = ap (λ (x : TileState). getD (x .members) j zeroCanister) (tile-is t h) ∙ members-none (drop p s) j k in
           rw (lt-ltb t n h, le-ltb j m k, e)
 
-  canisters-are : tab 1024 (canisterFrom s starts n) ≡ rows 64 0 shown
+  pub canisters-are : tab 1024 (canisterFrom s starts n) ≡ rows 64 0 shown
   canisters-are = rows-filled shown (tab 1024 (canisterFrom s starts n)) (tab-length 1024 (canisterFrom s starts n)) (λ i k. tab-at 1024 (canisterFrom s starts n) i zeroCanister k ∙ place-is (i / 16) (i % 16))
 
 -- ---- the records in order
+or-assoc : (a b c : ℕ) → orElse (orElse a b) c ≡ orElse a (orElse b c)
+or-assoc a b c = go (by-test (eqb a 0))
+  where
+    go : (eqb a 0 ≡ true) ⊎ (eqb a 0 ≡ false) → orElse (orElse a b) c ≡ orElse a (orElse b c)
+    go (inl e) = rw e
+    go (inr e) = rw (e, e)
+
 module _ (xs : List ℕ) where
   fault-1 : recordFault 1 0 xs ≢ 0 → fault xs ≡ recordFault 1 0 xs
   unfolding fault
@@ -119,27 +127,18 @@ module _ (xs : List ℕ) where
   unfolding fault
   fault-2 z h = rw (z, ne-eqb (recordFault 2 (hopperCount (settingsIn (lengthIn xs) (bodyIn xs))) (restIn xs)) 0 h)
 
-  fault-3 : recordFault 1 0 xs ≡ 0 → recordFault 2 (hopperCount (settingsIn (lengthIn xs) (bodyIn xs))) (restIn xs) ≡ 0 → fault xs ≡ tilesFault (total (settingsIn (lengthIn xs) (bodyIn xs))) 0 (restIn (restIn xs))
-  unfolding fault
-  fault-3 z y = rw (z, y)
-
   answer-refused : (k : ℕ) → fault xs ≡ k → k ≢ 0 → record { refusal = k; floor = zeroFloor } ≡ recordsAnswer xs
-  unfolding recordsAnswer answerBy
-  answer-refused k e h = rw (e, ne-eqb k 0 h)
+  unfolding recordsAnswer recordsRefusal answerBy
+  answer-refused k e h = rw (e, ne-eqb k 0 h, ne-eqb k 0 h)
 
-  answer-good : fault xs ≡ 0 → record { refusal = 0; floor = pack (modelIn xs) } ≡ recordsAnswer xs
-  unfolding recordsAnswer answerBy
-  answer-good e = rw e
-
-  -- the parts of the floor in memory
-  pack-is : pack (modelIn xs) ≡ record {
-    settings = settingsIn (lengthIn xs) (bodyIn xs);
-    counters = countersIn (hopperCount (settingsIn (lengthIn xs) (bodyIn xs))) (bodyIn (restIn xs));
-    tiles = tab 64 (λ t. head (getD (tilesIn (total (settingsIn (lengthIn xs) (bodyIn xs))) (restIn (restIn xs))) t unused));
-    canisters = rows 64 0 (λ t. getD (tilesIn (total (settingsIn (lengthIn xs) (bodyIn xs))) (restIn (restIn xs))) t unused);
-  }
-  unfolding pack build modelIn
-  pack-is = refl
+  -- records 1 and 2 are right: the rest
+  rest-is : recordFault 1 0 xs ≡ 0 → recordFault 2 (hopperCount (settingsIn (lengthIn xs) (bodyIn xs))) (restIn xs) ≡ 0
+      → recordsAnswer xs ≡ restAnswer (settingsIn (lengthIn xs) (bodyIn xs)) (countersIn (hopperCount (settingsIn (lengthIn xs) (bodyIn xs))) (bodyIn (restIn xs))) (restIn (restIn xs))
+  unfolding recordsAnswer recordsRefusal fault named modelIn restAnswer restRefusal restModel
+  rest-is z y =
+      let s = settingsIn (lengthIn xs) (bodyIn xs) in
+      let ys = restIn (restIn xs) in
+      rw (z, y, or-assoc (laidFault 8 ys) (tilesFault (total s) 0 (afterLayouts 8 ys)) (refusal ((not (allOf (λ x. ltb 0 (x .name)) (layoutsIn 8 ys)), 12) ∷ [])))
 
 -- ---- room for the records that were found
 pub no-fault : (k n : ℕ) → k ≡ n → k ≡ 0 → n ≡ 0
@@ -198,11 +197,6 @@ module _ (x : List ℕ) (z1 : recordFault 1 0 x ≡ 0) (u : ℕ) (n1 : u ≡ le 
     count-is : st .columns * st .rows ≡ total (settingsIn (lengthIn x) (bodyIn x))
     count-is = rw (se, n1)
 
-    fault-is : fault x ≡ tilesFault (st .columns * st .rows) 0 (drop (4 + u + 4 + w) x)
-    fault-is =
-        let z : recordFault 2 (hopperCount (settingsIn (lengthIn x) (bodyIn x))) (restIn x) ≡ 0 = ap (λ (n : ℕ). recordFault 2 n (restIn x)) (sym he) ∙ ap (recordFault 2 h) (sym rest-1) ∙ z2 in
-        fault-3 x z1 z ∙ rw (count-is, rest-2)
-
     pub third-fits : 4 + u + 4 + w ≤ length x
     third-fits =
         let k = first-ok x z1 in
@@ -212,18 +206,10 @@ module _ (x : List ℕ) (z1 : recordFault 1 0 x ≡ 0) (u : ℕ) (n1 : u ≡ le 
     pub few-code : st .columns * st .rows ≤ 64
     few-code = rw count-is (first-measured x z1 .few)
 
-    pub answer-3 : (k : ℕ) → k ≡ tilesFault (st .columns * st .rows) 0 (drop (4 + u + 4 + w) x) → k ≢ 0 → record { refusal = k; floor = zeroFloor } ≡ recordsAnswer x
-    answer-3 k e h = answer-refused x k (fault-is ∙ sym e) h
-
-    pub answer-4 : (ct : Counters) (ts : List Tile) (cs : List Canister) (starts : List ℕ) → ct ≡ countersIn h (drop (4 + u + 4) x) → 0 ≡ tilesFault (st .columns * st .rows) 0 (drop (4 + u + 4 + w) x)
-        → Starts x (drop (4 + u + 4 + w) x) starts (st .columns * st .rows) → ts ≡ tab 64 (tileFrom x starts (st .columns * st .rows)) → cs ≡ tab 1024 (canisterFrom x starts (st .columns * st .rows))
-        → record { refusal = 0; floor = record { settings = st; counters = ct; tiles = ts; canisters = cs } } ≡ recordsAnswer x
-    answer-4 ct ts cs starts ce fe ss te ke =
-        let n : ℕ = st .columns * st .rows in
-        let ys : List ℕ = drop (4 + u + 4 + w) x in
-        let t1 : ts ≡ tab 64 (λ t. head (getD (tilesIn (total (settingsIn (lengthIn x) (bodyIn x))) (restIn (restIn x))) t unused)) = te ∙ tiles-are x ys starts n ss ∙ rw (count-is, rest-2) in
-        let c1 : cs ≡ rows 64 0 (λ t. getD (tilesIn (total (settingsIn (lengthIn x) (bodyIn x))) (restIn (restIn x))) t unused) = ke ∙ canisters-are x ys starts n ss ∙ rw (count-is, rest-2) in
+    pub answer-3 : (ct : Counters) (a : Answer) → ct ≡ countersIn h (drop (4 + u + 4) x) → a ≡ restAnswer st ct (drop (4 + u + 4 + w) x) → a ≡ recordsAnswer x
+    answer-3 ct a ce ae =
+        let z : recordFault 2 (hopperCount (settingsIn (lengthIn x) (bodyIn x))) (restIn x) ≡ 0 = ap (λ (n : ℕ). recordFault 2 n (restIn x)) (sym he) ∙ ap (recordFault 2 h) (sym rest-1) ∙ z2 in
         let d : drop (4 + u + 4) x ≡ bodyIn (restIn x) = sym (drop-drop 4 (4 + u) x) ∙ ap (λ (l : List ℕ). bodyIn l) rest-1 in
         let c2 : ct ≡ countersIn (hopperCount (settingsIn (lengthIn x) (bodyIn x))) (bodyIn (restIn x)) = ce ∙ ap (countersIn h) d ∙ ap (λ (n : ℕ). countersIn n (bodyIn (restIn x))) he in
         let s1 : st ≡ settingsIn (lengthIn x) (bodyIn x) = se ∙ ap (λ (n : ℕ). settingsIn n (drop 4 x)) n1 in
-        rw (t1, c1, c2, s1, ← pack-is x) (answer-good x (fault-is ∙ sym fe))
+        ae ∙ rw (c2, s1, rest-2) (sym (rest-is x z1 z))

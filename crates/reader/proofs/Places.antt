@@ -1,4 +1,4 @@
--- The two arrays, as the loops over the used tiles and over each tile's own canisters fill them.
+-- The three arrays, as the loops over the used tiles, over each tile's own canisters and over the layouts fill them.
 use mathlib.Core.Path.{_≡_, refl, _∙_}
 use mathlib.Core.List.{List}
 use Prim.Native.Nat.{ℕ, zero, suc, _+_, _*_, _/_, _%_, _≤_, _<_}
@@ -10,10 +10,11 @@ use Rattle.laws.specs.Define.{tab}
 use Rattle.laws.specs.Tables.{Upto, From, filled, upto-turn, rest-turn}
 use Rattle.floor.specs.declared.Canister.{Canister}
 use Rattle.floor.specs.declared.Tile.{Tile}
-use Rattle.floor.specs.Memory.{zeroTile, zeroCanister, head}
-use Rattle.image.specs.Image.{canisterIn, tileIn}
-use Rattle.reader.specs.Arrays.{tileFrom, canisterFrom}
-use Rattle.reader.proofs.Reading.{tile-none, tile-some, canister-none, canister-past, canister-some}
+use Rattle.floor.specs.declared.Layout.{Layout}
+use Rattle.floor.specs.Memory.{zeroTile, zeroCanister, zeroLayout, head}
+use Rattle.image.specs.Image.{canisterIn, tileIn, layoutIn}
+use Rattle.reader.specs.Arrays.{tileFrom, canisterFrom, layoutFrom}
+use Rattle.reader.proofs.Reading.{tile-none, tile-some, canister-none, canister-past, canister-some, layout-none, layout-some}
 
 -- ---- of n places those before k are g's, and those from there on are z
 abbrev pub Filled : {A : Type 0} → ℕ → (ℕ → A) → A → ℕ → List A → Type 0
@@ -79,3 +80,14 @@ module _ (s starts : List ℕ) (c : ℕ) where
     where
       past : (i : ℕ) → 16 * t ≤ i → zeroCanister ≡ canisterFrom s starts c i
       past i h = let off : c ≤ i / 16 = omega arith in rw (le-ltb (i / 16) c off) (canister-none s (getD starts (i / 16) 0) (i % 16))
+
+-- ---- n layouts, whose records begin at `from`
+module _ (s : List ℕ) (from n : ℕ) where
+  abbrev pub Laid : ℕ → List Layout → Type 0
+  Laid k out = Filled 8 (layoutFrom s from n) zeroLayout k out
+
+  pub laid-turn : (k : ℕ) (out : List Layout) (v : Layout) → k < n → n ≤ 8 → v ≡ layoutIn (drop (from + 4 + 20 * k) s) → Laid k out → Laid (k + 1) (set out k v)
+  laid-turn k out v h few e p = filled-turn 8 (layoutFrom s from n) zeroLayout k out v (omega arith) (e ∙ layout-some s from n k h) p
+
+  pub laid-all : (k : ℕ) (out : List Layout) → n ≤ k → k ≤ 8 → Laid k out → out ≡ tab 8 (layoutFrom s from n)
+  laid-all k out lo few p = filled-end 8 (layoutFrom s from n) zeroLayout k out few (λ i h. layout-none s from n i (omega arith)) p

@@ -8,16 +8,17 @@ use native.Mathlib.Nat.{add-zero}
 use native.Mathlib.Decide.{decLe}
 use lib.Dec.{ltb}
 use borrow.Author.Tests.{lt-ltb, le-ltb, ltb-true, ltb-false}
-use lib.ListN.{length, drop, getD, replicate}
+use lib.ListN.{length, take, drop, getD, replicate}
 use lib.Seq.{drop-drop}
 use Rattle.laws.specs.Tables.{filled}
 use Rattle.wire.specs.Bytes.{le, fieldsOf, field}
 use Rattle.wire.specs.Fields.{field-in}
-use Rattle.floor.specs.Memory.{zeroTile, zeroCanister, head}
-use Rattle.image.specs.Image.{countersWidths, tileWidths, canisterWidths, countersIn, canisterIn, tileIn}
+use Rattle.floor.specs.Layouts.{nameNumber}
+use Rattle.floor.specs.Memory.{zeroTile, zeroCanister, zeroLayout, head}
+use Rattle.image.specs.Image.{countersWidths, tileWidths, canisterWidths, countersIn, canisterIn, tileIn, layoutIn}
 use Rattle.image.proofs.Again.{canisters-length}
 use Rattle.faults.proofs.Refusals.{tile-byte}
-use Rattle.reader.specs.Arrays.{tileAt, canisterAt}
+use Rattle.reader.specs.Arrays.{tileAt, canisterAt, layoutFrom}
 
 fours-at : (h k : ℕ) (b : List ℕ) → getD (fieldsOf (replicate h 4) b) k 0 ≡ cond (ltb k h) (le 4 (drop (4 * k) b)) 0
 unfolding fieldsOf
@@ -95,3 +96,16 @@ module _ (s : List ℕ) (p : ℕ) where
     pub canister-some : j < getD s (p + 5) 0 → canisterIn (drop (p + 6 + 8 * j) s) ≡ canisterAt s p true j
     unfolding canisterAt
     canister-some h = rw (count-is, lt-ltb j (getD s (p + 5) 0) h)
+
+-- ---- the layouts
+pub layout-code : (s : List ℕ) (at : ℕ) → layoutIn (drop at s) ≡ record { name = nameNumber (take 8 (drop at s)); set = le 8 (drop (at + 8) s) }
+unfolding layoutIn
+layout-code s at = rw (drop-drop 8 at s)
+
+pub layout-some : (s : List ℕ) (from n k : ℕ) → k < n → layoutIn (drop (from + 4 + 20 * k) s) ≡ layoutFrom s from n k
+unfolding layoutFrom
+layout-some s from n k h = rw (lt-ltb k n h)
+
+pub layout-none : (s : List ℕ) (from n k : ℕ) → n ≤ k → zeroLayout ≡ layoutFrom s from n k
+unfolding layoutFrom
+layout-none s from n k h = rw (le-ltb k n h)

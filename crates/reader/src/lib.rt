@@ -1,25 +1,33 @@
-// Reading an image: the floor in memory, or the first refusal in reading order. Without 12.
+// Reading an image: the floor in memory, or the first refusal in reading order. Of 12 only a layout without a name.
 ghost use mathlib.Core.Path.{_≡_};
 ghost use Prim.Native.Nat.{ℕ, _+_, _*_, _≤_, _<_};
-ghost use lib.ListN.{length, drop, getD};
-ghost use Rattle.laws.specs.Define.{tab};
+ghost use lib.Dec.{ltb};
+ghost use lib.ListN.{length, take, drop, getD};
+ghost use Rattle.laws.specs.Define.{tab, allOf};
 ghost use Rattle.wire.specs.Bytes.{field};
+ghost use Rattle.floor.specs.Settings.{total};
+ghost use Rattle.floor.specs.Layouts.{nameNumber};
 ghost use Rattle.floor.specs.Memory.{head, zeroFloor};
-ghost use Rattle.image.specs.Image.{tileWidths, countersIn, canisterIn, tileIn, recordsAnswer};
-ghost use Rattle.reader.specs.Arrays.{tileFrom, canisterFrom};
+ghost use Rattle.image.specs.Image.{tileWidths, countersIn, canisterIn, tileIn, layoutIn, recordsAnswer};
+ghost use Rattle.reader.specs.Arrays.{tileFrom, canisterFrom, layoutFrom};
+ghost use Rattle.reader.specs.Rest.{restAnswer};
 use faults::record_fault;
+use faults::scan_layouts;
 use faults::scan_tiles;
 use faults::settings_at;
 use floor::Answer;
 use floor::Canister;
 use floor::Counters;
 use floor::Floor;
+use floor::Layout;
+use floor::Settings;
 use floor::Side;
 use floor::Tile;
 use floor::zero_floor;
 use sets::size;
 use wire::u16_at;
 use wire::u32_at;
+use wire::u64_at;
 
 // The counters whose record's body starts at `at`, where there are h hoppers; those beyond are zero.
 fn counters_at(s: &[u8], at: usize, h: u8) -> Counters
@@ -113,6 +121,61 @@ fn canisters_of(s: &[u8], starts: [usize; 64], c: usize) -> [Canister; 1024]
     out
 }
 
+// The name in the eight bytes from `at` on: the first letter in the highest byte.
+fn name_at(s: &[u8], at: usize) -> u64
+    requires { ⌜ at + 8 ≤ length (now s) ⌝ }
+    ensures { λ r. ⌜ r ≡ nameNumber (take 8 (drop at (now (s .entry)))) ⌝ }
+{
+    let mut n = 0u64;
+    let mut k = 0usize;
+    while k < 8 {
+        n = n * 256 + s[at + k] as u64;
+        k = k + 1;
+    }
+    n
+}
+
+// The layout in the sixteen bytes from `at` on.
+fn layout_at(s: &[u8], at: usize) -> Layout
+    requires { ⌜ at + 16 ≤ length (now s) ⌝ }
+    ensures { λ r. ⌜ r ≡ layoutIn (drop at (now (s .entry))) ⌝ }
+{
+    let name = name_at(s, at);
+    let set = u64_at(s, at + 8);
+    Layout {
+        name: name,
+        set: set,
+    }
+}
+
+// The eight places of layouts; the records of n begin at `from`, and the other places stay zero.
+fn layouts_of(s: &[u8], from: usize, n: usize) -> [Layout; 8]
+    requires { ⌜ (n ≤ 8) × (from + 20 * n ≤ length (now s)) ⌝ }
+    ensures { λ r. ⌜ r ≡ tab 8 (layoutFrom (now (s .entry)) from n) ⌝ }
+{
+    let zero = Layout { name: 0, set: 0 };
+    let mut out = [zero; 8];
+    for k in 0usize..n {
+        out[k] = layout_at(s, from + 4 + 20 * k);
+    }
+    out
+}
+
+// Whether each of the first n layouts has a name.
+fn all_named(all: [Layout; 8], n: usize) -> bool
+    requires { ⌜ n ≤ 8 ⌝ }
+    ensures { λ r. ⌜ r ≡ allOf (λ x. ltb 0 (x .name)) (take n all) ⌝ }
+{
+    let mut ok = true;
+    let mut k = 0usize;
+    while k < n {
+        let x = all[k];
+        ok = ok & (0 < x.name);
+        k = k + 1;
+    }
+    ok
+}
+
 // A refusal: its number and the all-zero floor.
 pub fn refused(n: u8) -> Answer
     ensures { λ r. ⌜ r ≡ record { refusal = n; floor = zeroFloor } ⌝ }
@@ -124,7 +187,43 @@ pub fn refused(n: u8) -> Answer
     }
 }
 
-// The floor that the bytes hold, or the first refusal in reading order and the all-zero floor. Without 12.
+// The records from the layouts' on, which begin at `from`, where the settings and the counters are read. A layout without a name is 12: it would not show in memory.
+fn rest_of(s: &[u8], from: usize, settings: Settings, counters: Counters) -> Answer
+    requires { ⌜ (from ≤ length (now s)) × (total settings ≤ 64) ⌝ }
+    ensures { λ r. ⌜ r ≡ restAnswer settings counters (drop from (now (s .entry))) ⌝ }
+{
+    let laid = scan_layouts(s, from);
+    if laid.fault != 0 {
+        return refused(laid.fault);
+    }
+    let n = laid.count;
+    let c = (settings.columns as usize) * (settings.rows as usize);
+    let scan = scan_tiles(s, from + 20 * n, c);
+    if scan.fault != 0 {
+        return refused(scan.fault);
+    }
+    let layouts = layouts_of(s, from, n);
+    let named = all_named(layouts, n);
+    if !named {
+        return refused(12);
+    }
+    let starts = scan.starts;
+    let tiles = tiles_of(s, starts, c);
+    let canisters = canisters_of(s, starts, c);
+    let floor = Floor {
+        settings: settings,
+        counters: counters,
+        tiles: tiles,
+        canisters: canisters,
+        layouts: layouts,
+    };
+    Answer {
+        refusal: 0,
+        floor: floor,
+    }
+}
+
+// The floor that the bytes hold, or the first refusal in reading order and the all-zero floor. Of 12 only a layout without a name.
 pub fn read_image(s: &[u8]) -> Answer
     ensures { λ r. ⌜ r ≡ recordsAnswer (now (s .entry)) ⌝ }
 {
@@ -142,23 +241,5 @@ pub fn read_image(s: &[u8]) -> Answer
     }
     let counters = counters_at(s, second + 4, hoppers);
     let n2 = u16_at(s, second);
-    let third = second + 4 + n2 as usize;
-    let c = (settings.columns as usize) * (settings.rows as usize);
-    let scan = scan_tiles(s, third, c);
-    if scan.fault != 0 {
-        return refused(scan.fault);
-    }
-    let starts = scan.starts;
-    let tiles = tiles_of(s, starts, c);
-    let canisters = canisters_of(s, starts, c);
-    let floor = Floor {
-        settings: settings,
-        counters: counters,
-        tiles: tiles,
-        canisters: canisters,
-    };
-    Answer {
-        refusal: 0,
-        floor: floor,
-    }
+    rest_of(s, second + 4 + n2 as usize, settings, counters)
 }

@@ -2,7 +2,7 @@
 use mathlib.Core.Path.{_≡_, refl, sym, ap, _∙_}
 use mathlib.Core.Bool.{true, false}
 use mathlib.Core.List.{List, [], _∷_, _++_, append-assoc, append-nil}
-use Prim.Native.Nat.{ℕ, zero, suc, _+_, _*_, _≤_, _<_}
+use Prim.Native.Nat.{ℕ, zero, suc, _+_, _-_, _*_, _/_, _%_, _^_, _≤_, _<_}
 use native.Mathlib.Omega.{arith}
 use native.Mathlib.Numerals.{add-one}
 use lib.ListN.{length, take, drop, getD, replicate, length-append, length-drop, length-replicate}
@@ -10,14 +10,17 @@ use lib.Seq.{length-take-le, take-suc, getD-drop}
 use Rattle.wire.specs.Bytes.{bytes, bytesOf, bytes-length, row-length}
 use Rattle.laws.specs.Define.{tab}
 use Rattle.laws.specs.Tables.{tab-length}
-use Rattle.wire.specs.Put.{put, put-two, put-three}
+use Rattle.wire.specs.Put.{put, put-two, put-three, bytes-one}
 use Rattle.floor.specs.declared.Canister.{Canister}
 use Rattle.floor.specs.declared.Settings.{Settings}
 use Rattle.floor.specs.declared.Counters.{Counters}
 use Rattle.floor.specs.declared.Tile.{Tile}
+use Rattle.floor.specs.declared.Layout.{Layout}
+use Rattle.floor.specs.Layouts.{letters}
 use Rattle.floor.specs.Memory.{stateFrom}
-use Rattle.image.specs.Image.{lowest, several, recordOf, settingsBody, countersBody, canistersBody, tileBody}
-use Rattle.image.proofs.Sizes.{fours, settings-size, counters-size, canister-size, canisters-size, tile-size}
+use Rattle.image.specs.Image.{lowest, several, recordOf, settingsBody, countersBody, canistersBody, tileBody, layoutBody}
+use Rattle.image.proofs.Sizes.{fours, settings-size, counters-size, canister-size, canisters-size, tile-size, layout-size}
+use Rattle.image.proofs.Layouts.{letters-length}
 use Rattle.records.specs.Parts.{canisterBytes, measuresBytes, headBytes, frontBytes}
 
 -- ---- lengths
@@ -117,3 +120,26 @@ unfolding frontBytes recordOf tileBody bytesOf
 tile-record t h l e =
     let m : length (tileBody t (stateFrom h l)) ≡ 6 + 8 * h .count = tile-size t (stateFrom h l) ∙ rw e in
     rw (m, e) (simp (append-assoc, append-nil))
+
+-- ---- the record of a layout: byte k of a name
+letters-at : (n k x : ℕ) → k < n → getD (letters n x) k 0 ≡ x / 2 ^ (8 * (n - suc k)) % 256
+unfolding letters
+letters-at zero k x h = absurd (omega arith)
+letters-at (suc n) zero x h = let e : suc n - 1 ≡ n = omega arith in rw e
+letters-at (suc n) (suc k) x h = let e : suc n - suc (suc k) ≡ n - suc k = omega arith in rw e (letters-at n k x (omega arith))
+
+pub name-turn : (s₀ s s′ : List ℕ) (at k x : ℕ) → k < 8 → at + 8 ≤ length s₀ → s ≡ put s₀ at (take k (letters 8 x)) → s′ ≡ put s (at + k) (bytes 1 (x / 2 ^ (56 - 8 * k) % 256)) → s′ ≡ put s₀ at (take (k + 1) (letters 8 x))
+name-turn s₀ s s′ at k x h r p q =
+    let l : List ℕ = letters 8 x in
+    let n : length (take k l) ≡ k = length-take-le k l (omega (arith, letters-length 8 x)) in
+    let e : 8 * (8 - suc k) ≡ 56 - 8 * k = omega arith in
+    let b : bytes 1 (x / 2 ^ (56 - 8 * k) % 256) ≡ getD l k 0 ∷ [] = bytes-one _ (omega arith) ∙ ap (λ (y : ℕ). y ∷ []) (sym (letters-at 8 k x h ∙ ap (λ (j : ℕ). x / 2 ^ j % 256) e)) in
+    rw (add-one, take-suc l k 0 (omega (arith, letters-length 8 x))) (put-two s₀ s s′ at (at + k) (take k l) (getD l k 0 ∷ []) (omega arith) (omega arith) p (q ∙ ap (put s (at + k)) b))
+
+pub name-all : (x : ℕ) → take 8 (letters 8 x) ≡ letters 8 x
+unfolding letters
+name-all x = refl
+
+pub layout-record : (x : Layout) → (bytes 2 16 ++ bytes 2 5) ++ (letters 8 (x .name) ++ bytes 8 (x .set)) ≡ recordOf 5 (layoutBody x)
+unfolding recordOf layoutBody
+layout-record x = rw (layout-size x) (append-assoc (bytes 2 16) (bytes 2 5) (letters 8 (x .name) ++ bytes 8 (x .set)))

@@ -5,10 +5,12 @@ ghost use Prim.Native.Nat.{_+_, _*_, _≤_};
 ghost use lib.ListN.{length};
 ghost use Rattle.wire.specs.Bytes.{bytes};
 ghost use Rattle.wire.specs.Put.{put};
-ghost use Rattle.image.specs.Image.{several, recordOf, settingsBody, countersBody};
+ghost use Rattle.floor.specs.Layouts.{letters};
+ghost use Rattle.image.specs.Image.{several, recordOf, settingsBody, countersBody, layoutBody};
 ghost use Rattle.records.specs.Parts.{canisterBytes, headBytes, frontBytes};
 use floor::Canister;
 use floor::Counters;
+use floor::Layout;
 use floor::Settings;
 use floor::Tile;
 use sets::lowest;
@@ -94,6 +96,29 @@ pub fn put_counters(s: &mut [u8], at: usize, x: Counters, h: u8)
         put_u32(s, at + 12 + 4 * k, d[k]);
         k = k + 1;
     }
+}
+
+// The eight bytes of a name, the first letter first.
+fn put_name(s: &mut [u8], at: usize, x: u64)
+    requires { ⌜ at + 8 ≤ length (now s) ⌝ }
+    ensures { λ r. ⌜ now (s .exit) ≡ put (now (s .entry)) at (letters 8 x) ⌝ }
+{
+    let mut k = 0u8;
+    while k < 8 {
+        let rest = x >> (56 - 8 * k);
+        put_byte(s, at + k as usize, (rest % 256) as u8);
+        k = k + 1;
+    }
+}
+
+// The record of a layout.
+pub fn put_layout(s: &mut [u8], at: usize, x: Layout)
+    requires { ⌜ at + 20 ≤ length (now s) ⌝ }
+    ensures { λ r. ⌜ now (s .exit) ≡ put (now (s .entry)) at (recordOf 5 (layoutBody x)) ⌝ }
+{
+    put_pair(s, at, 16, 5);
+    put_name(s, at + 4, x.name);
+    put_u64(s, at + 12, x.set);
 }
 
 // A canister.

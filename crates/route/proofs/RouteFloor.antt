@@ -11,7 +11,7 @@ use Rattle.floor.specs.declared.Floor.{Floor}
 use Rattle.floor.specs.Settings.{total}
 use Rattle.floor.specs.Grid.{around}
 use Rattle.floor.specs.Model.{TileState, Model, noTile, tileOf, distanceOf, tokenOf, membersOf}
-use Rattle.floor.specs.Memory.{headOf, stateOf, view, head, pack, fits}
+use Rattle.floor.specs.Memory.{headOf, stateOf, view, head, pack, fits, retiled}
 use Rattle.floor.specs.Route.{routeTile, route}
 use Rattle.floor.proofs.Rows.{view-at}
 use Rattle.floor.proofs.Pack.{pack-heads}
@@ -45,7 +45,7 @@ module _ (f : Floor) where
     same t h = ap (λ (x : TileState). x .members) (view-at f t noTile h)
 
     pub route-pack : (ts : List Tile) → Redone (total (f .settings)) (routedAt (f .settings) (f .tiles)) (f .tiles) ts
-        → _≡_ {A = Floor} (record { settings = f .settings; counters = f .counters; tiles = ts; canisters = f .canisters }) (pack (route (view f)))
+        → _≡_ {A = Floor} (retiled f ts) (pack (route (view f)))
     unfolding route view
     route-pack ts r = pack-heads f few ok (routed (view f)) ts (r .0) same (λ t k h. r .1 t h ∙ routed-view t h) (λ t k h. r .2 t h)
 

@@ -3,6 +3,7 @@ ghost use Prim.Native.Nat.{_≤_};
 use floor::Canister;
 use floor::Counters;
 use floor::Delivery;
+use floor::Layout;
 use floor::Tile;
 use libc::STDOUT_FILENO;
 
@@ -60,6 +61,9 @@ fn meaning(n: u8) {
         32 => text(b"the tile is running"),
         33 => text(b"number not above the last booked"),
         34 => text(b"too near a canister of the tile"),
+        44 => text(b"not a name of 1 to 8 letters A to Z"),
+        45 => text(b"no layout has that name"),
+        46 => text(b"eight other names are held"),
         _ => text(b"unknown"),
     }
 }
@@ -250,9 +254,9 @@ pub fn reading(at: u32, t: Tile, members: [Canister; 16]) {
     text(b"\n");
 }
 
-// The tiles of a set of at most four.
+// The tiles of a set.
 fn tiles(set: u64) {
-    let n = at_most(sets::size(set) as usize, 4);
+    let n = at_most(sets::size(set) as usize, 64);
     let mut rest = set;
     let mut k: usize = 0;
     while k < n {
@@ -298,6 +302,52 @@ pub fn repaired(at: u32) {
     text(b"repair: tile ");
     small(at);
     text(b" running\n");
+}
+
+// A name: its bytes before the first zero.
+fn name(letters: [u8; 8]) {
+    let mut n: usize = 0;
+    while n < 8 && letters[n] != 0 {
+        n += 1;
+    }
+    text(&letters[..n]);
+}
+
+// A call about a name that was accepted.
+pub fn named(call: &[u8], letters: [u8; 8]) {
+    text(call);
+    text(b": ");
+    name(letters);
+    text(b" done\n");
+}
+
+// A layout: its name from its number, and its tiles.
+fn layout(number: u64, set: u64) {
+    let mut letters = [0u8; 8];
+    let mut rest = number;
+    for j in 0usize..8 {
+        letters[7 - j] = (rest % 256) as u8;
+        rest = rest / 256;
+    }
+    text(b"layouts: ");
+    name(letters);
+    text(b" runs ");
+    tiles(set);
+    text(b"\n");
+}
+
+// The layouts that are held.
+pub fn layouts(all: [Layout; 8]) {
+    let first = all[0];
+    if first.name == 0 {
+        text(b"layouts: none\n");
+    }
+    for k in 0usize..8 {
+        let x = all[k];
+        if x.name != 0 {
+            layout(x.name, x.set);
+        }
+    }
 }
 
 // n rounds gone; `at` counts all since the floor was fresh.
@@ -408,6 +458,9 @@ pub fn help() {
     text(b"      HOPPER: a tile, or up to four as 0,3\n");
     text(b"      fresh! with the same words: also where the floor holds canisters\n");
     text(b"      book TILE NUMBER A B | stop TILE | repair TILE | round | rounds N | read TILE\n");
+    text(
+        b"      keep NAME | recall NAME | forget NAME | layouts   (NAME: 1 to 8 letters A to Z)\n",
+    );
     text(b"      show | help | quit | # a remark\n");
     text(
         b"      why: of each tile that wasn't empty in the last round, that it moved or why it stood\n",

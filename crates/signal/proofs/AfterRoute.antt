@@ -15,8 +15,8 @@ use Rattle.floor.specs.Well.{wellFormed}
 use Rattle.floor.specs.Route.{route}
 use Rattle.floor.specs.Signal.{signal}
 use Rattle.floor.proofs.Sound.{Faces}
-use Rattle.floor.proofs.Rows.{view-settings}
-use Rattle.floor.proofs.Pack.{state-packed, view-pack, fits-pack, well-sound, well-few, well-settings}
+use Rattle.floor.proofs.Rows.{view-settings, Placed}
+use Rattle.floor.proofs.Pack.{state-packed, view-pack, fits-pack, well-sound, well-few, well-settings, well-placed}
 use Rattle.floor.proofs.Capacity.{sound-small}
 use Rattle.route.proofs.RouteFloor.{route-settings, route-length, route-token, route-members}
 use Rattle.signal.specs.Signalling.{Ready}
@@ -52,18 +52,22 @@ module _ (f : Floor) (w : wellFormed f ≡ true) where
   small : (t : ℕ) → t < total (m .settings) → length (membersOf m t) ≤ 16
   small t h = rw (route-members (view f) t noTile (on t h)) (sound-small (view f) (well-sound f w) t)
 
+  placed : Placed (m .layouts)
+  unfolding route
+  placed = well-placed f w
+
   ready : Ready (m .settings) (pack m .tiles)
   unfolding stateOf
   ready t h =
-      let e : headOf (pack m) t .token .code ≡ tokenOf (view f) t = ap (λ x. x .token) (state-packed m len few small t h) ∙ route-token (view f) t unused (on t h) in
+      let e : headOf (pack m) t .token .code ≡ tokenOf (view f) t = ap (λ x. x .token) (state-packed m len few small placed t h) ∙ route-token (view f) t unused (on t h) in
       rw e (faces-le (view f .settings) t (tokenOf (view f) t) (well-sound f w .token-faces t))
 
   pub signal-asks : (g : Floor) → g ≡ pack m → (settingsPass (g .settings) ≡ true) × (fits g ≡ true) × Ready (g .settings) (g .tiles)
   unfolding pack build
-  signal-asks g e = rw e (rw kept (well-settings f w), fits-pack m len few small, ready)
+  signal-asks g e = rw e (rw kept (well-settings f w), fits-pack m len few small placed, ready)
 
   pub after-route : (g : Floor) → g ≡ pack m → view g ≡ m
-  after-route g e = ap view e ∙ view-pack m len few small
+  after-route g e = ap view e ∙ view-pack m len few small placed
 
   -- ---- the floor after both steps is read back too; for the step that follows
   abbrev last : Model
@@ -83,8 +87,12 @@ module _ (f : Floor) (w : wellFormed f ≡ true) where
       let on : t < total (m .settings) = rw (sym last-settings) h in
       rw (signal-members m t noTile on) (small t on)
 
+  last-placed : Placed (last .layouts)
+  unfolding signal
+  last-placed = placed
+
   pub signalled-view : view (pack (signal (route (view f)))) ≡ signal (route (view f))
-  signalled-view = view-pack last last-len last-few last-small
+  signalled-view = view-pack last last-len last-few last-small last-placed
 
   pub signalled-fits : fits (pack (signal (route (view f)))) ≡ true
-  signalled-fits = fits-pack last last-len last-few last-small
+  signalled-fits = fits-pack last last-len last-few last-small last-placed

@@ -1,4 +1,4 @@
--- Well formed is what the code tests: the settings, tile by tile, the counters, the numbers.
+-- Well formed but for the layouts is what the code tests: the settings, tile by tile, the counters, the numbers.
 use mathlib.Core.Path.{_≡_, refl, sym, ap, _∙_, subst}
 use mathlib.Core.Logic.{_↔_}
 use mathlib.Core.Bool.{Bool, true, false, not, _&&_, _||_, true≢false}
@@ -20,9 +20,11 @@ use Rattle.floor.specs.declared.Floor.{Floor}
 use Rattle.floor.specs.Settings.{total, spacing, hoppersOf, settingsRefusal, settingsPass}
 use Rattle.floor.specs.Model.{tileOf, numbers, numbersOn}
 use Rattle.floor.specs.Memory.{headOf, view, block, tileFits}
-use Rattle.floor.specs.Well.{headSound, inside, apart, inOrder, membersSound, tileSound, numbersSound, countersSound, sound, wellFormed}
+use Rattle.floor.specs.Well.{headSound, inside, apart, inOrder, membersSound, tileSound, numbersSound, countersSound, stateSound, stateWell, wellFormed}
 use Rattle.floor.proofs.Well.{settings-fact, pairs-imp}
-use Rattle.floor.proofs.Rows.{fits-of, tiles-fit-at, view-length}
+use Rattle.floor.proofs.Rows.{state-fits-of, state-fit-at, view-length}
+use Rattle.floor.proofs.Pack.{well-parts}
+use Rattle.floor.proofs.LayoutPlaces.{placeTest, layouts-code}
 use Rattle.unique.specs.Differ.{differ, Runs}
 use Rattle.heads.specs.Head.{Sized}
 use Rattle.places.specs.Place.{memberSound}
@@ -136,12 +138,12 @@ module _ (f : Floor) (all : allBelow (testOf f) 64 ≡ true) where
   keys-run lc = runs-view f lc fit-each positive-each rising-each
 
 -- ---- the parts of sound
-sound-parts : (f : Floor) → sound (view f) ≡ true
+sound-parts : (f : Floor) → stateSound (view f) ≡ true
     ↔ (settingsPass (f .settings) ≡ true × ((eqb (length (view f .tiles)) (total (f .settings)) ≡ true)
     × ((allBelow (λ t. tileSound (f .settings) t (tileOf (view f) t)) (total (f .settings)) ≡ true)
     × ((allOf (λ n. ltb 0 n && leb n (f .counters .last)) (numbersOn (view f)) ≡ true × pairsOf (λ x y. not (eqb x y)) (numbersOn (view f)) ≡ true)
     × (countersSound (length (hoppersOf (f .settings))) (f .counters) (length (numbersOn (view f))) ≡ true)))))
-unfolding sound view numbersSound
+unfolding stateSound view numbersSound
 sound-parts f = r-and (r-id _) (r-and (r-id _) (r-and (r-id _) (r-and (r-and (r-id _) (r-id _)) (r-id _))))
 
 abbrev pub wellTest : Floor → Bool
@@ -151,12 +153,12 @@ module _ (f : Floor) (lt : length (f .tiles) ≡ 64) (lc : length (f .canisters)
   few-of-pass : settingsPass (f .settings) ≡ true → total (f .settings) ≤ 64
   few-of-pass h = settings-fact (f .settings) .0 h .few
 
-  into : wellFormed f ≡ true → wellTest f ≡ true
-  unfolding wellFormed
+  into : stateWell f ≡ true → wellTest f ≡ true
+  unfolding stateWell
   into h =
-      let p = sound-parts f .0 (and-left (sound (view f)) _ h) in
+      let p = sound-parts f .0 (and-left (stateSound (view f)) _ h) in
       let few = few-of-pass (p .0) in
-      let fit = tiles-fit-at f (and-right (sound (view f)) _ h) in
+      let fit = state-fit-at f (and-right (stateSound (view f)) _ h) in
       let nums = subst (λ l. All (Numbered (f .counters .last)) l) (numbers-view f lc few fit) (all-true (λ n. ltb 0 n && leb n (f .counters .last)) (numbersOn (view f)) (p .1 .1 .1 .0 .0)) in
       let one : (t : ℕ) → t < 64 → All (λ c. Numbered (f .counters .last) (c .number)) (usedOf f t)
       = λ t k. all-unmap (Numbered (f .counters .last)) (λ (c : Canister). c .number) (usedOf f t) (cat-all (Numbered (f .counters .last)) 64 (λ t. numbers (usedOf f t)) t k nums) in
@@ -165,8 +167,8 @@ module _ (f : Floor) (lt : length (f .tiles) ≡ 64) (lc : length (f .canisters)
       (and-true all
       (and-true (ap (countersSound (length (hoppersOf (f .settings))) (f .counters)) (sym (count-view f lc few fit)) ∙ p .1 .1 .1 .1) (differ-view f lc few fit (positive-each f all) ∙ p .1 .1 .1 .0 .1)))
 
-  out : wellTest f ≡ true → wellFormed f ≡ true
-  unfolding wellFormed
+  out : wellTest f ≡ true → stateWell f ≡ true
+  unfolding stateWell
   out h =
       let pass = and-left (settingsPass (f .settings)) _ h in
       let h1 = and-right (settingsPass (f .settings)) _ h in
@@ -181,22 +183,22 @@ module _ (f : Floor) (lt : length (f .tiles) ≡ 64) (lc : length (f .canisters)
       let tiles = below-of (λ t. tileSound (f .settings) t (tileOf (view f) t)) (total (f .settings)) (λ t on. let k : t < 64 = omega arith in tile-view f t lc k (fit t k) on ∙ test-tests f t (below-at (testOf f) 64 all t k) on .0) in
       and-true
       (sound-parts f .1 (pass, (eq-eqb _ _ (view-length f), (tiles, ((each, sym (differ-view f lc few fit (positive-each f all)) ∙ dif), ap (countersSound (length (hoppersOf (f .settings))) (f .counters)) (count-view f lc few fit) ∙ cnt)))))
-      (fits-of f lt lc fit)
+      (state-fits-of f lt lc fit)
 
-  pub well-code : wellFormed f ≡ wellTest f
-  well-code = same-test (wellFormed f) (wellTest f) into out
+  pub well-code : stateWell f ≡ wellTest f
+  well-code = same-test (stateWell f) (wellTest f) into out
 
   -- ---- the code's branches
-  pub well-refused : settingsPass (f .settings) ≡ false → false ≡ wellFormed f
+  pub well-refused : settingsPass (f .settings) ≡ false → false ≡ stateWell f
   well-refused h = rw (well-code, h)
 
-  pub well-unlike : settingsPass (f .settings) ≡ true → (t : ℕ) → t < 64 → testOf f t ≡ false → false ≡ wellFormed f
+  pub well-unlike : settingsPass (f .settings) ≡ true → (t : ℕ) → t < 64 → testOf f t ≡ false → false ≡ stateWell f
   well-unlike p t on h = rw (well-code, p, some-fails (testOf f) 64 t on h)
 
-  pub well-tiled : settingsPass (f .settings) ≡ true → allBelow (testOf f) 64 ≡ true → (countersSound (length (hoppersOf (f .settings))) (f .counters) (counted (f .tiles) 64) && differ (numbers (f .canisters))) ≡ wellFormed f
+  pub well-tiled : settingsPass (f .settings) ≡ true → allBelow (testOf f) 64 ≡ true → (countersSound (length (hoppersOf (f .settings))) (f .counters) (counted (f .tiles) 64) && differ (numbers (f .canisters))) ≡ stateWell f
   well-tiled p h = rw (well-code, p, h)
 
-  pub well-empty : settingsPass (f .settings) ≡ true → allBelow (testOf f) 64 ≡ true → counted (f .tiles) 64 ≡ 0 → countersSound (length (hoppersOf (f .settings))) (f .counters) (counted (f .tiles) 64) ≡ wellFormed f
+  pub well-empty : settingsPass (f .settings) ≡ true → allBelow (testOf f) 64 ≡ true → counted (f .tiles) 64 ≡ 0 → countersSound (length (hoppersOf (f .settings))) (f .counters) (counted (f .tiles) 64) ≡ stateWell f
   unfolding pairsOf
   well-empty p h z =
       let few = few-of-pass p in
@@ -217,3 +219,17 @@ pass-not s r e z = ne-eqb (settingsRefusal s) 0 (λ q. z (e ∙ q))
 
 pub pass-sized : (s : Settings) → settingsPass s ≡ true → Sized s × (s .length ≤ s .width)
 pass-sized s h = let m = settings-fact s .0 h in ((m .rows-pos, m .rows-few, m .few), omega (arith, m .short))
+
+-- ---- with the layouts
+no-more : (a : Bool) → false ≡ (a && false)
+no-more true = refl
+no-more false = refl
+
+pub state-off : (f : Floor) → false ≡ stateWell f → false ≡ wellFormed f
+state-off f h = rw (well-parts f, sym h)
+
+pub layouts-off : (f : Floor) → length (f .layouts) ≡ 8 → allBelow (placeTest (f .settings) (f .layouts)) 8 ≡ false → false ≡ wellFormed f
+layouts-off f e h = rw (well-parts f, layouts-code f e, h) (no-more (stateWell f))
+
+pub layouts-on : (f : Floor) → length (f .layouts) ≡ 8 → allBelow (placeTest (f .settings) (f .layouts)) 8 ≡ true → stateWell f ≡ wellFormed f
+layouts-on f e h = rw (well-parts f, layouts-code f e, h) (sym (and-yes (stateWell f)))

@@ -4,7 +4,7 @@ ghost use mathlib.Core.Bool.{true};
 ghost use Prim.Native.Nat.{_≤_, _<_, _^_};
 ghost use lib.ListN.{length};
 ghost use Rattle.floor.specs.Settings.{hoppersOf, settingsPass};
-ghost use Rattle.floor.specs.Well.{countersSound, wellFormed};
+ghost use Rattle.floor.specs.Well.{countersSound, stateWell, wellFormed};
 ghost use Rattle.heads.specs.Head.{Sized};
 ghost use Rattle.soundness.specs.Tile.{tileTest};
 ghost use Rattle.soundness.specs.Code.{counted};
@@ -16,6 +16,7 @@ use floor::Settings;
 use floor::Tile;
 use heads::head_fits;
 use heads::head_ok;
+use layouts::layouts_ok;
 use places::members_ok;
 use places::pairs_ok;
 use places::rest_ok;
@@ -88,11 +89,11 @@ pub fn counters_ok(s: Settings, c: Counters, n: u32) -> bool
     spare & ((booked == sum) & (c.booked <= c.last))
 }
 
-// Well formed, once the settings have passed. The places are read where they stand; where no canister is on the floor, no numbers are compared.
+// Well formed but for the layouts, once the settings have passed. The places are read where they stand; where no canister is on the floor, no numbers are compared.
 // A tile without canisters leaves its numbers zero.
 pub fn scan(f: Floor) -> bool
     requires { ⌜ settingsPass (f .settings) ≡ true ⌝ }
-    ensures { λ r. ⌜ r ≡ wellFormed f ⌝ }
+    ensures { λ r. ⌜ r ≡ stateWell f ⌝ }
 {
     let s = f.settings;
     let counters = f.counters;
@@ -127,13 +128,18 @@ pub fn scan(f: Floor) -> bool
     added & differing
 }
 
-// Well formed. Where the settings don't pass, nothing else is read.
+// Well formed. Where the settings don't pass, nothing else is read. The layouts are copied out: they are few, and the floor is read in one place.
 pub fn well_formed(f: Floor) -> bool
     ensures { λ r. ⌜ r ≡ wellFormed f ⌝ }
 {
     let s = f.settings;
     let refusal = settings_refusal(s);
     if refusal != 0 {
+        return false;
+    }
+    let layouts = f.layouts;
+    let laid = layouts_ok(s, layouts);
+    if !laid {
         return false;
     }
     scan(f)

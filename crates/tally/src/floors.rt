@@ -3,6 +3,7 @@ ghost use Prim.Native.Nat.{_≤_};
 use floor::Answer;
 use floor::Canister;
 use floor::Floor;
+use floor::Name;
 use floor::Settings;
 
 pub fn wide(x: u32) -> u64
@@ -63,6 +64,19 @@ pub fn booked(f: Floor, tile: u32, number: u32, a: u16, b: u16) -> Floor {
 pub fn booking(f: Floor, tile: u32, number: u32, a: u16, b: u16) -> u64 {
     let answer = book(f, tile, number, a, b);
     answer.refusal as u64
+}
+
+// The name of one letter.
+pub fn name(letter: u8) -> Name {
+    Name {
+        letters: [letter, 0, 0, 0, 0, 0, 0, 0],
+    }
+}
+
+// The floor after its running tiles were kept under a name of one letter.
+pub fn kept(f: Floor, letter: u8) -> Floor {
+    let answer = calls::keep(f, name(letter));
+    answer.floor
 }
 
 // n rounds.

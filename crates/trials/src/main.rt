@@ -1,6 +1,7 @@
-// The trials: document 01's small floors, those of [6], floors with several hoppers and a full floor, through the compiled calls.
+// The trials: document 01's small floors, those of [6], floors with several hoppers, named layouts and a full floor, through the compiled calls.
 mod full;
 mod hoppers;
+mod layouts;
 mod small;
 
 use tally::Tally;
@@ -10,5 +11,6 @@ fn main() {
     let a = small::all(start);
     let b = hoppers::all(a);
     let c = full::all(b);
-    tally::end(c);
+    let d = layouts::all(c);
+    tally::end(d);
 }

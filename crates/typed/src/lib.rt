@@ -2,10 +2,12 @@
 ghost use Prim.Native.Nat.{_-_, _<_, _^_};
 ghost use Rattle.laws.specs.Define.{sum};
 ghost use mathlib.Core.Path.{_≡_};
+use floor::Answer;
 use floor::Canister;
 use floor::Counters;
 use floor::Delivery;
 use floor::Floor;
+use floor::Name;
 use floor::Settings;
 use parse::Numbers;
 use parse::Sources;
@@ -352,6 +354,85 @@ fn why(s: Session) -> Session {
     s
 }
 
+// Whether the line has a call's name and one word.
+fn has_name(line: &[u8]) -> bool {
+    !parse::ended(line, 1) & parse::ended(line, 2)
+}
+
+// What a call about a name answered.
+fn answered(s: Session, call: &[u8], letters: [u8; 8], answer: Answer) -> Session {
+    if answer.refusal != 0 {
+        return refused(s, call, answer.refusal);
+    }
+    say::named(call, letters);
+    let mut next = s;
+    let after = answer.floor;
+    next.floor = after;
+    next
+}
+
+fn keep(s: Session, line: &[u8]) -> Session {
+    if !has_name(line) {
+        return cannot(s, line);
+    }
+    let letters = parse::name_at(line, 1);
+    let floor = s.floor;
+    let answer = calls::keep(floor, Name { letters: letters });
+    answered(s, b"keep", letters, answer)
+}
+
+fn recall(s: Session, line: &[u8]) -> Session {
+    if !has_name(line) {
+        return cannot(s, line);
+    }
+    let letters = parse::name_at(line, 1);
+    let floor = s.floor;
+    let answer = calls::recall(floor, Name { letters: letters });
+    answered(s, b"recall", letters, answer)
+}
+
+fn forget(s: Session, line: &[u8]) -> Session {
+    if !has_name(line) {
+        return cannot(s, line);
+    }
+    let letters = parse::name_at(line, 1);
+    let floor = s.floor;
+    let answer = calls::forget(floor, Name { letters: letters });
+    answered(s, b"forget", letters, answer)
+}
+
+// The layouts held, by rising name.
+fn layouts(s: Session, line: &[u8]) -> Session {
+    if !parse::ended(line, 1) {
+        return cannot(s, line);
+    }
+    let floor = s.floor;
+    let answer = calls::read(floor, 0);
+    if answer.refusal != 0 {
+        return refused(s, b"layouts", answer.refusal);
+    }
+    let held = floor.layouts;
+    say::layouts(held);
+    s
+}
+
+// Obeys a line about layouts.
+fn obey_layouts(s: Session, line: &[u8]) -> Session {
+    if parse::is(line, 0, b"keep") {
+        return keep(s, line);
+    }
+    if parse::is(line, 0, b"recall") {
+        return recall(s, line);
+    }
+    if parse::is(line, 0, b"forget") {
+        return forget(s, line);
+    }
+    if parse::is(line, 0, b"layouts") {
+        return layouts(s, line);
+    }
+    rest(s, line)
+}
+
 // Obeys one line.
 pub fn obey(s: Session, line: &[u8]) -> Session {
     if parse::is(line, 0, b"fresh") {
@@ -381,7 +462,7 @@ pub fn obey(s: Session, line: &[u8]) -> Session {
     if parse::is(line, 0, b"show") {
         return show(s, line);
     }
-    rest(s, line)
+    obey_layouts(s, line)
 }
 
 fn rest(s: Session, line: &[u8]) -> Session {

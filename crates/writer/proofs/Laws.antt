@@ -1,31 +1,89 @@
 -- Laws of the writer: the turns of its loops, how long the records of the tiles are, and the whole as the image.
 use mathlib.Core.Path.{_≡_, refl, sym, ap, _∙_}
+use mathlib.Core.Logic.{_≢_}
 use mathlib.Core.Bool.{Bool, true, false, cond}
-use mathlib.Core.List.{List, [], _++_, append-assoc, append-nil}
+use mathlib.Core.List.{List, [], _∷_, _++_, append-assoc, append-nil}
 use Prim.Native.Nat.{ℕ, zero, suc, _+_, _-_, _*_, _≤_, _<_}
 use native.Mathlib.Omega.{arith}
 use native.Mathlib.Numerals.{add-one}
-use lib.ListN.{length, take, drop, getD, length-append, length-drop}
-use lib.Seq.{length-take-le}
-use lib.Dec.{ltb}
+use lib.ListN.{length, take, drop, getD, length-append, length-drop, drop-of-length-le}
+use lib.Seq.{length-take-le, take-suc, drop-cons}
+use lib.Dec.{ltb, eqb}
+use borrow.Author.Tests.{eq-eqb, ne-eqb}
 use Rattle.laws.specs.Define.{tab, bitsBelow}
 use Rattle.laws.specs.SetBits.{bits-within}
 use Rattle.laws.specs.Tables.{tab-same}
 use Rattle.wire.specs.Bytes.{bytes}
-use Rattle.wire.specs.Put.{put, put-three}
+use Rattle.wire.specs.Put.{put, put-two, put-three}
 use Rattle.floor.specs.declared.Canister.{Canister}
 use Rattle.floor.specs.declared.Tile.{Tile}
+use Rattle.floor.specs.declared.Layout.{Layout}
 use Rattle.floor.specs.declared.Floor.{Floor}
 use Rattle.floor.specs.Settings.{total, hoppersOf}
-use Rattle.floor.specs.Memory.{zeroTile, stateOf, view}
+use Rattle.floor.specs.Memory.{zeroTile, zeroLayout, stateOf, usedLayouts, view}
 use Rattle.floor.specs.Well.{wellFormed}
 use Rattle.floor.proofs.Pack.{few-on, well-few, well-fits, well-lengths, well-measured}
-use Rattle.image.specs.Image.{hopperCount, several, recordOf, settingsBody, countersBody, canistersBody, tileBody, tilesBytes, encode}
+use Rattle.image.specs.Image.{hopperCount, several, recordOf, settingsBody, countersBody, canistersBody, tileBody, layoutBody, layoutsBytes, tilesBytes, encode}
 use Rattle.image.proofs.Records.{record-length}
-use Rattle.image.proofs.Sizes.{settings-size, counters-size, canisters-size, tile-size}
+use Rattle.image.proofs.Sizes.{settings-size, counters-size, canisters-size, tile-size, layout-size, layouts-size}
 use Rattle.records.specs.Parts.{frontBytes}
-use Rattle.records.proofs.Laws.{front-length, tile-record}
+use Rattle.records.proofs.Laws.{front-length, tile-record, put-four}
 use Rattle.writer.specs.Upto.{countAt, tileFor, tileRecord, upto}
+
+-- ---- the layouts, one after the other
+layouts-append : (l k : List Layout) → layoutsBytes (l ++ k) ≡ layoutsBytes l ++ layoutsBytes k
+unfolding layoutsBytes
+layouts-append [] k = refl
+layouts-append (x ∷ l) k = rw (layouts-append l k) (sym (append-assoc (recordOf 5 (layoutBody x)) (layoutsBytes l) (layoutsBytes k)))
+
+layouts-one : (x : Layout) → layoutsBytes (x ∷ []) ≡ recordOf 5 (layoutBody x)
+unfolding layoutsBytes
+layouts-one x = append-nil (recordOf 5 (layoutBody x))
+
+pub layouts-none : layoutsBytes [] ≡ []
+unfolding layoutsBytes
+layouts-none = refl
+
+pub layouts-turn : (s₀ s s′ : List ℕ) (from k : ℕ) (l : List Layout) → k < length l → from + 20 * k + 20 ≤ length s₀ → s ≡ put s₀ from (layoutsBytes (take k l)) → s′ ≡ put s (from + 20 * k) (recordOf 5 (layoutBody (getD l k zeroLayout)))
+    → s′ ≡ put s₀ from (layoutsBytes (take (k + 1) l))
+layouts-turn s₀ s s′ from k l h r p q =
+    let x = getD l k zeroLayout in
+    let n : length (layoutsBytes (take k l)) ≡ 20 * k = layouts-size (take k l) ∙ rw (length-take-le k l (omega arith)) in
+    let m : length (recordOf 5 (layoutBody x)) ≡ 20 = rw (record-length 5 (layoutBody x), layout-size x) in
+    rw (add-one, take-suc l k zeroLayout h, layouts-append, layouts-one) (put-two s₀ s s′ from (from + 20 * k) (layoutsBytes (take k l)) (recordOf 5 (layoutBody x)) (omega arith) (omega arith) p q)
+
+used-nil : length (usedLayouts []) ≡ 0
+unfolding usedLayouts
+used-nil = refl
+
+-- those in use stand first
+pub used-take : (l : List Layout) → take (length (usedLayouts l)) l ≡ usedLayouts l
+unfolding usedLayouts
+used-take [] = refl
+used-take (x ∷ l) = go (eqb (x .name) 0) (used-take l)
+  where
+    go : (b : Bool) → take (length (usedLayouts l)) l ≡ usedLayouts l → take (length (cond b [] (x ∷ usedLayouts l))) (x ∷ l) ≡ cond b [] (x ∷ usedLayouts l)
+    go true e = refl
+    go false e = ap (λ (k : List Layout). x ∷ k) e
+
+-- k places with names were passed: the next one ends them, or is one more
+module _ (l : List Layout) (k : ℕ) (h : k < length l) where
+  used-end : getD l k zeroLayout .name ≡ 0 → length (usedLayouts (drop k l)) ≡ 0
+  unfolding usedLayouts
+  used-end e = rw (drop-cons l k zeroLayout h, eq-eqb (getD l k zeroLayout .name) 0 e)
+
+  used-more : getD l k zeroLayout .name ≢ 0 → length (usedLayouts (drop k l)) ≡ suc (length (usedLayouts (drop (suc k) l)))
+  unfolding usedLayouts
+  used-more e = rw (drop-cons l k zeroLayout h, ne-eqb (getD l k zeroLayout .name) 0 e)
+
+pub used-stop : (l : List Layout) (k : ℕ) → k < length l → length (usedLayouts l) ≡ k + length (usedLayouts (drop k l)) → getD l k zeroLayout .name ≡ 0 → k ≡ length (usedLayouts l)
+used-stop l k h p e = omega (arith, p, used-end l k h e)
+
+pub used-turn : (l : List Layout) (k : ℕ) → k < length l → length (usedLayouts l) ≡ k + length (usedLayouts (drop k l)) → getD l k zeroLayout .name ≢ 0 → length (usedLayouts l) ≡ k + 1 + length (usedLayouts (drop (k + 1) l))
+used-turn l k h p e = rw (add-one k) (omega (arith, p, used-more l k h e))
+
+pub used-all : (l : List Layout) (k : ℕ) → length l ≤ k → length (usedLayouts l) ≡ k + length (usedLayouts (drop k l)) → k ≡ length (usedLayouts l)
+used-all l k h p = let e : length (usedLayouts (drop k l)) ≡ 0 = ap (λ (z : List Layout). length (usedLayouts z)) (drop-of-length-le l h) ∙ used-nil in omega (arith, p)
 
 -- ---- the tiles, one after the other
 module _ (hs : List Tile) (cs : List Canister) where
@@ -102,6 +160,16 @@ upto-size hs cs zero h few = refl
 upto-size hs cs (suc t) h few = rw (length-append, record-size hs cs t (omega arith) (few t (omega arith)), upto-size hs cs t (omega arith) (λ u l. few u (omega arith)))
 
 -- ---- the whole
+-- five writes in a row
+pub put-five : (l m k j i o : List ℕ) (at p2 p3 p4 p5 : ℕ) (vs ws xs ys zs : List ℕ) → at + length vs + length ws + length xs + length ys + length zs ≤ length l
+    → p2 ≡ at + length vs → p3 ≡ at + length vs + length ws → p4 ≡ at + length vs + length ws + length xs → p5 ≡ at + length vs + length ws + length xs + length ys
+    → m ≡ put l at vs → k ≡ put m p2 ws → j ≡ put k p3 xs → i ≡ put j p4 ys → o ≡ put i p5 zs → o ≡ put l at (vs ++ (ws ++ (xs ++ (ys ++ zs))))
+put-five l m k j i o at p2 p3 p4 p5 vs ws xs ys zs h e2 e3 e4 e5 a b c d e =
+    let n : length (vs ++ ws) ≡ length vs + length ws = length-append vs ws in
+    let p : k ≡ put l at (vs ++ ws) = put-two l m k at p2 vs ws (omega arith) e2 a b in
+    let q : o ≡ put l at ((vs ++ ws) ++ (xs ++ (ys ++ zs))) = put-four l k j i o at p3 p4 p5 (vs ++ ws) xs ys zs (rw n (omega arith)) (rw n (omega arith)) (rw n (omega arith)) (rw n (omega arith)) p c d e in
+    rw (append-assoc vs ws (xs ++ (ys ++ zs))) at q
+
 pub end-record : bytes 2 0 ++ bytes 2 4 ≡ recordOf 4 []
 unfolding recordOf
 end-record = rw (append-nil (bytes 2 4))
@@ -117,14 +185,14 @@ module _ (f : Floor) where
       let u = upto-tiles (f .tiles) (f .canisters) 0 n in
       rw (states n) (rw (upto-none (f .tiles) (f .canisters), e) at u)
 
-  pub encode-is : encode (view f) ≡ recordOf 1 (settingsBody (f .settings)) ++ (recordOf 2 (countersBody (hopperCount (f .settings)) (f .counters)) ++ (upto (f .tiles) (f .canisters) (total (f .settings)) ++ recordOf 4 []))
+  pub encode-is : encode (view f) ≡ recordOf 1 (settingsBody (f .settings)) ++ (recordOf 2 (countersBody (hopperCount (f .settings)) (f .counters)) ++ (layoutsBytes (usedLayouts (f .layouts)) ++ (upto (f .tiles) (f .canisters) (total (f .settings)) ++ recordOf 4 [])))
   unfolding encode view
   encode-is = rw (tiles-bytes (total (f .settings)))
 
-  pub encode-long : length (encode (view f)) ≡ 4 + length (settingsBody (f .settings)) + (12 + 4 * hopperCount (f .settings)) + length (upto (f .tiles) (f .canisters) (total (f .settings))) + 4
+  pub encode-long : length (encode (view f)) ≡ 4 + length (settingsBody (f .settings)) + (12 + 4 * hopperCount (f .settings)) + 20 * length (usedLayouts (f .layouts)) + length (upto (f .tiles) (f .canisters) (total (f .settings))) + 4
   encode-long =
       let h = hopperCount (f .settings) in
-      rw (encode-is, length-append, record-length 1 (settingsBody (f .settings)), length-append, record-length 2 (countersBody h (f .counters)), counters-size h (f .counters), length-append, record-length 4 [])
+      rw (encode-is, length-append, record-length 1 (settingsBody (f .settings)), length-append, record-length 2 (countersBody h (f .counters)), counters-size h (f .counters), length-append, layouts-size (usedLayouts (f .layouts)), length-append, record-length 4 [])
       (omega arith)
 
 -- a well-formed floor has what the writer asks for
@@ -132,10 +200,10 @@ module _ (f : Floor) (w : wellFormed f ≡ true) where
   pub counts-few : (t : ℕ) → t < total (f .settings) → countAt (f .tiles) t ≤ 16
   counts-few t l = few-on f (well-few f w) (well-fits f w) t l
 
-  pub encode-heads : length (encode (view f)) ≡ 4 + length (settingsBody (f .settings)) + (12 + 4 * hopperCount (f .settings)) + headsSize (f .tiles) (total (f .settings)) + 4
+  pub encode-heads : length (encode (view f)) ≡ 4 + length (settingsBody (f .settings)) + (12 + 4 * hopperCount (f .settings)) + 20 * length (usedLayouts (f .layouts)) + headsSize (f .tiles) (total (f .settings)) + 4
   encode-heads =
       let n = well-lengths f w .1 in
-      encode-long f ∙ ap (λ (k : ℕ). 4 + length (settingsBody (f .settings)) + (12 + 4 * hopperCount (f .settings)) + k + 4) (upto-size (f .tiles) (f .canisters) (total (f .settings)) (omega (arith, n, well-few f w)) counts-few)
+      encode-long f ∙ ap (λ (k : ℕ). 4 + length (settingsBody (f .settings)) + (12 + 4 * hopperCount (f .settings)) + 20 * length (usedLayouts (f .layouts)) + k + 4) (upto-size (f .tiles) (f .canisters) (total (f .settings)) (omega (arith, n, well-few f w)) counts-few)
 
   -- how many hoppers the code counts, and how long record 1 is
   pub hoppers-are : (h : ℕ) → h ≡ length (bitsBelow (f .settings .hoppers) 64) → h ≡ hopperCount (f .settings)

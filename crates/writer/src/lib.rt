@@ -1,23 +1,53 @@
 // Writing an image: how long it is, and all its records into a buffer that has room for them. The other bytes stay.
 ghost use mathlib.Core.Path.{_≡_};
 ghost use mathlib.Core.Bool.{true, cond};
-ghost use Prim.Native.Nat.{ℕ, _+_, _≤_, _<_};
+ghost use Prim.Native.Nat.{ℕ, _+_, _*_, _≤_, _<_};
 ghost use lib.Dec.{ltb};
-ghost use lib.ListN.{length};
+ghost use lib.ListN.{length, take};
 ghost use Rattle.wire.specs.Put.{put};
-ghost use Rattle.floor.specs.Memory.{view};
+ghost use Rattle.floor.specs.Memory.{usedLayouts, view};
 ghost use Rattle.floor.specs.Well.{wellFormed};
-ghost use Rattle.image.specs.Image.{encode};
+ghost use Rattle.image.specs.Image.{layoutsBytes, encode};
 ghost use Rattle.writer.specs.Upto.{countAt, upto};
 use floor::Canister;
 use floor::Floor;
+use floor::Layout;
 use floor::Tile;
 use records::put_canister;
 use records::put_counters;
 use records::put_front;
+use records::put_layout;
 use records::put_pair;
 use records::put_settings;
 use sets::size;
+
+// How many of the eight places hold a layout.
+fn laid_out(all: [Layout; 8]) -> usize
+    ensures { λ r. ⌜ (r ≡ length (usedLayouts all)) × (r ≤ 8) ⌝ }
+{
+    let mut k = 0usize;
+    while k < 8 {
+        let x = all[k];
+        if x.name == 0 {
+            return k;
+        }
+        k = k + 1;
+    }
+    k
+}
+
+// The records of the first n layouts.
+fn put_layouts(s: &mut [u8], from: usize, all: [Layout; 8], n: usize)
+    requires { ⌜ (n ≤ 8) × (from + 20 * n ≤ length (now s)) ⌝ }
+    ensures { λ r. ⌜ now (s .exit) ≡ put (now (s .entry)) from (layoutsBytes (take n all)) ⌝ }
+{
+    let mut k = 0usize;
+    while k < n {
+        let x = all[k];
+        put_layout(s, from + 20 * k, x);
+        k = k + 1;
+    }
+}
 
 // The records of the first c tiles; the answer is the place after them. Each canister is written straight from its place.
 fn put_tiles(s: &mut [u8], from: usize, tiles: [Tile; 64], all: [Canister; 1024], c: usize) -> usize
@@ -61,7 +91,9 @@ pub fn image_length(f: Floor) -> u32
     let c = (f.settings.columns as usize) * (f.settings.rows as usize);
     let h = size(f.settings.hoppers);
     let first = first_length(h);
-    let mut n = first as u32 + 16 + 4 * (h as u32);
+    let layouts = f.layouts;
+    let laid = laid_out(layouts);
+    let mut n = first as u32 + 16 + 4 * (h as u32) + 20 * (laid as u32);
     let mut t = 0usize;
     while t < c {
         let head = tiles[t];
@@ -80,12 +112,15 @@ pub fn write_image(f: Floor, buffer: &mut [u8])
     let counters = f.counters;
     let tiles = f.tiles;
     let all = f.canisters;
+    let layouts = f.layouts;
     let c = (settings.columns as usize) * (settings.rows as usize);
     let h = size(settings.hoppers);
     let second = first_length(h);
     put_settings(buffer, 0, settings, 1 < h);
     put_counters(buffer, second, counters, h);
     let third = second + 12 + 4 * (h as usize);
-    let end = put_tiles(buffer, third, tiles, all, c);
+    let laid = laid_out(layouts);
+    put_layouts(buffer, third, layouts, laid);
+    let end = put_tiles(buffer, third + 20 * laid, tiles, all, c);
     put_pair(buffer, end, 0, 4);
 }

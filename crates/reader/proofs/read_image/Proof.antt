@@ -2,9 +2,8 @@ use mathlib.Core.Path.{_≡_, sym, _∙_, subst}
 use mathlib.Core.Logic.{_⊎_}
 use Prim.Native.Nat.{ℕ, _+_, _-_, _*_, _≤_}
 use native.Mathlib.Omega.{arith}
-use native.Mathlib.Nat.{lt-of-le-of-lt}
 use lib.ListN.{length, drop, length-drop}
-use Rattle.reader.proofs.Load.{answer-1, answer-2, answer-3, answer-4, few-code, first-ok, hoppers-are, hoppers-few, no-fault, second-ok, third-fits}
+use Rattle.reader.proofs.Load.{answer-1, answer-2, answer-3, few-code, first-ok, hoppers-are, hoppers-few, no-fault, second-ok, third-fits}
 use Rattle.wire.specs.Bytes.{le}
 use Rattle.image.specs.Image.{recordFault}
 use borrow.Author.Needs.{needs}
@@ -12,13 +11,11 @@ use Rattle.reader.proofs.read_image.Statement.{statement}
 use Rattle.reader.proofs.read_image.Tie as tie
 use Rattle.reader.proofs.read_image.Reads as reads
 use Rattle.reader.proofs.read_image.Lts as lts
-use Rattle.reader.proofs.canisters_of.Reads as canisters-of-reads
 use Rattle.reader.proofs.counters_at.Reads as counters-at-reads
 use Rattle.faults.proofs.record_fault.Reads as record-fault-reads
 use Rattle.reader.proofs.refused.Reads as refused-reads
-use Rattle.faults.proofs.scan_tiles.Reads as scan-tiles-reads
+use Rattle.reader.proofs.rest_of.Reads as rest-of-reads
 use Rattle.faults.proofs.settings_at.Reads as settings-at-reads
-use Rattle.reader.proofs.tiles_of.Reads as tiles-of-reads
 use Rattle.sets.proofs.size.Reads as size-reads
 use Rattle.wire.proofs.u16_at.Reads as u16-at-reads
 
@@ -115,117 +112,44 @@ u16-at-requires-2 c κs =
     let m : 12 + 4 * h ≤ length x - (4 + u) = rw length-drop at (second-ok h (drop (4 + u) x) z2 .enough) in
     omega (arith, m)
 
-add-third : tie.Need-add-third
-add-third c = search needs
+add-rest-of : tie.Need-add-rest-of
+add-rest-of c = search needs
 
-cast-third : tie.Need-cast-third
-cast-third c = search needs
+cast-rest-of : tie.Need-cast-rest-of
+cast-rest-of c = search needs
 
-add-third-2 : tie.Need-add-third-2
-add-third-2 c = search needs
+add-rest-of-2 : tie.Need-add-rest-of-2
+add-rest-of-2 c = search needs
 
-cast-c : tie.Need-cast-c
-cast-c c = search needs
-
-cast-c-2 : tie.Need-cast-c-2
-cast-c-2 c = search needs
-
-mul-c : tie.Need-mul-c
-mul-c c =
-    let x = c .before .before .before .before .before .before .before .before .before .before .before .before .args .s .now in
-    let z1 = no-fault _ (recordFault 1 0 x) (c .before .before .before .before .before .before .before .before .before .before .record-fault .ensures) (c .before .before .before .before .before .before .before .before .before .if1 .left) in
-    let u = c .before .before .before .before .before .before .before .before .u16-at .result in
-    let n1 : u ≡ le 2 x = c .before .before .before .before .before .before .before .before .u16-at .ensures in
-    let st = c .before .before .before .before .before .before .before .settings-at .result in
-    let se = c .before .before .before .before .before .before .before .settings-at .ensures in
-    let h = c .before .before .before .before .before .before .size .result in
-    let he = hoppers-are x z1 u n1 st se h (c .before .before .before .before .before .before .size .ensures) in
-    let z2 = no-fault _ (recordFault 2 h (drop (4 + u) x)) (c .before .before .before .before .before .record-fault2 .ensures) (c .before .before .before .before .if2 .left) in
-    let w = c .before .before .u16-at2 .result in
-    let n2 : w ≡ le 2 (drop (4 + u) x) = c .before .before .u16-at2 .ensures in
-    record { fits = lt-of-le-of-lt (few-code x z1 u n1 h he z2 w n2 st se) (omega arith) }
-
-scan-tiles-requires : tie.Need-scan-tiles-requires
-scan-tiles-requires c κs =
-    let x = c .before .before .before .before .before .before .before .before .before .before .before .before .args .s .now in
-    let z1 = no-fault _ (recordFault 1 0 x) (c .before .before .before .before .before .before .before .before .before .before .record-fault .ensures) (c .before .before .before .before .before .before .before .before .before .if1 .left) in
-    let u = c .before .before .before .before .before .before .before .before .u16-at .result in
-    let n1 : u ≡ le 2 x = c .before .before .before .before .before .before .before .before .u16-at .ensures in
-    let st = c .before .before .before .before .before .before .before .settings-at .result in
-    let se = c .before .before .before .before .before .before .before .settings-at .ensures in
-    let h = c .before .before .before .before .before .before .size .result in
-    let he = hoppers-are x z1 u n1 st se h (c .before .before .before .before .before .before .size .ensures) in
-    let z2 = no-fault _ (recordFault 2 h (drop (4 + u) x)) (c .before .before .before .before .before .record-fault2 .ensures) (c .before .before .before .before .if2 .left) in
-    let w = c .before .before .u16-at2 .result in
-    let n2 : w ≡ le 2 (drop (4 + u) x) = c .before .before .u16-at2 .ensures in
+rest-of-requires : tie.Need-rest-of-requires
+rest-of-requires c κs =
+    let x = c .before .before .before .before .before .before .before .before .before .before .args .s .now in
+    let z1 = no-fault _ (recordFault 1 0 x) (c .before .before .before .before .before .before .before .before .record-fault .ensures) (c .before .before .before .before .before .before .before .if1 .left) in
+    let u = c .before .before .before .before .before .before .u16-at .result in
+    let n1 : u ≡ le 2 x = c .before .before .before .before .before .before .u16-at .ensures in
+    let st = c .before .before .before .before .before .settings-at .result in
+    let se = c .before .before .before .before .before .settings-at .ensures in
+    let h = c .before .before .before .before .size .result in
+    let he = hoppers-are x z1 u n1 st se h (c .before .before .before .before .size .ensures) in
+    let z2 = no-fault _ (recordFault 2 h (drop (4 + u) x)) (c .before .before .before .record-fault2 .ensures) (c .before .before .if2 .left) in
+    let w = c .u16-at2 .result in
+    let n2 : w ≡ le 2 (drop (4 + u) x) = c .u16-at2 .ensures in
     (third-fits x z1 u n1 h he z2 w n2 st se, few-code x z1 u n1 h he z2 w n2 st se)
-
-refused-requires-3 : tie.Need-refused-requires-3
-refused-requires-3 c κs = search needs
 
 returns-3 : tie.Need-returns-3
 returns-3 c =
-    let x = c .before .before .before .before .before .before .before .before .before .before .before .before .before .before .before .before .args .s .now in
-    let z1 = no-fault _ (recordFault 1 0 x) (c .before .before .before .before .before .before .before .before .before .before .before .before .before .before .record-fault .ensures) (c .before .before .before .before .before .before .before .before .before .before .before .before .before .if1 .left) in
-    let u = c .before .before .before .before .before .before .before .before .before .before .before .before .u16-at .result in
-    let n1 : u ≡ le 2 x = c .before .before .before .before .before .before .before .before .before .before .before .before .u16-at .ensures in
-    let st = c .before .before .before .before .before .before .before .before .before .before .before .settings-at .result in
-    let se = c .before .before .before .before .before .before .before .before .before .before .before .settings-at .ensures in
-    let h = c .before .before .before .before .before .before .before .before .before .before .size .result in
-    let he = hoppers-are x z1 u n1 st se h (c .before .before .before .before .before .before .before .before .before .before .size .ensures) in
-    let z2 = no-fault _ (recordFault 2 h (drop (4 + u) x)) (c .before .before .before .before .before .before .before .before .before .record-fault2 .ensures) (c .before .before .before .before .before .before .before .before .if2 .left) in
-    let w = c .before .before .before .before .before .before .u16-at2 .result in
-    let n2 : w ≡ le 2 (drop (4 + u) x) = c .before .before .before .before .before .before .u16-at2 .ensures in
-    c .refused3 .ensures ∙ answer-3 x z1 u n1 h he z2 w n2 st se _ (c .before .before .before .scan-tiles .ensures .0) (c .before .if3 .taken)
-
-tiles-of-requires : tie.Need-tiles-of-requires
-tiles-of-requires c κs =
-    let x = c .before .before .before .before .before .before .before .before .before .before .before .before .before .before .before .before .args .s .now in
-    let z1 = no-fault _ (recordFault 1 0 x) (c .before .before .before .before .before .before .before .before .before .before .before .before .before .before .record-fault .ensures) (c .before .before .before .before .before .before .before .before .before .before .before .before .before .if1 .left) in
-    let u = c .before .before .before .before .before .before .before .before .before .before .before .before .u16-at .result in
-    let n1 : u ≡ le 2 x = c .before .before .before .before .before .before .before .before .before .before .before .before .u16-at .ensures in
-    let st = c .before .before .before .before .before .before .before .before .before .before .before .settings-at .result in
-    let se = c .before .before .before .before .before .before .before .before .before .before .before .settings-at .ensures in
-    let h = c .before .before .before .before .before .before .before .before .before .before .size .result in
-    let he = hoppers-are x z1 u n1 st se h (c .before .before .before .before .before .before .before .before .before .before .size .ensures) in
-    let z2 = no-fault _ (recordFault 2 h (drop (4 + u) x)) (c .before .before .before .before .before .before .before .before .before .record-fault2 .ensures) (c .before .before .before .before .before .before .before .before .if2 .left) in
-    let w = c .before .before .before .before .before .before .u16-at2 .result in
-    let n2 : w ≡ le 2 (drop (4 + u) x) = c .before .before .before .before .before .before .u16-at2 .ensures in
-    let ss = c .before .before .before .scan-tiles .ensures .1 (c .before .if3 .left) in
-    (few-code x z1 u n1 h he z2 w n2 st se, λ t h. omega (arith, ss t h .room))
-
-canisters-of-requires : tie.Need-canisters-of-requires
-canisters-of-requires c κs =
-    let x = c .before .before .before .before .before .before .before .before .before .before .before .before .before .before .before .before .before .args .s .now in
-    let z1 = no-fault _ (recordFault 1 0 x) (c .before .before .before .before .before .before .before .before .before .before .before .before .before .before .before .record-fault .ensures) (c .before .before .before .before .before .before .before .before .before .before .before .before .before .before .if1 .left) in
-    let u = c .before .before .before .before .before .before .before .before .before .before .before .before .before .u16-at .result in
-    let n1 : u ≡ le 2 x = c .before .before .before .before .before .before .before .before .before .before .before .before .before .u16-at .ensures in
-    let st = c .before .before .before .before .before .before .before .before .before .before .before .before .settings-at .result in
-    let se = c .before .before .before .before .before .before .before .before .before .before .before .before .settings-at .ensures in
-    let h = c .before .before .before .before .before .before .before .before .before .before .before .size .result in
-    let he = hoppers-are x z1 u n1 st se h (c .before .before .before .before .before .before .before .before .before .before .before .size .ensures) in
-    let z2 = no-fault _ (recordFault 2 h (drop (4 + u) x)) (c .before .before .before .before .before .before .before .before .before .before .record-fault2 .ensures) (c .before .before .before .before .before .before .before .before .before .if2 .left) in
-    let w = c .before .before .before .before .before .before .before .u16-at2 .result in
-    let n2 : w ≡ le 2 (drop (4 + u) x) = c .before .before .before .before .before .before .before .u16-at2 .ensures in
-    let ss = c .before .before .before .before .scan-tiles .ensures .1 (c .before .before .if3 .left) in
-    (few-code x z1 u n1 h he z2 w n2 st se, λ t h. ss t h .room, λ t h. ss t h .few)
-
-returns-4 : tie.Need-returns-4
-returns-4 c =
-    let x = c .before .before .before .before .before .before .before .before .before .before .before .before .before .before .before .before .before .before .args .s .now in
-    let z1 = no-fault _ (recordFault 1 0 x) (c .before .before .before .before .before .before .before .before .before .before .before .before .before .before .before .before .record-fault .ensures) (c .before .before .before .before .before .before .before .before .before .before .before .before .before .before .before .if1 .left) in
-    let u = c .before .before .before .before .before .before .before .before .before .before .before .before .before .before .u16-at .result in
-    let n1 : u ≡ le 2 x = c .before .before .before .before .before .before .before .before .before .before .before .before .before .before .u16-at .ensures in
-    let st = c .before .before .before .before .before .before .before .before .before .before .before .before .before .settings-at .result in
-    let se = c .before .before .before .before .before .before .before .before .before .before .before .before .before .settings-at .ensures in
-    let h = c .before .before .before .before .before .before .before .before .before .before .before .before .size .result in
-    let he = hoppers-are x z1 u n1 st se h (c .before .before .before .before .before .before .before .before .before .before .before .before .size .ensures) in
-    let z2 = no-fault _ (recordFault 2 h (drop (4 + u) x)) (c .before .before .before .before .before .before .before .before .before .before .before .record-fault2 .ensures) (c .before .before .before .before .before .before .before .before .before .before .if2 .left) in
-    let w = c .before .before .before .before .before .before .before .before .u16-at2 .result in
-    let n2 : w ≡ le 2 (drop (4 + u) x) = c .before .before .before .before .before .before .before .before .u16-at2 .ensures in
-    let sc = c .before .before .before .before .before .scan-tiles .ensures in
-    let z3 = c .before .before .before .if3 .left in
-    answer-4 x z1 u n1 h he z2 w n2 st se _ _ _ (c .before .before .before .before .before .scan-tiles .result .starts) (c .before .before .before .before .before .before .before .before .before .counters-at .ensures) (sym z3 ∙ sc .0) (sc .1 z3) (c .before .tiles-of .ensures) (c .canisters-of .ensures)
+    let x = c .before .before .before .before .before .before .before .before .before .before .before .args .s .now in
+    let z1 = no-fault _ (recordFault 1 0 x) (c .before .before .before .before .before .before .before .before .before .record-fault .ensures) (c .before .before .before .before .before .before .before .before .if1 .left) in
+    let u = c .before .before .before .before .before .before .before .u16-at .result in
+    let n1 : u ≡ le 2 x = c .before .before .before .before .before .before .before .u16-at .ensures in
+    let st = c .before .before .before .before .before .before .settings-at .result in
+    let se = c .before .before .before .before .before .before .settings-at .ensures in
+    let h = c .before .before .before .before .before .size .result in
+    let he = hoppers-are x z1 u n1 st se h (c .before .before .before .before .before .size .ensures) in
+    let z2 = no-fault _ (recordFault 2 h (drop (4 + u) x)) (c .before .before .before .before .record-fault2 .ensures) (c .before .before .before .if2 .left) in
+    let w = c .before .u16-at2 .result in
+    let n2 : w ≡ le 2 (drop (4 + u) x) = c .before .u16-at2 .ensures in
+    answer-3 x z1 u n1 h he z2 w n2 st se _ _ (c .before .before .counters-at .ensures) (c .rest-of .ensures)
 
 pub read-image-spec : {M : Type 1} → statement M
 read-image-spec =
@@ -245,15 +169,8 @@ read-image-spec =
     add-counters-at
     counters-at-requires
     u16-at-requires-2
-    add-third
-    cast-third
-    add-third-2
-    cast-c
-    cast-c-2
-    mul-c
-    scan-tiles-requires
-    refused-requires-3
-    returns-3
-    tiles-of-requires
-    canisters-of-requires
-    returns-4)
+    add-rest-of
+    cast-rest-of
+    add-rest-of-2
+    rest-of-requires
+    returns-3)

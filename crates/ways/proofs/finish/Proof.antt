@@ -1,5 +1,6 @@
 use mathlib.Core.Path.{ap}
 use Rattle.floor.specs.declared.Counters.{Counters}
+use Rattle.floor.specs.Memory.{refilled}
 use borrow.Author.Needs.{needs}
 use Rattle.ways.proofs.finish.Statement.{statement}
 use Rattle.ways.proofs.finish.Tie as tie
@@ -17,7 +18,7 @@ returns c =
     ap
     (λ (x : Counters). record {
       refusal = 0;
-      floor = record { settings = f .settings; counters = x; tiles = f .tiles; canisters = f .canisters };
+      floor = refilled f x (f .tiles) (f .canisters);
       report = record { grants = a .grants; reasons = a .reasons; missing = a .missing; deliveries = a .came .deliveries };
     })
     (c .raise .ensures)
