@@ -6,7 +6,7 @@
    numbers given at each call stand in the order in which they are tested.
 
    What the caller owes: a pointer to `length` bytes that stay valid and that nobody else writes during the call (any
-   pointer but NULL where length is 0); for ceromby_write nobody else reads them either. A floor takes 8,568 bytes, and a
+   pointer but NULL where length is 0); for ceromby_write nobody else reads them either. A floor takes 8,696 bytes, and a
    call about 100 KB of stack. */
 
 #ifndef CEROMBY_H
@@ -27,14 +27,18 @@ extern "C" {
 #define CEROMBY_SIDE_EAST 4
 
 #define CEROMBY_DISTANCE_NONE 255
-#define CEROMBY_LONGEST_IMAGE 8748 /* with one hopper; the longest with more is shorter */
+#define CEROMBY_LONGEST_IMAGE 8908 /* with eight layouts and one hopper; the longest with more hoppers is shorter */
 
 #define CEROMBY_MAX_TILES 64
 #define CEROMBY_MAX_HOPPERS 4
 #define CEROMBY_PLACES 16 /* canister places of one tile */
+#define CEROMBY_MAX_LAYOUTS 8
 
 /* The set of one tile, 0 to 63: with one hopper, .hoppers = CEROMBY_TILE(5). Sets are joined by |. */
 #define CEROMBY_TILE(t) (UINT64_C(1) << (t))
+
+/* One of the eight letters of a ceromby_layout's name, 0 to 7; 0 after the last. */
+#define CEROMBY_LETTER(layout, at) ((char)((layout).name >> (56 - 8 * (at)) & 255))
 
 /* Why a tile stood in a round; the first that fits. */
 #define CEROMBY_REASON_STOPPED 1
@@ -67,6 +71,11 @@ extern "C" {
 #define CEROMBY_RUNNING 32        /* repair of a running tile */
 #define CEROMBY_NUMBER_USED 33    /* canister number not above the last booked */
 #define CEROMBY_TOO_CLOSE 34      /* some canister of the tile differs by less than d = l + r in both a and b */
+
+/* Refused because of a layout's name. */
+#define CEROMBY_BAD_NAME 44       /* not 1 to 8 letters A to Z, then zeros */
+#define CEROMBY_NAME_NOT_HELD 45  /* recalling or forgetting a name that isn't held */
+#define CEROMBY_LAYOUTS_FULL 46   /* keeping under a new name with eight held */
 
 typedef struct ceromby_canister {
     uint32_t number; /* never 0 on a floor */
@@ -108,13 +117,26 @@ typedef struct ceromby_counters {
     uint32_t delivered[CEROMBY_MAX_HOPPERS];
 } ceromby_counters;
 
+/* A name for a layout: 1 to 8 letters A to Z, then zeros, as in {.letters = "NETS"}. Any bytes may stand here; what is no
+   name is refused by 44. Never cut a longer name to eight letters, which may be another's: hand in {{0}} in its place. */
+typedef struct ceromby_name {
+    uint8_t letters[8];
+} ceromby_name;
+
+/* The tiles that ran when it was kept. */
+typedef struct ceromby_layout {
+    uint64_t name; /* the first letter in the highest byte, so that names rise as numbers do; "AB": 0x4142000000000000 */
+    uint64_t set;  /* bit t for tile t; it holds every hopper */
+} ceromby_layout;
+
 /* Canisters of tile t are at places 16 t to 16 t + count - 1, by rising number.
-   Unused places and tiles are zero. */
+   Layouts stand first to last by rising name, each name once. Unused places and tiles are zero. */
 typedef struct ceromby_floor {
     ceromby_settings settings;
     ceromby_counters counters;
     ceromby_tile tiles[CEROMBY_MAX_TILES];
     ceromby_canister canisters[CEROMBY_MAX_TILES * CEROMBY_PLACES];
+    ceromby_layout layouts[CEROMBY_MAX_LAYOUTS];
 } ceromby_floor;
 
 /* What one hopper took in. */
@@ -166,6 +188,17 @@ ceromby_answer ceromby_stop(ceromby_floor floor, uint32_t tile);
 /* Sets a stopped tile running. Refused by 30, 4, 32. */
 ceromby_answer ceromby_repair(ceromby_floor floor, uint32_t tile);
 
+/* Keeps the set of tiles that run under a name, in place of what that name held. Changes no tile.
+   Refused by 30, 44, 46. */
+ceromby_answer ceromby_keep(ceromby_floor floor, ceromby_name name);
+
+/* Frees the place of a name. Changes no tile. Refused by 30, 44, 45. */
+ceromby_answer ceromby_forget(ceromby_floor floor, ceromby_name name);
+
+/* Makes the stops and repairs, in rising tile number, that are needed for just those tiles to run that ran when the layout
+   was kept. All other tiles, canisters and counters stay as they are. Refused by 30, 44, 45. */
+ceromby_answer ceromby_recall(ceromby_floor floor, ceromby_name name);
+
 /* One round: route, signal, move. Refused by 30. */
 ceromby_rounded ceromby_round(ceromby_floor floor);
 
@@ -175,7 +208,8 @@ ceromby_reading ceromby_read(ceromby_floor floor, uint32_t tile);
 /* The floor of an image. Refused by the first fault in reading order: within a record 9, 10, 11, then 1, 2, 3; then 9 for
    bytes left over, then 12. With several hoppers the settings' record has 28 bytes, the set last and its
    lowest tile as the hopper byte (else 11; not tested for an empty set), and is 2 unless that has
-   two to four tiles of the floor; the counters' record has one delivered counter for each. */
+   two to four tiles of the floor; the counters' record has one delivered counter for each. Up to eight layouts follow
+   the counters, each in a record of 16 bytes (else 11); a ninth is 10. Older images have none. */
 ceromby_answer ceromby_load(const uint8_t *bytes, size_t length);
 
 /* Writes an image and leaves the bytes after it. Refused by 30, 13. */

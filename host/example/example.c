@@ -67,6 +67,41 @@ static void store(ceromby_floor floor) {
            memcmp(image, again, written.length) == 0 ? "the same bytes" : "other bytes");
 }
 
+static void list(const char *what, ceromby_answer answer) {
+    printf("%s: %u, layouts", what, answer.refusal);
+    for (unsigned i = 0; i < CEROMBY_MAX_LAYOUTS && answer.floor.layouts[i].name; i++) {
+        ceromby_layout layout = answer.floor.layouts[i];
+        printf(" ");
+        for (unsigned at = 0; at < 8 && CEROMBY_LETTER(layout, at); at++)
+            printf("%c", CEROMBY_LETTER(layout, at));
+        for (unsigned tile = 0; tile < 2; tile++)
+            if (layout.set & CEROMBY_TILE(tile))
+                printf(" %u", tile);
+    }
+    printf("\n");
+}
+
+/* Tile 0 stands while the nets are cleaned. */
+static void clean_nets(ceromby_floor floor) {
+    ceromby_name all = {.letters = "ALL"}, nets = {.letters = "NETS"}, small = {.letters = "nets"};
+    ceromby_answer answer = ceromby_keep(floor, all);
+    list("keep ALL", answer);
+    answer = ceromby_keep(ceromby_stop(answer.floor, 0).floor, nets);
+    list("keep NETS", answer);
+    answer = ceromby_recall(answer.floor, all);
+    list("recall ALL", answer);
+    show("  after", answer.floor);
+    answer = ceromby_recall(answer.floor, nets);
+    list("recall NETS", answer);
+    show("  after", answer.floor);
+    static uint8_t image[CEROMBY_LONGEST_IMAGE];
+    ceromby_written written = ceromby_write(answer.floor, image, sizeof image);
+    list("load", ceromby_load(image, written.length));
+    list("forget ALL", ceromby_forget(answer.floor, all));
+    printf("keep nets: %u\n", ceromby_keep(floor, small).refusal);
+    printf("recall NETS before it was kept: %u\n", ceromby_recall(floor, nets).refusal);
+}
+
 /* Two canisters on three tiles: the second is in the way of the first. */
 static void stand(ceromby_settings settings) {
     settings.columns = 3;
@@ -103,5 +138,6 @@ int main(void) {
     printf("book canister 5: %u\n", answer.refusal);
     store(stop(deliver(answer.floor)));
     stand(settings);
+    clean_nets(ceromby_fresh(settings).floor);
     return 0;
 }

@@ -33,11 +33,17 @@ static void values(void) {
     FIELD(counters, last);
     FIELD(counters, booked);
     FIELD(counters, delivered);
+    SIZE(name);
+    FIELD(name, letters);
+    SIZE(layout);
+    FIELD(layout, name);
+    FIELD(layout, set);
     SIZE(floor);
     FIELD(floor, settings);
     FIELD(floor, counters);
     FIELD(floor, tiles);
     FIELD(floor, canisters);
+    FIELD(floor, layouts);
 }
 
 static void answers(void) {

@@ -106,6 +106,10 @@ fn ours(floor: &Floor) -> ceromby::Floor {
             a: canister.a,
             b: canister.b,
         }),
+        layouts: floor.layouts.map(|layout| ceromby::Layout {
+            name: layout.name,
+            set: layout.set,
+        }),
     }
 }
 

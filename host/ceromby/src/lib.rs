@@ -4,18 +4,22 @@
 mod types;
 
 pub use types::{
-    reason, Answer, Canister, Counters, Delivery, Floor, Reading, Report, Rounded, Settings, Side,
-    Tile, Written, DISTANCE_NONE, LONGEST_IMAGE, MAX_HOPPERS, MAX_TILES, PLACES,
+    reason, Answer, Canister, Counters, Delivery, Floor, Layout, Name, Reading, Report, Rounded,
+    Settings, Side, Tile, Written, DISTANCE_NONE, LONGEST_IMAGE, MAX_HOPPERS, MAX_LAYOUTS,
+    MAX_TILES, PLACES,
 };
 
 mod raw {
-    use crate::types::{Answer, Canister, Floor, Reading, Rounded, Settings, Written};
+    use crate::types::{Answer, Canister, Floor, Name, Reading, Rounded, Settings, Written};
 
     extern "C" {
         pub fn ceromby_fresh(settings: Settings) -> Answer;
         pub fn ceromby_book(floor: Floor, tile: u32, canister: Canister) -> Answer;
         pub fn ceromby_stop(floor: Floor, tile: u32) -> Answer;
         pub fn ceromby_repair(floor: Floor, tile: u32) -> Answer;
+        pub fn ceromby_keep(floor: Floor, name: Name) -> Answer;
+        pub fn ceromby_forget(floor: Floor, name: Name) -> Answer;
+        pub fn ceromby_recall(floor: Floor, name: Name) -> Answer;
         pub fn ceromby_round(floor: Floor) -> Rounded;
         pub fn ceromby_read(floor: Floor, tile: u32) -> Reading;
         pub fn ceromby_load(bytes: *const u8, length: usize) -> Answer;
@@ -53,6 +57,24 @@ pub fn stop(floor: &Floor, tile: u32) -> Answer {
 pub fn repair(floor: &Floor, tile: u32) -> Answer {
     // SAFETY: plain values in and out.
     unsafe { raw::ceromby_repair(*floor, tile) }
+}
+
+/// Keeps the tiles that run under a name: `keep(&floor, "NETS")`.
+pub fn keep(floor: &Floor, name: impl Into<Name>) -> Answer {
+    // SAFETY: plain values in and out.
+    unsafe { raw::ceromby_keep(*floor, name.into()) }
+}
+
+/// Frees the place of a name.
+pub fn forget(floor: &Floor, name: impl Into<Name>) -> Answer {
+    // SAFETY: plain values in and out.
+    unsafe { raw::ceromby_forget(*floor, name.into()) }
+}
+
+/// Stops and repairs tiles until just those run that ran when it was kept.
+pub fn recall(floor: &Floor, name: impl Into<Name>) -> Answer {
+    // SAFETY: plain values in and out.
+    unsafe { raw::ceromby_recall(*floor, name.into()) }
 }
 
 /// One round.

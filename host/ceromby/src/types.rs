@@ -1,5 +1,7 @@
 //! The structs of include/ceromby.h.
 
+use std::fmt;
+
 /// Most tiles a floor can have.
 pub const MAX_TILES: usize = 64;
 /// Most hoppers a floor can have.
@@ -8,8 +10,10 @@ pub const MAX_HOPPERS: usize = 4;
 pub const PLACES: usize = 16;
 /// The distance "none". (The side none is 0.)
 pub const DISTANCE_NONE: u8 = 255;
-/// Bytes of the longest image, which has one hopper.
-pub const LONGEST_IMAGE: usize = 8_748;
+/// Most layouts that a floor keeps.
+pub const MAX_LAYOUTS: usize = 8;
+/// Bytes of the longest image, which has eight layouts and one hopper.
+pub const LONGEST_IMAGE: usize = 8_908;
 
 /// Why a tile stood in a round; the first that fits.
 pub mod reason {
@@ -84,6 +88,54 @@ pub struct Counters {
     pub delivered: [u32; MAX_HOPPERS],
 }
 
+/// A name for a layout: 1 to 8 letters A to Z, then zeros. Any bytes may
+/// stand here; what is no name is refused by 44.
+#[repr(C)]
+#[derive(Clone, Copy, PartialEq, Eq, Debug)]
+pub struct Name {
+    pub letters: [u8; 8],
+}
+
+/// Nothing is cut off: text that eight letters can't hold, or that has a zero
+/// in it, becomes the empty name, which is refused by 44.
+impl From<&str> for Name {
+    fn from(text: &str) -> Name {
+        let mut letters = [0; 8];
+        if text.len() <= letters.len() && !text.contains('\0') {
+            letters[..text.len()].copy_from_slice(text.as_bytes());
+        }
+        Name { letters }
+    }
+}
+
+/// The letters alone.
+impl fmt::Display for Name {
+    fn fmt(&self, f: &mut fmt::Formatter) -> fmt::Result {
+        let end = self.letters.iter().position(|byte| *byte == 0);
+        let used = &self.letters[..end.unwrap_or(self.letters.len())];
+        f.pad(&used.escape_ascii().to_string())
+    }
+}
+
+/// The tiles that ran when it was kept.
+#[repr(C)]
+#[derive(Clone, Copy, PartialEq, Eq, Debug)]
+pub struct Layout {
+    /// The first letter in the highest byte, so that names rise as numbers do.
+    pub name: u64,
+    /// It holds every hopper.
+    pub set: u64,
+}
+
+impl Layout {
+    /// The name as letters, `layout.letters().to_string()` as text.
+    pub fn letters(&self) -> Name {
+        Name {
+            letters: self.name.to_be_bytes(),
+        }
+    }
+}
+
 /// Canisters of tile t are at places 16 t to 16 t + count - 1.
 #[repr(C)]
 #[derive(Clone, Copy, PartialEq, Eq, Debug)]
@@ -92,6 +144,8 @@ pub struct Floor {
     pub counters: Counters,
     pub tiles: [Tile; MAX_TILES],
     pub canisters: [Canister; MAX_TILES * PLACES],
+    /// By rising name, then zeros.
+    pub layouts: [Layout; MAX_LAYOUTS],
 }
 
 /// What one hopper took in.

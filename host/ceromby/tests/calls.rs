@@ -1,7 +1,8 @@
 //! One short way through every call.
 
 use ceromby::{
-    book, fresh, load, read, reason, repair, round, stop, tile, write, Canister, Settings,
+    book, forget, fresh, keep, load, read, reason, recall, repair, round, stop, tile, write,
+    Canister, Layout, Name, Settings,
 };
 
 const SETTINGS: Settings = Settings {
@@ -87,6 +88,65 @@ fn why_a_tile_stands() {
     let report = round(&halted).report;
     let expected = [reason::NO_ARROW, reason::STOPPED, reason::EMPTY];
     assert_eq!(report.reasons[..3], expected);
+}
+
+#[test]
+fn layouts() {
+    let all = keep(&fresh(SETTINGS).floor, "ALL").floor;
+    let nets = keep(&stop(&all, 0).floor, "NETS");
+    assert_eq!(nets.refusal, 0);
+    let layouts = nets.floor.layouts;
+    let expected = Layout {
+        name: 0x4e45_5453_0000_0000,
+        set: tile(1),
+    };
+    assert_eq!(layouts[1], expected);
+    assert_eq!(
+        layouts[..2].iter().map(|at| at.set).collect::<Vec<_>>(),
+        [3, 2]
+    );
+    let names = layouts.map(|layout| layout.letters().to_string());
+    assert_eq!(names, ["ALL", "NETS", "", "", "", "", "", ""]);
+    let recalled = recall(&nets.floor, "ALL");
+    assert_eq!((recalled.refusal, recalled.floor.tiles[0].running), (0, 1));
+    let again = recall(&recalled.floor, layouts[1].letters());
+    assert_eq!((again.refusal, again.floor), (0, nets.floor));
+    assert_eq!(recall(&nets.floor, "SOME").refusal, 45);
+    let forgotten = forget(&nets.floor, "ALL");
+    assert_eq!(
+        (forgotten.refusal, forgotten.floor.layouts[0]),
+        (0, expected)
+    );
+    let mut buffer = [0; 104];
+    assert_eq!(write(&nets.floor, &mut buffer).length, 104);
+    assert_eq!(load(&buffer).floor, nets.floor);
+}
+
+#[test]
+fn names_are_never_cut() {
+    let floor = keep(&fresh(SETTINGS).floor, "ABCDEFGH").floor;
+    assert_eq!(recall(&floor, "ABCDEFGH").refusal, 0);
+    let bad = [
+        "",
+        "ABCDEFGHI",
+        "ABCDEFGHIJKLMNOPQRSTUVWXYZ",
+        "ABCDEFGH\0",
+        "abcdefgh",
+        "A B",
+        "Ä",
+    ];
+    for text in bad {
+        assert_eq!(keep(&floor, text).refusal, 44, "{text}");
+        assert_eq!(forget(&floor, text).refusal, 44, "{text}");
+        assert_eq!(recall(&floor, text).refusal, 44, "{text}");
+    }
+    let letters = *b"A\0B\0\0\0\0\0";
+    assert_eq!(keep(&floor, Name { letters }).refusal, 44);
+    let mut malformed = floor;
+    malformed.layouts[0].set = 0;
+    assert_eq!(recall(&malformed, "ABCDEFGHI").refusal, 30);
+    assert_eq!(Name::from("NETS").to_string(), "NETS");
+    assert_eq!(Name::from("NETSOUTHS").letters, [0; 8]);
 }
 
 #[test]

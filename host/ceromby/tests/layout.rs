@@ -3,8 +3,8 @@
 use std::mem::{offset_of, size_of};
 
 use ceromby::{
-    Answer, Canister, Counters, Delivery, Floor, Reading, Report, Rounded, Settings, Side, Tile,
-    Written,
+    Answer, Canister, Counters, Delivery, Floor, Layout, Name, Reading, Report, Rounded, Settings,
+    Side, Tile, Written,
 };
 
 macro_rules! layout {
@@ -29,7 +29,9 @@ fn as_in_c() {
         "tile" Tile { running, distance, next, token, count }
         "settings" Settings { columns, rows, hoppers, sources, width, length, gap, travel }
         "counters" Counters { last, booked, delivered }
-        "floor" Floor { settings, counters, tiles, canisters }
+        "name" Name { letters }
+        "layout" Layout { name, set }
+        "floor" Floor { settings, counters, tiles, canisters, layouts }
         "delivery" Delivery { numbers, count }
         "report" Report { grants, reasons, missing, deliveries }
         "answer" Answer { floor, refusal }

@@ -30,7 +30,8 @@ pub fn kept(before: &Floor, after: &Floor) -> u64 {
     spots.filter(against_order).count() as u64
 }
 
-/// Whether the latest round changed no distance, and no stop or repair came since.
+/// Whether the latest round changed no distance, and no stop or repair came
+/// since, by itself or in a recall.
 #[derive(Default)]
 pub struct Settled(bool);
 
@@ -45,6 +46,9 @@ impl Settled {
     ) -> Result<(), Trouble> {
         match (call, outcome) {
             (Call::Stop { .. } | Call::Repair { .. }, _) => self.0 = false,
+            (Call::Recall { .. }, Outcome::Answer(answer)) => {
+                self.0 &= answer.floor.tiles == before.tiles;
+            }
             (_, Outcome::Round(answer)) => {
                 let ways = |floor: &Floor| floor.tiles.map(|tile| (tile.distance, tile.next));
                 if self.0 && ways(before) != ways(&answer.floor) {

@@ -6,8 +6,8 @@ use std::sync::atomic::{AtomicBool, Ordering};
 
 use oracle::{Answer, Canister, Floor, Reading, Report, RoundAnswer, Settings, Tile, WriteAnswer};
 
-use crate::convert;
-use crate::reasons;
+use crate::layouts::{self, Name};
+use crate::{convert, reasons};
 
 #[derive(Clone, PartialEq, Debug)]
 pub enum Call {
@@ -19,15 +19,21 @@ pub enum Call {
     Read { tile: u32 },
     Write { size: usize },
     Load { bytes: Vec<u8> },
+    Keep { name: Name },
+    Forget { name: Name },
+    Recall { name: Name },
 }
 
-pub const NAMES: [&str; 8] = [
-    "fresh", "book", "stop", "repair", "round", "read", "write", "load",
+pub const NAMES: [&str; 11] = [
+    "fresh", "book", "stop", "repair", "round", "read", "write", "load", "keep", "forget", "recall",
 ];
 
 pub const BOOK: usize = 1;
 pub const STOP: usize = 2;
 pub const REPAIR: usize = 3;
+pub const KEEP: usize = 8;
+pub const FORGET: usize = 9;
+pub const RECALL: usize = 10;
 
 impl Call {
     /// Its place among `NAMES`.
@@ -41,11 +47,24 @@ impl Call {
             Call::Read { .. } => 5,
             Call::Write { .. } => 6,
             Call::Load { .. } => 7,
+            Call::Keep { .. } => KEEP,
+            Call::Forget { .. } => FORGET,
+            Call::Recall { .. } => RECALL,
         }
     }
 
     pub fn name(&self) -> &'static str {
         NAMES[self.kind()]
+    }
+
+    /// Its place among the calls about layouts, and the name of the layout.
+    pub fn layout(&self) -> Option<(usize, &Name)> {
+        match self {
+            Call::Keep { name } | Call::Forget { name } | Call::Recall { name } => {
+                Some((self.kind() - KEEP, name))
+            }
+            _ => None,
+        }
     }
 
     /// The tile that it names.
@@ -60,6 +79,24 @@ impl Call {
     }
 }
 
+/// A name as the binding takes it.
+impl From<&Name> for ceromby::Name {
+    fn from(name: &Name) -> ceromby::Name {
+        match name {
+            Name::Letters(letters) => ceromby::Name { letters: *letters },
+            Name::Text(text) => text.as_str().into(),
+        }
+    }
+}
+
+/// A name as the oracle takes it.
+fn letters(name: &Name) -> [u8; 8] {
+    match name {
+        Name::Letters(letters) => *letters,
+        Name::Text(text) => oracle::name(text),
+    }
+}
+
 impl From<oracle::random::Call> for Call {
     fn from(call: oracle::random::Call) -> Call {
         match call {
@@ -67,6 +104,15 @@ impl From<oracle::random::Call> for Call {
             oracle::random::Call::Stop { tile } => Call::Stop { tile },
             oracle::random::Call::Repair { tile } => Call::Repair { tile },
             oracle::random::Call::Round => Call::Round,
+            oracle::random::Call::Keep { name } => Call::Keep {
+                name: Name::Letters(name),
+            },
+            oracle::random::Call::Forget { name } => Call::Forget {
+                name: Name::Letters(name),
+            },
+            oracle::random::Call::Recall { name } => Call::Recall {
+                name: Name::Letters(name),
+            },
         }
     }
 }
@@ -148,6 +194,9 @@ fn by_library(floor: &Floor, call: &Call) -> Outcome {
             return Outcome::Written(convert::from_written(&answer), buffer);
         }
         Call::Load { bytes } => loaded(bytes),
+        Call::Keep { name } => ceromby::keep(&theirs(), name),
+        Call::Forget { name } => ceromby::forget(&theirs(), name),
+        Call::Recall { name } => ceromby::recall(&theirs(), name),
     };
     Outcome::Answer(convert::from_answer(&answer))
 }
@@ -166,6 +215,9 @@ fn by_oracle(floor: &Floor, call: &Call) -> Outcome {
             return Outcome::Written(answer, buffer);
         }
         Call::Load { bytes } => oracle::load(bytes),
+        Call::Keep { name } => oracle::keep(floor, letters(name)),
+        Call::Forget { name } => oracle::forget(floor, letters(name)),
+        Call::Recall { name } => oracle::recall(floor, letters(name)),
     })
 }
 
@@ -238,7 +290,7 @@ pub fn both(floor: &Floor, call: &Call) -> Result<Outcome, Trouble> {
     }
     match &library {
         Outcome::Round(answer) if answer.refusal == 0 => reasons::check(floor, answer)?,
-        _ => {}
+        _ => layouts::check(floor, call, &library)?,
     }
     Ok(library)
 }
@@ -332,5 +384,6 @@ impl Fields {
         self.note("counters", &one.counters, &other.counters);
         self.each("tile", &one.tiles, &other.tiles);
         self.each("place", &one.canisters, &other.canisters);
+        self.each("layout", &one.layouts, &other.layouts);
     }
 }

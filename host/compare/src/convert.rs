@@ -1,8 +1,8 @@
 //! Between the binding's structs and the oracle's.
 
 use oracle::{
-    Answer, Canister, Counters, Delivery, Floor, Reading, Report, RoundAnswer, Settings, Tile,
-    WriteAnswer,
+    Answer, Canister, Counters, Delivery, Floor, Layout, Reading, Report, RoundAnswer, Settings,
+    Tile, WriteAnswer,
 };
 
 pub fn to_settings(from: &Settings) -> ceromby::Settings {
@@ -46,6 +46,10 @@ pub fn to_floor(from: &Floor) -> ceromby::Floor {
         },
         tiles: from.tiles.map(to_tile),
         canisters: from.canisters.map(|canister| to_canister(&canister)),
+        layouts: from.layouts.map(|layout| ceromby::Layout {
+            name: layout.name,
+            set: layout.set,
+        }),
     }
 }
 
@@ -90,6 +94,10 @@ fn from_floor(from: &ceromby::Floor) -> Floor {
         },
         tiles: from.tiles.map(from_tile),
         canisters: from.canisters.map(from_canister),
+        layouts: from.layouts.map(|layout| Layout {
+            name: layout.name,
+            set: layout.set,
+        }),
     }
 }
 

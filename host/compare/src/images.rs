@@ -4,9 +4,10 @@ use oracle::only;
 use oracle::random::Rng;
 
 use crate::first::{First, LONG, SHORT};
+use crate::layout_images::{self, Records};
 
 /// Start of each record, and the end of the last, as far as lengths lead.
-fn borders(bytes: &[u8]) -> Vec<usize> {
+pub fn borders(bytes: &[u8]) -> Vec<usize> {
     let mut borders = vec![0];
     let mut at = 0;
     while let Some(length) = bytes.get(at..at + 2) {
@@ -42,7 +43,7 @@ pub fn damage(rng: &mut Rng, bytes: &mut Vec<u8>) {
 }
 
 fn damage_once(rng: &mut Rng, bytes: &mut Vec<u8>) {
-    match rng.below(28) {
+    match rng.below(32) {
         0 | 1 => cut(rng, bytes),
         2 | 3 => lengthen(rng, bytes),
         4 => change_bytes(rng, bytes),
@@ -59,6 +60,7 @@ fn damage_once(rng: &mut Rng, bytes: &mut Vec<u8>) {
         23 | 24 => change_hoppers(rng, bytes),
         25 => other_length(rng, bytes),
         26 => more_or_fewer_counters(rng, bytes),
+        27..=30 => layout_images::damage(rng, bytes),
         _ => {
             let length = rng.pick(&[0, 1, 3, 4, 24, 64, 200]);
             if rng.chance(1, 8) {
@@ -119,7 +121,7 @@ fn swap_records(rng: &mut Rng, bytes: &mut Vec<u8>) {
     }
 }
 
-fn put(bytes: &mut [u8], at: usize, value: u16) {
+pub fn put(bytes: &mut [u8], at: usize, value: u16) {
     if let Some(field) = bytes.get_mut(at..at + 2) {
         field.copy_from_slice(&value.to_le_bytes());
     }
@@ -142,8 +144,8 @@ fn change_kind(rng: &mut Rng, bytes: &mut [u8]) {
     if let Some((start, _)) = record(rng, bytes) {
         let value = match rng.below(4) {
             0 => rng.draw() as u16,
-            1 => 256 + rng.range(1, 4) as u16,
-            _ => rng.range(0, 5) as u16,
+            1 => 256 + rng.range(1, 5) as u16,
+            _ => rng.range(0, 6) as u16,
         };
         put(bytes, start + 2, value);
     }
@@ -299,7 +301,11 @@ fn drop_canister(rng: &mut Rng, bytes: &mut Vec<u8>) {
 pub fn smaller(bytes: &[u8]) -> Vec<Vec<u8>> {
     let mut tries = Vec::new();
     let borders = borders(bytes);
-    tries.extend(Line::all().filter_map(|line| without_line(bytes, &borders, line)));
+    let layouts = Records::of(bytes).map_or(Vec::new(), |records| records.placed);
+    tries.extend(Line::all().filter_map(|line| without_line(bytes, &borders, &layouts, line)));
+    for (start, end) in layouts {
+        tries.push([&bytes[..start], &bytes[end..]].concat());
+    }
     for pair in borders.windows(2) {
         let (start, end) = (pair[0], pair[1]);
         if let Some(mut less) = without_canister(bytes, start, end) {
@@ -324,19 +330,31 @@ pub fn smaller(bytes: &[u8]) -> Vec<Vec<u8>> {
 }
 
 /// The image without the tile records of one line.
-fn without_line(bytes: &[u8], borders: &[usize], line: Line) -> Option<Vec<u8>> {
+fn without_line(
+    bytes: &[u8],
+    borders: &[usize],
+    layouts: &[(usize, usize)],
+    line: Line,
+) -> Option<Vec<u8>> {
     let first = First::of(bytes)?;
     let (columns, rows) = (first.columns, first.rows);
     let tiles = usize::from(columns) * usize::from(rows);
-    if !(1..=64).contains(&tiles) || borders.len() < 3 + tiles {
+    let starts = borders.get(2 + layouts.len()..)?;
+    if !(1..=64).contains(&tiles) || starts.len() < 1 + tiles {
         return None;
     }
     let (wide, high) = line.left(columns, rows)?;
-    let mut less = bytes[..borders[2]].to_vec();
+    let mut less = bytes[..starts[0]].to_vec();
+    for (start, _) in layouts {
+        if let Some(field) = less.get_mut(start + 12..start + 20) {
+            let set = u64::from_le_bytes(field.try_into().ok()?);
+            field.copy_from_slice(&line.rest_of_set(rows, set).to_le_bytes());
+        }
+    }
     let mut set = 0u64;
     for tile in 0..tiles as u8 {
-        let from = borders[2 + usize::from(tile)];
-        let to = borders[3 + usize::from(tile)];
+        let from = starts[usize::from(tile)];
+        let to = starts[1 + usize::from(tile)];
         if let Some(new) = line.kept(rows, tile) {
             let at = less.len();
             less.extend(&bytes[from..to]);
@@ -346,7 +364,7 @@ fn without_line(bytes: &[u8], borders: &[usize], line: Line) -> Option<Vec<u8>> 
             set |= (first.sources >> tile & 1) << new;
         }
     }
-    less.extend(&bytes[borders[2 + tiles]..]);
+    less.extend(&bytes[starts[tiles]..]);
     (less[4], less[5], less[6]) = (wide, high, line.kept(rows, first.hopper)?);
     less[16..24].copy_from_slice(&set.to_le_bytes());
     if first.long {
@@ -380,6 +398,13 @@ impl Line {
     pub fn kept_set(self, rows: u8, set: u64) -> Option<u64> {
         let tiles = (0..64).filter(|tile| set >> tile & 1 == 1);
         tiles.map(|tile| self.kept(rows, tile).map(only)).sum()
+    }
+
+    /// The tiles of a set that are left, by their numbers without the line.
+    pub fn rest_of_set(self, rows: u8, set: u64) -> u64 {
+        let tiles = (0..64).filter(|tile| set >> tile & 1 == 1);
+        let left = tiles.filter_map(|tile| self.kept(rows, tile));
+        left.fold(0, |set, tile| set | only(tile))
     }
 
     /// The number that a tile has without the line, if it is left.

@@ -9,6 +9,9 @@ mod faults;
 mod first;
 mod hoppers;
 mod images;
+mod layout_damage;
+mod layout_images;
+mod layouts;
 mod makers;
 mod promise;
 mod reasons;
@@ -23,7 +26,7 @@ use std::time::Instant;
 
 use oracle::random::{self, Rng};
 
-use runs::Failure;
+use runs::{single, Failure};
 use tally::Tally;
 
 const USAGE: &str = "compare [--seed N] [--calls N] [--images N] [--faults | --fault NAME]";
@@ -56,11 +59,12 @@ fn requests(plan: Plan, tally: &mut Tally) -> Result<(), Found> {
     for at in 0..plan.calls / 500 {
         let mut rng = Rng::new(Rng::new(!plan.seed ^ at << 20).draw());
         let found = |kind| move |failure| Found { kind, failure };
-        runs::exchange_once(&mut rng, tally).map_err(found("calls in either order"))?;
-        runs::exchange_in_list(&mut rng, tally).map_err(found("a list in either order"))?;
-        runs::crowd(&mut rng, tally).map_err(found("a crowded floor"))?;
-        runs::ties(&mut rng, tally).map_err(found("a list about ties"))?;
-        runs::several(&mut rng, tally).map_err(found("several hoppers"))?;
+        single::exchange_once(&mut rng, tally).map_err(found("calls in either order"))?;
+        single::exchange_in_list(&mut rng, tally).map_err(found("a list in either order"))?;
+        single::crowd(&mut rng, tally).map_err(found("a crowded floor"))?;
+        single::ties(&mut rng, tally).map_err(found("a list about ties"))?;
+        single::several(&mut rng, tally).map_err(found("several hoppers"))?;
+        single::layouts(&mut rng, tally).map_err(found("a list about layouts"))?;
     }
     Ok(())
 }

@@ -7,7 +7,7 @@ use oracle::{
 };
 
 use crate::call::Call;
-use crate::images;
+use crate::{images, layouts};
 
 /// The image of a floor; empty for a malformed one.
 pub fn image(floor: &Floor) -> Vec<u8> {
@@ -19,7 +19,7 @@ pub fn image(floor: &Floor) -> Vec<u8> {
 
 /// Any call with any arguments, at times several of them wrong.
 pub fn any_call(rng: &mut Rng, floor: &Floor) -> Call {
-    match rng.below(24) {
+    match rng.below(26) {
         0..=6 => Call::Round,
         7..=12 => any_booking(rng, floor),
         13 => Call::Stop {
@@ -36,6 +36,7 @@ pub fn any_call(rng: &mut Rng, floor: &Floor) -> Call {
         20 => Call::Fresh {
             settings: random::any_settings(rng),
         },
+        21 | 22 => layouts::any_call(rng, floor),
         _ => random::call(rng, floor).into(),
     }
 }

@@ -1,11 +1,12 @@
 //! Demand 3, judged from the calls and their answers alone.
 
-use std::collections::BTreeSet;
+use std::collections::{BTreeMap, BTreeSet};
 
 use oracle::{Floor, Grid, Report, Settings, Side, MAX_HOPPERS};
 
 use crate::arrows::Settled;
 use crate::call::{both, Call, Outcome, Trouble};
+use crate::layouts;
 use crate::tally::Tally;
 use crate::waits::Waits;
 
@@ -14,6 +15,8 @@ pub struct Record {
     numbers: BTreeSet<u32>,
     gone: BTreeSet<u32>,
     running: Vec<bool>,
+    /// The tiles that run in each layout.
+    layouts: BTreeMap<String, u64>,
     booked: u32,
     delivered: [u32; MAX_HOPPERS],
     waits: Waits,
@@ -38,6 +41,7 @@ impl Record {
             numbers: held(floor).collect(),
             gone: BTreeSet::new(),
             running: used.iter().map(|tile| tile.running == 1).collect(),
+            layouts: layouts::held(floor),
             booked: floor.counters.booked,
             delivered: floor.counters.delivered,
             waits: Waits::new(),
@@ -74,11 +78,37 @@ impl Record {
                 };
                 *runs = matches!(call, Call::Repair { .. });
             }
+            (Call::Keep { .. } | Call::Forget { .. } | Call::Recall { .. }, _) => {
+                return self.change_layouts(call);
+            }
             (Call::Fresh { .. } | Call::Load { .. }, Outcome::Answer(answer)) => {
                 *self = Record::of(&answer.floor);
             }
             (_, Outcome::Round(answer)) => return self.deliver(&answer.report),
             _ => {}
+        }
+        Ok(())
+    }
+
+    /// What a layout has is known from the stops and repairs before it was kept.
+    fn change_layouts(&mut self, call: &Call) -> Result<(), Trouble> {
+        let Some(name) = call.layout().and_then(|(_, name)| name.letters()) else {
+            return broken(format!("{} of no name accepted", call.name()));
+        };
+        let runs = self.running.iter().enumerate();
+        let set = runs.fold(0, |set, (tile, runs)| set | u64::from(*runs) << tile);
+        let held = match call {
+            Call::Keep { .. } => self.layouts.insert(name, set).or(Some(0)),
+            Call::Forget { .. } => self.layouts.remove(&name),
+            _ => self.layouts.get(&name).copied(),
+        };
+        let Some(set) = held else {
+            return broken(format!("{} of a name that isn't held", call.name()));
+        };
+        if matches!(call, Call::Recall { .. }) {
+            for (tile, runs) in self.running.iter_mut().enumerate() {
+                *runs = set >> tile & 1 == 1;
+            }
         }
         Ok(())
     }
@@ -117,6 +147,9 @@ impl Record {
         let runs = |tile: usize| floor.tiles[tile].running == 1;
         if !(0..self.running.len()).all(|tile| runs(tile) == self.running[tile]) {
             return broken("a tile runs or stands against the last stop or repair of it");
+        }
+        if layouts::held(floor) != self.layouts {
+            return broken("other layouts than were kept");
         }
         Ok(())
     }
@@ -184,10 +217,12 @@ pub fn bound_of(floor: &Floor) -> u64 {
 }
 
 /// Rounds from here, with `between` before each of them. Within the bound
-/// everything on a tile with a live path is delivered, and nothing else.
+/// everything on a tile with a live path is delivered, and nothing else. If a
+/// single call is at fault, `calls` has all up to it, else none.
 pub fn drain(
     first: &Floor,
     tally: &mut Tally,
+    calls: &mut Vec<Call>,
     mut between: impl FnMut(&Floor) -> Option<Call>,
 ) -> Result<(), Trouble> {
     let live = live(first);
@@ -199,6 +234,7 @@ pub fn drain(
     let mut rounds = 0;
     while record.gone.len() < waiting.len() {
         if rounds == most {
+            calls.clear();
             return Err(Trouble::promise(
                 "the bound",
                 format!(
@@ -208,14 +244,15 @@ pub fn drain(
                 ),
             ));
         }
-        if let Some(call) = between(&floor) {
+        for call in between(&floor).into_iter().chain([Call::Round]) {
+            calls.push(call.clone());
             let outcome = made(&floor, &call, &mut record, tally)?;
+            tally.layouts.note_within(&call, outcome.refusal());
             floor = outcome.floor_after(&call, &floor);
         }
-        let outcome = made(&floor, &Call::Round, &mut record, tally)?;
-        floor = outcome.floor_after(&Call::Round, &floor);
         rounds += 1;
     }
+    calls.clear();
     record.check(&floor)?;
     if record.gone != waiting || !held(&floor).all(|number| cut_off.contains(&number)) {
         return broken("a canister without a live path was delivered");

@@ -1,15 +1,17 @@
 //! The four kinds of runs.
 
+pub mod single;
+
 use oracle::random::{self, Rng};
 use oracle::{Canister, Floor, Settings};
 
-use crate::arrows;
 use crate::call::{both, Call, Outcome, Trouble};
 use crate::exchange;
 use crate::first::First;
-use crate::makers;
+use crate::layouts;
 use crate::promise::{self, Record};
 use crate::tally::Tally;
+use crate::{layout_damage, layout_images, makers};
 
 /// A floor and the calls made from it on.
 #[derive(Clone, PartialEq)]
@@ -84,6 +86,7 @@ impl<'a> Run<'a> {
         }
         if let Call::Load { bytes } = call {
             judge_load(bytes, refusal)?;
+            layout_images::check(bytes, outcome)?;
         }
         if !self.case.sound {
             return Ok(());
@@ -119,11 +122,16 @@ impl<'a> Run<'a> {
         if promise::bound_of(&self.floor) > most {
             return Ok(());
         }
-        self.case.drain = true;
-        promise::drain(&self.floor, self.tally, |floor| {
-            rng.chance(1, 8)
-                .then(|| random::refused_call(rng, floor).into())
-        })?;
+        let mut calls = Vec::new();
+        let between = |floor: &Floor| match rng.below(16) {
+            0 | 1 => Some(random::refused_call(rng, floor).into()),
+            2 => Some(random::still_call(rng, floor).into()),
+            _ => None,
+        };
+        let drained = promise::drain(&self.floor, self.tally, &mut calls, between);
+        self.case.drain = calls.is_empty();
+        self.case.calls.append(&mut calls);
+        drained?;
         self.tally.drained += 1;
         Ok(())
     }
@@ -176,8 +184,8 @@ pub fn replay(case: &Case) -> Option<Trouble> {
         }
     }
     let floor = run.floor;
-    match case.drain {
-        true => promise::drain(&floor, &mut tally, |_| None).err(),
+    match case.drain && oracle::well_formed(&floor) {
+        true => promise::drain(&floor, &mut tally, &mut Vec::new(), |_| None).err(),
         false => None,
     }
 }
@@ -290,23 +298,29 @@ pub fn arbitrary(rng: &mut Rng, tally: &mut Tally) -> Result<(), Box<Failure>> {
 }
 
 /// A floor with damage, and whether it is certain to be malformed.
-fn damaged_floor(rng: &mut Rng) -> (Floor, bool) {
-    match rng.below(8) {
-        0 => (random::garbage_floor(rng), false),
-        1..=3 => (random::nearly_sound_floor(rng), false),
-        _ => {
-            let mut floor = random::floor(rng);
-            while !makers::known_damage(rng, &mut floor) {
-                floor = random::floor(rng);
+fn damaged_floor(rng: &mut Rng, tally: &mut Tally) -> (Floor, bool) {
+    match rng.below(10) {
+        0 => return (random::garbage_floor(rng), false),
+        1..=3 => return (random::nearly_sound_floor(rng), false),
+        _ => {}
+    }
+    let in_layouts = rng.chance(1, 4);
+    loop {
+        let mut floor = random::floor(rng);
+        if in_layouts {
+            if let Some(kind) = layout_damage::damage(rng, &mut floor) {
+                tally.layouts.damage.0[kind] += 1;
+                return (floor, true);
             }
-            (floor, true)
+        } else if makers::known_damage(rng, &mut floor) {
+            return (floor, true);
         }
     }
 }
 
 /// A floor damaged in memory, and every call that takes one.
 pub fn damaged(rng: &mut Rng, tally: &mut Tally) -> Result<(), Box<Failure>> {
-    let (first, known) = damaged_floor(rng);
+    let (first, known) = damaged_floor(rng, tally);
     tally.known_damage += u64::from(known);
     finish(begin(first, false, known.then_some(30)), tally, |run| {
         let tile = match rng.chance(1, 4) {
@@ -318,6 +332,7 @@ pub fn damaged(rng: &mut Rng, tally: &mut Tally) -> Result<(), Box<Failure>> {
             a: rng.range(0, first.settings.span().into()) as u16,
             b: rng.range(0, first.settings.span().into()) as u16,
         };
+        let name = layouts::any_name(rng, &first);
         let calls = [
             Call::Book { tile, canister },
             Call::Stop { tile },
@@ -327,6 +342,9 @@ pub fn damaged(rng: &mut Rng, tally: &mut Tally) -> Result<(), Box<Failure>> {
             Call::Write {
                 size: rng.pick(&[0, 64, oracle::LONGEST_IMAGE]),
             },
+            Call::Keep { name: name.clone() },
+            Call::Forget { name: name.clone() },
+            Call::Recall { name },
         ];
         for call in calls {
             run.floor = first;
@@ -366,116 +384,4 @@ pub fn image(rng: &mut Rng, floor: &Floor, tally: &mut Tally) -> Result<(), Box<
         tally.calls = calls;
     }
     made
-}
-
-/// Every pair in either order, on a well-formed floor and on a damaged one.
-pub fn exchange_once(rng: &mut Rng, tally: &mut Tally) -> Result<(), Box<Failure>> {
-    for sound in [true, true, false] {
-        let first = match sound {
-            true => arbitrary_floor(rng),
-            false => damaged_floor(rng).0,
-        };
-        finish(begin(first, sound, None), tally, |run| {
-            for pair in 0..=exchange::FREE.len() {
-                run.exchange(exchange::pair(rng, &first, pair))?;
-            }
-            run.exchange(exchange::stop_twice(rng, &first))
-        })?;
-    }
-    Ok(())
-}
-
-/// Pairs in either order on the floors of a list; then one pair in its middle
-/// is exchanged, with all that comes after.
-pub fn exchange_in_list(rng: &mut Rng, tally: &mut Tally) -> Result<(), Box<Failure>> {
-    let first = match rng.chance(1, 2) {
-        true => oracle::fresh(list_settings(rng)).floor,
-        false => random::floor(rng),
-    };
-    finish(begin(first, true, None), tally, |run| {
-        for _ in 0..rng.range(5, 50) {
-            let floor = run.floor;
-            if rng.chance(1, 4) {
-                let pair = rng.range(0, exchange::FREE.len() as u64) as usize;
-                run.exchange(exchange::pair(rng, &floor, pair))?;
-            }
-            run.make(random::call(rng, &floor).into())?;
-        }
-        let middle = run.floor;
-        let before = run.case.calls.len();
-        let pair = rng.below(exchange::FREE.len() as u64) as usize;
-        for call in exchange::pair(rng, &middle, pair) {
-            run.make(call)?;
-        }
-        for _ in 0..rng.range(5, 50) {
-            let floor = run.floor;
-            run.make(random::call(rng, &floor).into())?;
-        }
-        run.check()?;
-        let calls = run.case.calls.split_off(before);
-        run.floor = middle;
-        run.exchange(calls)
-    })
-}
-
-/// A floor where several sides of a tile want, and mostly rounds.
-pub fn crowd(rng: &mut Rng, tally: &mut Tally) -> Result<(), Box<Failure>> {
-    let first = makers::crowded_floor(rng);
-    finish(begin(first, true, None), tally, |run| {
-        for _ in 0..rng.range(20, 60) {
-            let floor = run.floor;
-            run.make(match rng.chance(3, 4) {
-                true => Call::Round,
-                false => random::call(rng, &floor).into(),
-            })?;
-        }
-        run.check()
-    })
-}
-
-/// A floor of two rows and columns or more, fresh or with any old arrows, and
-/// stops and repairs that make and break ties between neighbours.
-pub fn ties(rng: &mut Rng, tally: &mut Tally) -> Result<(), Box<Failure>> {
-    let mut settings = list_settings(rng);
-    while settings.columns < 2 || settings.rows < 2 {
-        settings = list_settings(rng);
-    }
-    let first = match rng.chance(1, 2) {
-        true => oracle::fresh(settings).floor,
-        false => random::floor_with(rng, settings),
-    };
-    finish(begin(first, true, None), tally, |run| {
-        for _ in 0..rng.below(80) {
-            let floor = run.floor;
-            run.make(arrows::tie_call(rng, &floor))?;
-        }
-        run.check()?;
-        run.drain(rng, 400)
-    })
-}
-
-/// Two to four hoppers; stops cut tiles off from some of them.
-pub fn several(rng: &mut Rng, tally: &mut Tally) -> Result<(), Box<Failure>> {
-    let mut settings = list_settings(rng);
-    while settings.hopper_count() < 2 {
-        settings = list_settings(rng);
-    }
-    let first = match rng.below(3) {
-        0 => makers::delivering_floor(rng),
-        1 => oracle::fresh(settings).floor,
-        _ => random::floor_with(rng, settings),
-    };
-    finish(begin(first, true, None), tally, |run| {
-        for _ in 0..rng.below(60) {
-            let floor = run.floor;
-            run.make(match rng.below(16) {
-                0..=3 => random::call(rng, &floor).into(),
-                4 => random::refused_call(rng, &floor).into(),
-                5 => makers::loading(rng, &floor),
-                _ => Call::Round,
-            })?;
-        }
-        run.check()?;
-        run.drain(rng, 400)
-    })
 }

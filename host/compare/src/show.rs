@@ -2,9 +2,10 @@
 
 use std::fmt::Write;
 
-use oracle::{Canister, Floor, Settings, Tile};
+use oracle::{Canister, Floor, Layout, Settings, Tile};
 
 use crate::call::Call;
+use crate::layouts::Name;
 use crate::runs::Case;
 
 fn settings(s: &Settings) -> String {
@@ -77,7 +78,27 @@ fn floor(floor: &Floor) -> String {
         }
         text.push('\n');
     }
+    for (at, layout) in floor.layouts.iter().enumerate() {
+        if *layout != Layout::ZERO {
+            let name = bytes_of(&layout.letters());
+            let _ = writeln!(text, "  layout {at}: {name} set {:#x}", layout.set);
+        }
+    }
     text
+}
+
+/// Without the zero filling.
+fn bytes_of(bytes: &[u8]) -> String {
+    let end = bytes.iter().rposition(|byte| *byte != 0);
+    let used = &bytes[..end.map_or(0, |end| end + 1)];
+    format!("\"{}\"", used.escape_ascii())
+}
+
+fn name(name: &Name) -> String {
+    match name {
+        Name::Letters(letters) => bytes_of(letters),
+        Name::Text(text) => format!("{text:?} as text"),
+    }
 }
 
 fn call(call: &Call) -> String {
@@ -87,6 +108,9 @@ fn call(call: &Call) -> String {
         Call::Stop { tile } => format!("stop tile {tile}"),
         Call::Repair { tile } => format!("repair tile {tile}"),
         Call::Round => "round".into(),
+        Call::Keep { name: n } => format!("keep {}", name(n)),
+        Call::Forget { name: n } => format!("forget {}", name(n)),
+        Call::Recall { name: n } => format!("recall {}", name(n)),
         Call::Read { tile } => format!("read tile {tile}"),
         Call::Write { size } => format!("write to {size} bytes"),
         Call::Load { bytes } => {

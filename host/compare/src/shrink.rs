@@ -1,7 +1,8 @@
 //! Looks for the smallest case that shows the same trouble.
 
 use oracle::{
-    only, Canister, Counters, Floor, Grid, Settings, Side, Tile, MAX_HOPPERS, NONE, NO_SIDE, PLACES,
+    only, Canister, Counters, Floor, Grid, Layout, Settings, Side, Tile, MAX_HOPPERS, NONE,
+    NO_SIDE, PLACES,
 };
 
 use crate::call::{Call, Trouble};
@@ -107,6 +108,7 @@ enum Change {
     Empty(usize),
     Hopper(usize),
     Remove(usize, usize),
+    Layout(usize),
     Tile(usize, fn(&mut Tile)),
     Place(usize, fn(&mut Canister)),
     Floor(fn(&mut Floor)),
@@ -127,8 +129,9 @@ const PLACE_CHANGES: [fn(&mut Canister); 5] = [
     |place| place.b /= 2,
 ];
 
-const FLOOR_CHANGES: [fn(&mut Floor); 8] = [
+const FLOOR_CHANGES: [fn(&mut Floor); 9] = [
     |floor| *floor = Floor::ZERO,
+    |floor| floor.layouts = Floor::ZERO.layouts,
     clear_unused,
     renumber,
     lower_distances,
@@ -159,6 +162,7 @@ fn plain_measures(settings: &mut Settings) {
 fn floor_changes(floor: &Floor) -> Vec<Change> {
     let mut changes: Vec<Change> = Line::all().map(Change::Crop).collect();
     changes.extend(FLOOR_CHANGES.map(Change::Floor));
+    changes.extend((0..floor.layout_count()).rev().map(Change::Layout));
     let used = |tile: &usize| floor.tiles[*tile] != Tile::ZERO;
     for tile in (0..64).filter(used) {
         changes.push(Change::Empty(tile));
@@ -180,6 +184,10 @@ impl Change {
             Change::Empty(tile) => while remove(&mut case.first, *tile, 0) {},
             Change::Hopper(tile) => return drop_hopper(&mut case.first, *tile),
             Change::Remove(tile, at) => return remove(&mut case.first, *tile, *at),
+            Change::Layout(at) => {
+                case.first.layouts[*at..].rotate_left(1);
+                case.first.layouts[7] = Layout::ZERO;
+            }
             Change::Tile(tile, change) => change(&mut case.first.tiles[*tile]),
             Change::Place(place, change) => change(&mut case.first.canisters[*place]),
             Change::Floor(change) => change(&mut case.first),
@@ -296,6 +304,10 @@ fn crop(case: &mut Case, line: Line) -> Option<()> {
             ..old.settings
         },
         counters: old.counters,
+        layouts: old.layouts.map(|layout| Layout {
+            set: line.rest_of_set(old.settings.rows, layout.set),
+            ..layout
+        }),
         ..Floor::ZERO
     };
     for tile in 0..tiles {

@@ -5,10 +5,10 @@ use std::fmt::Display;
 use oracle::{Floor, Grid, RoundAnswer, Side};
 
 use crate::call::{Call, Outcome, NAMES};
-use crate::{arrows, exchange, hoppers, reasons, waits};
+use crate::{arrows, exchange, hoppers, layouts, reasons, waits};
 
 /// The answers that each call can give, in the order of `NAMES`.
-const ANSWERS: [&[u8]; 8] = [
+const ANSWERS: [&[u8]; 11] = [
     &[0, 1, 2, 3],
     &[0, 30, 4, 5, 6, 7, 31, 33, 34],
     &[0, 30, 4, 8, 31],
@@ -17,6 +17,9 @@ const ANSWERS: [&[u8]; 8] = [
     &[0, 30, 4],
     &[0, 30, 13],
     &[0, 9, 10, 11, 1, 2, 3, 12],
+    &[0, 30, 44, 46],
+    &[0, 30, 44, 45],
+    &[0, 30, 44, 45],
 ];
 
 #[derive(Default)]
@@ -32,6 +35,7 @@ pub struct Tally {
     pub waits: waits::Counts,
     pub hoppers: hoppers::Counts,
     reasons: reasons::Counts,
+    pub layouts: layouts::Counts,
     pub settled: u64,
     /// Arrows kept and lists held to the bound in the runs for single requests.
     tied: [u64; 2],
@@ -61,6 +65,7 @@ impl Tally {
         self.waits.add(&further.waits);
         self.hoppers.add(&further.hoppers);
         self.reasons.add(&further.reasons);
+        self.layouts.add(&further.layouts);
         self.settled += further.settled;
         self.tied = [further.kept, further.drained];
         self.closest = self.closest.max(further.closest);
@@ -71,7 +76,9 @@ impl Tally {
         self.answers[call.kind()][usize::from(outcome.refusal())] += 1;
         if let Call::Load { bytes } = call {
             self.hoppers.note_image(bytes, outcome.refusal());
+            self.layouts.images.note(bytes, outcome.refusal());
         }
+        self.layouts.note(before, call, outcome.refusal());
         match (outcome, call) {
             _ if outcome.refusal() != 0 => {}
             (Outcome::Round(answer), _) => self.note_round(before, answer),
@@ -88,6 +95,7 @@ impl Tally {
         self.kept += arrows::kept(before, &answer.floor);
         self.hoppers.note_report(&answer.report);
         self.reasons.note(before, answer);
+        self.layouts.note_round(before);
         for delivery in &answer.report.deliveries {
             self.deliveries[usize::from(delivery.count).min(4)] += 1;
         }
@@ -127,6 +135,7 @@ impl Tally {
             self.exchanges.lines(),
             self.waits.lines(),
             self.reasons.lines(),
+            self.layouts.lines(),
         ];
         for (name, cells) in lines.into_iter().flatten() {
             print_line(&name, cells, &mut missing);

@@ -91,6 +91,12 @@ impl Waits {
     ) -> Result<(), Trouble> {
         match (call, outcome) {
             (Call::Stop { tile }, _) => self.stopped[*tile as usize] = true,
+            (Call::Recall { .. }, Outcome::Answer(answer)) => {
+                let tiles = before.tiles.iter().zip(&answer.floor.tiles);
+                for (stopped, (before, after)) in self.stopped.iter_mut().zip(tiles) {
+                    *stopped |= before.running > after.running;
+                }
+            }
             (_, Outcome::Round(answer)) => {
                 let grid = Grid::of(&before.settings);
                 for spot in grid.spots() {

@@ -2,6 +2,7 @@
 
 use crate::faults::{self, Fault};
 use crate::grid::{Grid, Side, Spot};
+use crate::layouts::layouts_fit;
 use crate::refusal;
 use crate::types::{
     Canister, Counters, Floor, Settings, Tile, MAX_HOPPERS, MAX_TILES, NONE, NO_SIDE, PLACES,
@@ -60,6 +61,7 @@ pub fn well_formed(floor: &Floor) -> bool {
             .all(|spot| tile_fits(floor, spot) && members_fit(floor, spot.tile))
         && unused_tiles_are_zero(floor)
         && numbers_and_counters_fit(floor)
+        && layouts_fit(floor)
 }
 
 fn tile_fits(floor: &Floor, spot: Spot) -> bool {

@@ -79,6 +79,19 @@ faults! {
     UnusedCounter "unused-counter" "a counter of no hopper may hold anything"
     EmptySetTested "empty-set-tested" "the hopper byte is tested for an empty set too"
     HopperByteLate "hopper-byte-late" "the hopper byte is tested after 1, 2 and 3"
+    RecallCounters "recall-counters" "recall sets the last number back"
+    RecallRestarts "recall-restarts" "recall starts tiles anew that ran"
+    NinthReplaces "ninth-replaces" "a ninth layout replaces the last"
+    FullRefuses "full-refuses" "46 for a held name too, with eight held"
+    ForgetHole "forget-hole" "forgetting leaves a hole"
+    NotHeldFirst "not-held-first" "45 before 44"
+    NameCut "name-cut" "a name given as text is cut to eight letters"
+    FillingUnchecked "filling-unchecked" "a letter may stand after the zero filling began"
+    UnsortedLayouts "unsorted-layouts" "names needn't rise"
+    OneHopperRuns "one-hopper-runs" "a layout needs the lowest hopper alone"
+    LayoutBeyond "layout-beyond" "a layout may have a bit for no tile"
+    NinthRecord "ninth-record" "a ninth record of kind 5 is passed over"
+    ZeroRecord "zero-record" "a record of kind 5 may be all zero"
 }
 
 #[cfg(feature = "faults")]

@@ -6,17 +6,20 @@ use crate::check::{settings_refusal, well_formed};
 use crate::faults::{self, Fault};
 use crate::refusal;
 use crate::types::{
-    only, Answer, Canister, Counters, Floor, Settings, Tile, WriteAnswer, MAX_HOPPERS, PLACES,
+    only, Answer, Canister, Counters, Floor, Layout, Settings, Tile, WriteAnswer, MAX_HOPPERS,
+    MAX_LAYOUTS, PLACES,
 };
 
-/// Bytes of the longest image; it has one hopper, as a tile holds more bytes than a hopper adds.
-pub const LONGEST_IMAGE: usize = 8_748;
+/// Bytes of the longest image. It has eight layouts and one hopper, as a tile
+/// holds more bytes than a hopper adds.
+pub const LONGEST_IMAGE: usize = 8_908;
 
 const HEAD: usize = 4;
 const SETTINGS: u16 = 1;
 const COUNTERS: u16 = 2;
 const TILE: u16 = 3;
 const END: u16 = 4;
+const LAYOUT: u16 = 5;
 
 const SETTINGS_BODY: usize = 20;
 const HOPPER_SET: usize = 8;
@@ -24,6 +27,7 @@ const COUNTERS_BODY: usize = 8;
 const DELIVERED_BODY: usize = 4;
 const TILE_BODY: usize = 6;
 const CANISTER_BODY: usize = 8;
+const LAYOUT_BODY: usize = 16;
 
 pub fn write(floor: &Floor, buffer: &mut [u8]) -> WriteAnswer {
     if !well_formed(floor) {
@@ -57,7 +61,8 @@ fn image_length(floor: &Floor) -> usize {
         settings_body(&floor.settings),
         counters_body(&floor.settings),
     );
-    HEAD + settings + HEAD + counters + tiles + HEAD
+    let layouts = floor.layout_count() * (HEAD + LAYOUT_BODY);
+    HEAD + settings + HEAD + counters + layouts + tiles + HEAD
 }
 
 /// With several hoppers their set is added.
@@ -97,6 +102,11 @@ impl Writer<'_> {
     fn floor(&mut self, floor: &Floor) {
         self.settings(&floor.settings);
         self.counters(&floor.counters, &floor.settings);
+        for layout in &floor.layouts[..floor.layout_count()] {
+            self.head(LAYOUT_BODY, LAYOUT);
+            self.put(&layout.letters());
+            self.put(&layout.set.to_le_bytes());
+        }
         for tile in 0..floor.settings.tile_count() {
             self.tile(tile, &floor.tiles[tile], floor.members(tile));
         }
@@ -158,15 +168,41 @@ fn load_into(floor: &mut Floor, bytes: &[u8]) -> Result<(), u8> {
     let mut records = Records { rest: bytes };
     floor.settings = settings_from(records.due(SETTINGS)?)?;
     floor.counters = counters_from(records.due(COUNTERS)?, &floor.settings)?;
+    let held = layouts_from(floor, &mut records)?;
     for tile in 0..floor.settings.tile_count() {
         tile_from(floor, tile, records.due(TILE)?)?;
     }
     demand(records.due(END)?.is_empty(), refusal::RECORD_SHAPE)?;
+    // A record of zeros would look like an unused place.
+    let all_kept = floor.layout_count() == held || faults::on(Fault::ZeroRecord);
+    let fits = well_formed(floor) && all_kept;
     if faults::on(Fault::LeftoverLast) {
-        demand(well_formed(floor), refusal::IMAGE_MALFORMED)?;
+        demand(fits, refusal::IMAGE_MALFORMED)?;
     }
     demand(records.rest.is_empty(), refusal::IMAGE_ENDS)?;
-    demand(well_formed(floor), refusal::IMAGE_MALFORMED)
+    demand(fits, refusal::IMAGE_MALFORMED)
+}
+
+/// Reads up to eight records of kind 5, as long as they come, and gives their
+/// number. What their bytes mean is judged at the end.
+fn layouts_from(floor: &mut Floor, records: &mut Records) -> Result<usize, u8> {
+    let mut held = 0;
+    while held < MAX_LAYOUTS && records.comes(LAYOUT) {
+        floor.layouts[held] = layout_from(records.due(LAYOUT)?)?;
+        held += 1;
+    }
+    if faults::on(Fault::NinthRecord) && records.comes(LAYOUT) {
+        layout_from(records.due(LAYOUT)?)?;
+    }
+    Ok(held)
+}
+
+fn layout_from(body: &[u8]) -> Result<Layout, u8> {
+    demand(body.len() == LAYOUT_BODY, refusal::RECORD_SHAPE)?;
+    Ok(Layout {
+        name: u64::from_be_bytes(array_at(body, 0)),
+        set: u64_at(body, 8),
+    })
 }
 
 fn demand(holds: bool, refusal: u8) -> Result<(), u8> {
@@ -186,6 +222,11 @@ impl<'a> Records<'a> {
             .ok_or(refusal::IMAGE_ENDS)?;
         self.rest = tail;
         Ok(head)
+    }
+
+    /// Whether the next record's head is there and has a kind.
+    fn comes(&self, kind: u16) -> bool {
+        self.rest.len() >= HEAD && u16_at(self.rest, 2) == kind
     }
 
     /// The body of the next record, which must be whole and of the kind due.

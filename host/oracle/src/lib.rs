@@ -13,6 +13,7 @@ pub mod faults;
 mod faults;
 mod grid;
 mod image;
+mod layouts;
 pub mod random;
 pub mod reason;
 pub mod refusal;
@@ -23,8 +24,9 @@ pub use calls::{book, fresh, read, repair, stop};
 pub use check::{settings_refusal, well_formed};
 pub use grid::{Grid, Side, Spot};
 pub use image::{load, write, LONGEST_IMAGE};
+pub use layouts::{forget, keep, name, recall};
 pub use round::round;
 pub use types::{
-    only, Answer, Canister, Counters, Delivery, Floor, Reading, Report, RoundAnswer, Settings,
-    Tile, WriteAnswer, MAX_HOPPERS, MAX_TILES, NONE, NO_SIDE, PLACES,
+    only, Answer, Canister, Counters, Delivery, Floor, Layout, Reading, Report, RoundAnswer,
+    Settings, Tile, WriteAnswer, MAX_HOPPERS, MAX_LAYOUTS, MAX_TILES, NONE, NO_SIDE, PLACES,
 };

@@ -9,10 +9,12 @@ use crate::{check, settings_refusal};
 
 mod calls;
 mod garbage;
+mod layouts;
 
 pub use calls::{any_tile, call, refused_call, Call};
 use garbage::spoil_settings;
 pub use garbage::{garbage_floor, nearly_sound_floor, spoil};
+pub use layouts::{bad_name, layouts, name, name_for, still_call};
 
 /// Splitmix64.
 #[derive(Clone, Debug)]
@@ -217,6 +219,7 @@ pub fn floor_with(rng: &mut Rng, settings: Settings) -> Floor {
         }
     }
     number_canisters(rng, &mut floor);
+    floor.layouts = layouts(rng, &floor);
     floor
 }
 

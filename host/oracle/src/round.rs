@@ -266,6 +266,7 @@ fn shift(old: &Floor, tiles: &[Tile; MAX_TILES], signals: &[Signal; MAX_TILES]) 
         counters: old.counters,
         tiles: tiles.map(|tile| Tile { count: 0, ..tile }),
         canisters: [Canister::ZERO; MAX_TILES * PLACES],
+        layouts: old.layouts,
     };
     for spot in grid.spots() {
         let granted = |(side, there): &(Side, usize)| grants[*there] == side.opposite().code();

@@ -9,6 +9,8 @@ pub const MAX_TILES: usize = 64;
 pub const MAX_HOPPERS: usize = 4;
 /// Canister places of one tile.
 pub const PLACES: usize = 16;
+/// Most layouts that a floor keeps.
+pub const MAX_LAYOUTS: usize = 8;
 /// The distance "none".
 pub const NONE: u8 = 255;
 /// The side "none".
@@ -67,6 +69,15 @@ pub struct Counters {
     pub delivered: [u32; MAX_HOPPERS],
 }
 
+/// A named set of the tiles that ran when it was kept.
+#[repr(C)]
+#[derive(Clone, Copy, PartialEq, Eq, Debug)]
+pub struct Layout {
+    /// The first letter in the highest byte, zero filled.
+    pub name: u64,
+    pub set: u64,
+}
+
 /// Canisters of tile t are at places 16 t up to 16 t + count.
 #[repr(C)]
 #[derive(Clone, Copy, PartialEq, Eq, Debug)]
@@ -75,6 +86,8 @@ pub struct Floor {
     pub counters: Counters,
     pub tiles: [Tile; MAX_TILES],
     pub canisters: [Canister; MAX_TILES * PLACES],
+    /// By rising name, then zeros.
+    pub layouts: [Layout; MAX_LAYOUTS],
 }
 
 /// What one hopper took in.
@@ -244,13 +257,29 @@ impl Counters {
     }
 }
 
+impl Layout {
+    pub const ZERO: Layout = Layout { name: 0, set: 0 };
+
+    /// The bytes of the name, first letter first.
+    pub fn letters(&self) -> [u8; 8] {
+        self.name.to_be_bytes()
+    }
+}
+
 impl Floor {
     pub const ZERO: Floor = Floor {
         settings: Settings::ZERO,
         counters: Counters::ZERO,
         tiles: [Tile::ZERO; MAX_TILES],
         canisters: [Canister::ZERO; MAX_TILES * PLACES],
+        layouts: [Layout::ZERO; MAX_LAYOUTS],
     };
+
+    /// Layouts before the last place that isn't zero, that one included.
+    pub fn layout_count(&self) -> usize {
+        let last = self.layouts.iter().rposition(|at| *at != Layout::ZERO);
+        last.map_or(0, |last| last + 1)
+    }
 
     /// All sixteen places of a tile.
     pub fn places(&self, tile: usize) -> &[Canister] {

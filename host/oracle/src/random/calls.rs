@@ -9,11 +9,14 @@ pub enum Call {
     Stop { tile: u32 },
     Repair { tile: u32 },
     Round,
+    Keep { name: [u8; 8] },
+    Forget { name: [u8; 8] },
+    Recall { name: [u8; 8] },
 }
 
 /// A call for the given well-formed floor, mostly a sensible one.
 pub fn call(rng: &mut Rng, floor: &Floor) -> Call {
-    match rng.below(20) {
+    match rng.below(22) {
         0..=10 => Call::Round,
         11..=16 => Call::Book {
             tile: booking_tile(rng, floor),
@@ -21,6 +24,17 @@ pub fn call(rng: &mut Rng, floor: &Floor) -> Call {
         },
         17 => Call::Stop {
             tile: tile_that(rng, floor, |tile| tile.running == 1),
+        },
+        20 => match rng.chance(2, 3) {
+            true => Call::Keep {
+                name: name_for(rng, floor),
+            },
+            false => Call::Forget {
+                name: name_for(rng, floor),
+            },
+        },
+        21 => Call::Recall {
+            name: name_for(rng, floor),
         },
         _ => Call::Repair {
             tile: tile_that(rng, floor, |tile| tile.running == 0),
@@ -31,9 +45,18 @@ pub fn call(rng: &mut Rng, floor: &Floor) -> Call {
 /// A call that every well-formed floor refuses.
 pub fn refused_call(rng: &mut Rng, floor: &Floor) -> Call {
     let outside = rng.u32(64, u32::MAX);
-    match rng.below(4) {
+    match rng.below(7) {
         0 => Call::Stop { tile: outside },
         1 => Call::Repair { tile: outside },
+        3 => Call::Keep {
+            name: bad_name(rng),
+        },
+        4 => Call::Forget {
+            name: bad_name(rng),
+        },
+        5 => Call::Recall {
+            name: bad_name(rng),
+        },
         2 => Call::Stop {
             tile: any_hopper(rng, floor),
         },

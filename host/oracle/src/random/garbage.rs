@@ -1,6 +1,7 @@
 //! Floors with any bytes, and floors with a few fields changed.
 
 use super::*;
+use crate::types::{Layout, MAX_LAYOUTS};
 
 /// A floor with any bytes in its fields.
 pub fn garbage_floor(rng: &mut Rng) -> Floor {
@@ -23,6 +24,12 @@ pub fn garbage_floor(rng: &mut Rng) -> Floor {
             a: rng.draw() as u16,
             b: rng.draw() as u16,
         };
+    }
+    if rng.chance(1, 2) {
+        floor.layouts = floor.layouts.map(|_| Layout {
+            name: rng.draw(),
+            set: rng.draw(),
+        });
     }
     floor
 }
@@ -52,7 +59,7 @@ fn garbage_tile(rng: &mut Rng) -> Tile {
 
 /// Writes a likely wrong value into one field of a floor.
 pub fn spoil(rng: &mut Rng, floor: &mut Floor) {
-    match rng.below(12) {
+    match rng.below(14) {
         0 | 1 => spoil_settings(rng, &mut floor.settings),
         2 => spoil_counters(rng, &mut floor.counters),
         3..=7 => {
@@ -60,6 +67,7 @@ pub fn spoil(rng: &mut Rng, floor: &mut Floor) {
             spoil_tile(rng, &mut floor.tiles[tile]);
         }
         8 => copy_number(rng, floor),
+        9 | 10 => spoil_layouts(rng, floor),
         _ => {
             let tile = near_floor(rng, floor);
             let reach = u64::from(floor.tiles[tile].count).min(PLACES as u64 - 1);
@@ -152,6 +160,25 @@ fn spoil_canister(rng: &mut Rng, canister: &mut Canister) {
         2 => canister.number = rng.draw() as u32,
         3 => canister.a = canister.a.wrapping_add(near),
         _ => canister.b = canister.b.wrapping_add(near),
+    }
+}
+
+/// Changes a layout, or one of the first places without.
+fn spoil_layouts(rng: &mut Rng, floor: &mut Floor) {
+    let reach = (floor.layout_count() as u64).min(MAX_LAYOUTS as u64 - 1);
+    let at = rng.range(0, reach) as usize;
+    let other = rng.range(0, reach) as usize;
+    let bit = 1 << rng.below(64);
+    let layouts = &mut floor.layouts;
+    match rng.below(8) {
+        0 => layouts[at].name = u64::from_be_bytes(bad_name(rng)),
+        1 => layouts[at].name ^= bit,
+        2 => layouts[at].name = u64::from_be_bytes(name(rng)),
+        3 => layouts[at].set ^= bit,
+        4 => layouts[at].set &= !rng.draw(),
+        5 => layouts.swap(at, other),
+        6 => layouts[at] = layouts[other],
+        _ => layouts[at] = Layout::ZERO,
     }
 }
 

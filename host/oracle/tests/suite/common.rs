@@ -1,8 +1,8 @@
 //! Short ways to make floors and to work on them.
 
 use oracle::{
-    book, fresh, load, repair, round, stop, well_formed, write, Canister, Counters, Floor,
-    RoundAnswer, Settings, LONGEST_IMAGE,
+    book, forget, fresh, keep, load, name, recall, repair, round, stop, well_formed, write,
+    Canister, Counters, Floor, RoundAnswer, Settings, LONGEST_IMAGE,
 };
 
 /// The settings of the trials: every tile but the hopper a fill tile.
@@ -71,6 +71,27 @@ pub fn stopped(floor: &Floor, tile: u32) -> Floor {
 
 pub fn repaired(floor: &Floor, tile: u32) -> Floor {
     let answer = repair(floor, tile);
+    assert_eq!(answer.refusal, 0);
+    assert!(well_formed(&answer.floor));
+    answer.floor
+}
+
+pub fn kept(floor: &Floor, text: &str) -> Floor {
+    let answer = keep(floor, name(text));
+    assert_eq!(answer.refusal, 0);
+    assert!(well_formed(&answer.floor));
+    answer.floor
+}
+
+pub fn forgotten(floor: &Floor, text: &str) -> Floor {
+    let answer = forget(floor, name(text));
+    assert_eq!(answer.refusal, 0);
+    assert!(well_formed(&answer.floor));
+    answer.floor
+}
+
+pub fn recalled(floor: &Floor, text: &str) -> Floor {
+    let answer = recall(floor, name(text));
     assert_eq!(answer.refusal, 0);
     assert!(well_formed(&answer.floor));
     answer.floor

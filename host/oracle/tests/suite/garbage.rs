@@ -3,8 +3,8 @@
 use crate::naive;
 use oracle::random::{self, Rng};
 use oracle::{
-    book, fresh, read, repair, round, settings_refusal, stop, well_formed, write, Canister, Floor,
-    Report, LONGEST_IMAGE,
+    book, forget, fresh, keep, read, recall, repair, round, settings_refusal, stop, well_formed,
+    write, Canister, Floor, Layout, Report, LONGEST_IMAGE,
 };
 
 fn try_all(rng: &mut Rng, floor: &Floor, buffer: &mut [u8]) {
@@ -19,10 +19,17 @@ fn try_all(rng: &mut Rng, floor: &Floor, buffer: &mut [u8]) {
         a: rng.draw() as u16,
         b: rng.draw() as u16,
     };
+    let name = match rng.chance(1, 3) {
+        true => random::bad_name(rng),
+        false => random::name_for(rng, floor),
+    };
     for answer in [
         book(floor, tile, canister),
         stop(floor, tile),
         repair(floor, tile),
+        keep(floor, name),
+        forget(floor, name),
+        recall(floor, name),
     ] {
         assert_eq!(answer.refusal == 30, !sound);
         if answer.refusal != 0 {
@@ -88,6 +95,8 @@ fn one_byte_everywhere() {
         (s.width, s.length, s.gap, s.travel) = (pair, pair, pair, pair);
         s.hoppers = u64::from_le_bytes([byte; 8]);
         s.sources = s.hoppers;
+        let set = s.hoppers;
+        floor.layouts = [Layout { name: set, set }; 8];
         let mut rng = Rng::new(byte.into());
         try_all(&mut rng, &floor, &mut buffer);
     }

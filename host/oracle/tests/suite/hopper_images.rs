@@ -2,7 +2,7 @@
 
 use crate::common::*;
 use oracle::random::{self, Rng};
-use oracle::{load, write, Floor, Settings, LONGEST_IMAGE};
+use oracle::{load, write, Floor, Settings};
 
 /// W 3, hoppers 0 and 2; tile 1 holds 9, and 3 and 4 were delivered.
 fn two() -> Floor {
@@ -79,7 +79,7 @@ fn crowded(hoppers: &[u8]) -> Floor {
 #[test]
 fn the_longest_has_one_hopper() {
     let full = [
-        (&[9][..], LONGEST_IMAGE),
+        (&[9][..], 8_748),
         (&[9, 10], 8_632),
         (&[0, 9, 63], 8_508),
         (&[0, 7, 56, 63], 8_384),

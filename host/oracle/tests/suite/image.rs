@@ -99,16 +99,21 @@ fn crowded() -> Floor {
 
 #[test]
 fn the_longest_image() {
-    let floor = crowded();
-    assert_eq!(floor.counters.booked, 1_008);
-    let mut buffer = [0xee; LONGEST_IMAGE + 4];
-    assert_eq!(write(&floor, &mut buffer[..8_747]).refusal, 13);
-    assert_eq!(buffer, [0xee; LONGEST_IMAGE + 4]);
-    let answer = write(&floor, &mut buffer);
-    assert_eq!((answer.refusal, answer.length), (0, 8_748));
-    assert_eq!(buffer[8_748..], [0xee; 4]);
-    assert_eq!(load(&buffer[..8_748]).floor, floor);
-    assert_eq!(load(&buffer).refusal, 9);
+    let full = crowded();
+    assert_eq!(full.counters.booked, 1_008);
+    let names = ["A", "B", "C", "D", "E", "F", "G", "H"];
+    let layouts = names.iter().fold(full, |floor, name| kept(&floor, name));
+    for (floor, length) in [(full, 8_748), (layouts, 8_908)] {
+        let mut buffer = [0xee; LONGEST_IMAGE + 4];
+        assert_eq!(write(&floor, &mut buffer[..length - 1]).refusal, 13);
+        assert_eq!(buffer, [0xee; LONGEST_IMAGE + 4]);
+        let answer = write(&floor, &mut buffer);
+        assert_eq!((answer.refusal, answer.length as usize), (0, length));
+        assert!(buffer[length..].iter().all(|byte| *byte == 0xee));
+        assert_eq!(load(&buffer[..length]).floor, floor);
+        assert_eq!(load(&buffer).refusal, 9);
+    }
+    assert_eq!(LONGEST_IMAGE, 8_908);
 }
 
 /// Tile 0 of W 3, hopper 2, with canisters 1 and 2.

@@ -1,16 +1,20 @@
 //! Demand 3 on random lists of calls.
 
-use std::collections::BTreeSet;
+use std::collections::{BTreeMap, BTreeSet};
 
 use crate::common::*;
 use oracle::random::{self, Call, Rng};
-use oracle::{book, repair, round, stop, well_formed, Floor, Grid, Report, Settings, Side};
+use oracle::{
+    book, forget, keep, recall, repair, round, stop, well_formed, Floor, Grid, Report, Settings,
+    Side,
+};
 
 /// What the paper lets us know about a list from its answers alone.
 struct Record {
     numbers: BTreeSet<u32>,
     gone: BTreeSet<u32>,
     running: Vec<bool>,
+    layouts: BTreeMap<[u8; 8], Vec<bool>>,
     booked: u32,
     delivered: [u32; 4],
 }
@@ -21,6 +25,7 @@ impl Record {
             numbers: held(floor).into_iter().collect(),
             gone: BTreeSet::new(),
             running: tiles(floor).map(|t| floor.tiles[t].running == 1).collect(),
+            layouts: layouts(floor),
             booked: floor.counters.booked,
             delivered: floor.counters.delivered,
         }
@@ -41,6 +46,11 @@ impl Record {
             }
             Call::Stop { tile } => self.running[tile as usize] = false,
             Call::Repair { tile } => self.running[tile as usize] = true,
+            Call::Keep { name } => {
+                self.layouts.insert(name, self.running.clone());
+            }
+            Call::Forget { name } => assert!(self.layouts.remove(&name).is_some()),
+            Call::Recall { name } => self.running = self.layouts[&name].clone(),
             Call::Round => {
                 for rank in 0..4 {
                     assert!(report.at(rank).is_sorted_by(|x, y| x < y));
@@ -64,6 +74,7 @@ impl Record {
         assert_eq!(floor.counters.booked, self.booked);
         assert_eq!(floor.counters.delivered, self.delivered);
         assert!(tiles(floor).all(|t| (floor.tiles[t].running == 1) == self.running[t]));
+        assert_eq!(layouts(floor), self.layouts);
     }
 }
 
@@ -72,6 +83,9 @@ pub fn perform(call: Call, floor: &Floor) -> (u8, Floor, Report) {
         Call::Book { tile, canister } => book(floor, tile, canister),
         Call::Stop { tile } => stop(floor, tile),
         Call::Repair { tile } => repair(floor, tile),
+        Call::Keep { name } => keep(floor, name),
+        Call::Forget { name } => forget(floor, name),
+        Call::Recall { name } => recall(floor, name),
         Call::Round => {
             let answer = round(floor);
             return (answer.refusal, answer.floor, answer.report);
@@ -82,6 +96,14 @@ pub fn perform(call: Call, floor: &Floor) -> (u8, Floor, Report) {
 
 fn tiles(floor: &Floor) -> std::ops::Range<usize> {
     0..floor.settings.tile_count()
+}
+
+/// The layouts by name, with the tiles that run in each.
+fn layouts(floor: &Floor) -> BTreeMap<[u8; 8], Vec<bool>> {
+    let used = floor.layouts.iter().filter(|layout| layout.name != 0);
+    let runs = |set: u64| tiles(floor).map(|tile| set >> tile & 1 == 1).collect();
+    used.map(|layout| (layout.name.to_be_bytes(), runs(layout.set)))
+        .collect()
 }
 
 fn held(floor: &Floor) -> Vec<u32> {
@@ -187,6 +209,12 @@ fn drain(rng: &mut Rng, first: &Floor, cap: u64) -> Option<u64> {
             assert_ne!(refusal, 0);
             floor = after;
         }
+        // Neither keeping nor forgetting nor a recall of what runs ends the list.
+        while rng.chance(1, 8) {
+            let after = record.make(random::still_call(rng, &floor), &floor).1;
+            assert_eq!(after.tiles, floor.tiles);
+            floor = after;
+        }
         floor = record.make(Call::Round, &floor).1;
         rounds += 1;
     }
@@ -202,7 +230,7 @@ fn drain(rng: &mut Rng, first: &Floor, cap: u64) -> Option<u64> {
 
 #[test]
 fn random_lists_keep_the_promises() {
-    let mut accepted = [0; 4];
+    let mut accepted = [0; 7];
     let mut refused = BTreeSet::new();
     for seed in 0..1_500 {
         let mut rng = Rng::new(seed);
@@ -219,6 +247,9 @@ fn random_lists_keep_the_promises() {
                     Call::Stop { .. } => 1,
                     Call::Repair { .. } => 2,
                     Call::Round => 3,
+                    Call::Keep { .. } => 4,
+                    Call::Forget { .. } => 5,
+                    Call::Recall { .. } => 6,
                 };
                 accepted[kind] += 1;
             } else {
@@ -229,7 +260,7 @@ fn random_lists_keep_the_promises() {
         record.check(&floor);
     }
     assert!(accepted.iter().all(|count| *count > 500), "{accepted:?}");
-    let all: BTreeSet<u8> = [4, 5, 6, 7, 8, 31, 32, 33, 34].into();
+    let all: BTreeSet<u8> = [4, 5, 6, 7, 8, 31, 32, 33, 34, 45, 46].into();
     assert_eq!(refused, all);
 }
 

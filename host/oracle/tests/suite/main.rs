@@ -8,6 +8,8 @@ mod garbage;
 mod hopper_images;
 mod hoppers;
 mod image;
+mod layout_images;
+mod layouts;
 mod lists;
 mod naive;
 mod reasons;

@@ -11,6 +11,7 @@ pub fn well_formed(floor: &Floor) -> bool {
                     && (0..16).all(|place| floor.canisters[16 * tile + place] == Canister::ZERO)
             })
             && numbers_fit(floor)
+            && layouts_fit(floor)
     }
 }
 
@@ -139,4 +140,44 @@ fn numbers_fit(floor: &Floor) -> bool {
         gone += *count as i64;
     }
     c.booked as i64 == gone + seen.len() as i64 && c.booked <= c.last
+}
+
+fn layouts_fit(floor: &Floor) -> bool {
+    let mut last: Option<String> = None;
+    let mut ended = false;
+    for layout in &floor.layouts {
+        if layout.name == 0 && layout.set == 0 {
+            ended = true;
+            continue;
+        }
+        let Some(name) = letters(layout.name) else {
+            return false;
+        };
+        if ended || last.is_some_and(|last| last >= name) {
+            return false;
+        }
+        for tile in 0..64 {
+            let runs = layout.set >> tile & 1 == 1;
+            let hopper = floor.settings.hoppers >> tile & 1 == 1;
+            if (runs && tile >= tiles(floor)) || (hopper && !runs) {
+                return false;
+            }
+        }
+        last = Some(name);
+    }
+    true
+}
+
+/// The letters of a name in memory, if it is one.
+fn letters(name: u64) -> Option<String> {
+    let mut text = String::new();
+    for at in 0..8 {
+        let byte = (name >> (56 - 8 * at)) as u8;
+        match byte {
+            b'A'..=b'Z' if text.len() == at => text.push(byte.into()),
+            0 => {}
+            _ => return None,
+        }
+    }
+    (!text.is_empty()).then_some(text)
 }

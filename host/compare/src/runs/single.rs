@@ -1,0 +1,138 @@
+//! The runs for single requests.
+
+use oracle::random::{self, Rng};
+
+use super::{arbitrary_floor, begin, damaged_floor, finish, list_settings, Failure};
+use crate::call::Call;
+use crate::tally::Tally;
+use crate::{arrows, exchange, layouts, makers};
+
+/// Every pair in either order, on a well-formed floor and on a damaged one.
+pub fn exchange_once(rng: &mut Rng, tally: &mut Tally) -> Result<(), Box<Failure>> {
+    for sound in [true, true, false] {
+        let first = match sound {
+            true => arbitrary_floor(rng),
+            false => damaged_floor(rng, tally).0,
+        };
+        finish(begin(first, sound, None), tally, |run| {
+            for pair in 0..=exchange::FREE.len() {
+                run.exchange(exchange::pair(rng, &first, pair))?;
+            }
+            run.exchange(exchange::stop_twice(rng, &first))
+        })?;
+    }
+    Ok(())
+}
+
+/// Pairs in either order on the floors of a list; then one pair in its middle
+/// is exchanged, with all that comes after.
+pub fn exchange_in_list(rng: &mut Rng, tally: &mut Tally) -> Result<(), Box<Failure>> {
+    let first = match rng.chance(1, 2) {
+        true => oracle::fresh(list_settings(rng)).floor,
+        false => random::floor(rng),
+    };
+    finish(begin(first, true, None), tally, |run| {
+        for _ in 0..rng.range(5, 50) {
+            let floor = run.floor;
+            if rng.chance(1, 4) {
+                let pair = rng.range(0, exchange::FREE.len() as u64) as usize;
+                run.exchange(exchange::pair(rng, &floor, pair))?;
+            }
+            run.make(random::call(rng, &floor).into())?;
+        }
+        let middle = run.floor;
+        let before = run.case.calls.len();
+        let pair = rng.below(exchange::FREE.len() as u64) as usize;
+        for call in exchange::pair(rng, &middle, pair) {
+            run.make(call)?;
+        }
+        for _ in 0..rng.range(5, 50) {
+            let floor = run.floor;
+            run.make(random::call(rng, &floor).into())?;
+        }
+        run.check()?;
+        let calls = run.case.calls.split_off(before);
+        run.floor = middle;
+        run.exchange(calls)
+    })
+}
+
+/// A floor where several sides of a tile want, and mostly rounds.
+pub fn crowd(rng: &mut Rng, tally: &mut Tally) -> Result<(), Box<Failure>> {
+    let first = makers::crowded_floor(rng);
+    finish(begin(first, true, None), tally, |run| {
+        for _ in 0..rng.range(20, 60) {
+            let floor = run.floor;
+            run.make(match rng.chance(3, 4) {
+                true => Call::Round,
+                false => random::call(rng, &floor).into(),
+            })?;
+        }
+        run.check()
+    })
+}
+
+/// A floor of two rows and columns or more, fresh or with any old arrows, and
+/// stops and repairs that make and break ties between neighbours.
+pub fn ties(rng: &mut Rng, tally: &mut Tally) -> Result<(), Box<Failure>> {
+    let mut settings = list_settings(rng);
+    while settings.columns < 2 || settings.rows < 2 {
+        settings = list_settings(rng);
+    }
+    let first = match rng.chance(1, 2) {
+        true => oracle::fresh(settings).floor,
+        false => random::floor_with(rng, settings),
+    };
+    finish(begin(first, true, None), tally, |run| {
+        for _ in 0..rng.below(80) {
+            let floor = run.floor;
+            run.make(arrows::tie_call(rng, &floor))?;
+        }
+        run.check()?;
+        run.drain(rng, 400)
+    })
+}
+
+/// Two to four hoppers; stops cut tiles off from some of them.
+pub fn several(rng: &mut Rng, tally: &mut Tally) -> Result<(), Box<Failure>> {
+    let mut settings = list_settings(rng);
+    while settings.hopper_count() < 2 {
+        settings = list_settings(rng);
+    }
+    let first = match rng.below(3) {
+        0 => makers::delivering_floor(rng),
+        1 => oracle::fresh(settings).floor,
+        _ => random::floor_with(rng, settings),
+    };
+    finish(begin(first, true, None), tally, |run| {
+        for _ in 0..rng.below(60) {
+            let floor = run.floor;
+            run.make(match rng.below(16) {
+                0..=3 => random::call(rng, &floor).into(),
+                4 => random::refused_call(rng, &floor).into(),
+                5 => makers::loading(rng, &floor),
+                _ => Call::Round,
+            })?;
+        }
+        run.check()?;
+        run.drain(rng, 400)
+    })
+}
+
+/// Layouts kept, forgotten and recalled, with stops, repairs, rounds and
+/// images between them.
+pub fn layouts(rng: &mut Rng, tally: &mut Tally) -> Result<(), Box<Failure>> {
+    let settings = list_settings(rng);
+    let first = match rng.chance(1, 2) {
+        true => oracle::fresh(settings).floor,
+        false => random::floor_with(rng, settings),
+    };
+    finish(begin(first, true, None), tally, |run| {
+        for _ in 0..rng.below(60) {
+            let floor = run.floor;
+            run.make(layouts::list_call(rng, &floor))?;
+        }
+        run.check()?;
+        run.drain(rng, 400)
+    })
+}
