@@ -4,7 +4,7 @@ use mathlib.Core.Bool.{Bool, true, false, cond, _&&_}
 use mathlib.Core.List.{List, [], _∷_, _++_, map}
 use Prim.Native.Nat.{ℕ, zero, suc}
 use native.Mathlib.Omega.{arith}
-use lib.ListN.{take, replicate}
+use lib.ListN.{length, take, replicate}
 use Rattle.laws.specs.Define.{allOf, bit}
 use Rattle.laws.specs.Every.{All}
 use Rattle.floor.specs.declared.Floor.{Floor}
@@ -19,7 +19,7 @@ use Rattle.floor.specs.Arrows.{Unpressed}
 use Rattle.floor.proofs.Calling.{can, named, holds}
 use Rattle.floor.proofs.Shown.{Shows, refusalBy, shows-refusal}
 use Rattle.floor.proofs.Walked.{isTyped, valueAfter, disturbsBy, quietBy, unpressedBy, waitingBy, call-disturbs, shows-list, unpressed, waiting}
-use Rattle.floor.proofs.Made.{Made, called, fresh, stop as halt, repair as mend, floorOf, made, made-shows, list-shows, list-typed, answers, runsAfter as ranAfter, Seen, Rows, hold, holdBy, by-values}
+use Rattle.floor.proofs.Made.{Made, called, fresh, book as put, rounds as run, stop as halt, repair as mend, floorOf, made, made-shows, list-shows, list-typed, answers, runsAfter as ranAfter, Seen, Rows, hold, holdBy, by-values}
 use Rattle.floor.proofs.Fairness.{nobody-waits-twice}
 use Rattle.floor.proofs.Arrows.{arrows}
 use Rattle.floor.proofs.Instances.{quietEnough, empties, emptied, rounds, typed-stop, typed-repair, typed-rounds, one, swift, crowd, crowd-shows, square, square-shows, four-tiles, unpressed-rounds, settled, rest, settled-shows}
@@ -86,6 +86,17 @@ which-end =
 recalls-empty : membersOf (view (floorAfter (floorAfter (floorOf swift) recalling) between)) 0 ≡ []
 recalls-empty = emptied swift recalling between 0 (endings-test .0)
 
+-- the first trial's floor, its canister still aboard when the recall comes: five rounds are enough, and keeping, forgetting and a recall that makes nothing stand between them
+unfoldable aboard : List Call
+aboard = round ∷ keep C ∷ round ∷ forget C ∷ round ∷ recall A ∷ rounds 2
+
+aboard-test : (empties one (keep A ∷ []) aboard 0 ≡ true) × (length (membersOf (valueAfter (made one .1) (keep A ∷ take 6 aboard)) 0) ≡ 1)
+unfolding holds holdBy one can aboard quietBy quietEnough empties
+aboard-test = (refl, refl)
+
+aboard-empty : membersOf (view (floorAfter (floorAfter (floorOf one) (keep A ∷ [])) aboard)) 0 ≡ []
+aboard-empty = emptied one (keep A ∷ []) aboard 0 (aboard-test .0)
+
 -- the calls that a recall is, by the value
 unfoldable neededBy : Model → ℕ → ℕ → ℕ → List Call
 neededBy m set t zero = []
@@ -128,20 +139,27 @@ recall-waits = waiting (floorOf crowd) (made crowd .1) crowd-shows meanwhile typ
 recall-fair : Fair 1 (grantsIn (floorOf crowd) meanwhile 4)
 recall-fair = nobody-waits-twice (floorOf crowd) (crowd-shows .well) .fair meanwhile typed-meanwhile 4 1 recall-waits
 
-unfoldable without : Made
-without = mend 0 (called (keep A) (halt 0 one))
+-- W 3, hopper 0: A without tile 1, which runs now; the canister on tile 2 wants into it
+unfoldable lane : Made
+lane = put 5 70 0 2 (run 2 (mend 1 (called (keep A) (halt 1 (fresh 3 1 0)))))
 
-without-test : (made without .0 ≡ true) × ((refusalBy (made without .1) (recall A) ≡ 0) × ((total (made without .1 .settings) ≡ 2) × (bit (setOf (made without .1 .layouts) A) 0 ≡ false)))
-unfolding holds holdBy one without
-without-test = (refl, (refl, (refl, refl)))
+lane-test : (made lane .0 ≡ true) × ((wants (made lane .1) 1 4 ≡ true) × ((refusalBy (made lane .1) (recall A) ≡ 0) × ((total (made lane .1 .settings) ≡ 3) × (bit (setOf (made lane .1 .layouts) A) 1 ≡ false))))
+unfolding holds holdBy lane wants
+lane-test = (refl, (refl, (refl, (refl, refl))))
 
-recall-ends : (k : ℕ) → wants (view (floorAfter (floorOf without) (recall A ∷ repair 0 ∷ []))) 0 k ≡ false
+lane-shows : Shows (floorOf lane) (made lane .1)
+lane-shows = made-shows lane (lane-test .0)
+
+lane-wants : wants (view (floorOf lane)) 1 4 ≡ true
+lane-wants = ap (λ (x : Model). wants x 1 4) (lane-shows .value) ∙ lane-test .1 .0
+
+recall-ends : (k : ℕ) → wants (view (floorAfter (floorOf lane) (recall A ∷ repair 1 ∷ []))) 1 k ≡ false
 unfolding recallSet view
 recall-ends =
-    let E = made-shows without (without-test .0) in
-    let two : total (floorOf without .settings) ≡ 2 = ap (λ (x : Model). total (x .settings)) (E .value) ∙ without-test .1 .1 .0 in
-    nobody-waits-twice (floorOf without) (E .well) .recall-ends A 0 (shows-refusal (floorOf without) (made without .1) E (recall A) ∙ without-test .1 .0) (omega (arith, two))
-    (ap (λ (x : Model). bit (setOf (x .layouts) A) 0) (E .value) ∙ without-test .1 .1 .1) (repair 0 ∷ []) (typed-repair 0, tt) refl
+    let E = lane-shows in
+    let three : total (floorOf lane .settings) ≡ 3 = ap (λ (x : Model). total (x .settings)) (E .value) ∙ lane-test .1 .1 .1 .0 in
+    nobody-waits-twice (floorOf lane) (E .well) .recall-ends A 1 (shows-refusal (floorOf lane) (made lane .1) E (recall A) ∙ lane-test .1 .1 .0) (omega (arith, three))
+    (ap (λ (x : Model). bit (setOf (x .layouts) A) 1) (E .value) ∙ lane-test .1 .1 .1 .1) (repair 1 ∷ []) (typed-repair 1, tt) refl
 
 -- arrows rest through keeping, forgetting and a recall that makes nothing
 abbrev calm : List Call
