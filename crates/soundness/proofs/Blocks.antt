@@ -48,6 +48,9 @@ few-of f t p = count-fits (f .settings) t (headOf f t) (head-fit f t p)
 pub block-length : (cs : List Canister) (t : ℕ) → length cs ≡ 1024 → t < 64 → length (block cs t) ≡ 16
 block-length cs t lc h = length-take-le 16 (drop (16 * t) cs) (rw (length-drop, lc) (omega arith))
 
+pub block-at : (cs : List Canister) (t k : ℕ) → k < 16 → getD (block cs t) k zeroCanister ≡ getD cs (16 * t + k) zeroCanister
+block-at cs t k h = getD-take 16 (drop (16 * t) cs) k zeroCanister h ∙ getD-drop (16 * t) cs k zeroCanister
+
 pub used-length : (f : Floor) (t : ℕ) → length (f .canisters) ≡ 1024 → t < 64 → Fit f t → length (usedOf f t) ≡ headOf f t .count
 used-length f t lc h p = length-take-le (headOf f t .count) (block (f .canisters) t) (omega (arith, block-length (f .canisters) t lc h, few-of f t p))
 

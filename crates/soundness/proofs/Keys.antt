@@ -11,14 +11,14 @@ use Rattle.floor.specs.declared.Canister.{Canister}
 use Rattle.floor.specs.declared.Floor.{Floor}
 use Rattle.floor.specs.Model.{numbers}
 use Rattle.floor.specs.Memory.{zeroCanister, headOf, block}
-use Rattle.soundness.proofs.Blocks.{Fit, block-length, free-number}
+use Rattle.soundness.proofs.Blocks.{Fit, block-length, block-at, free-number}
 
 -- sixteen places that were copied from tile t
 pub block-copied : (cs : List Canister) (t : ℕ) (items : List Canister) → length cs ≡ 1024 → t < 64 → length items ≡ 16
     → Upto 16 (λ j. getD cs (16 * t + j) zeroCanister) zeroCanister items → items ≡ block cs t
 block-copied cs t items lc h len up =
     ext-getD zeroCanister items (block cs t) (len ∙ sym (block-length cs t lc h))
-    (λ i k. let j : i < 16 = omega (arith, k, len) in up i j ∙ sym (getD-take 16 (drop (16 * t) cs) i zeroCanister j ∙ getD-drop (16 * t) cs i zeroCanister))
+    (λ i k. let j : i < 16 = omega (arith, k, len) in up i j ∙ sym (block-at cs t i j))
 
 -- the first n numbers are those of the places; zeros from there on
 abbrev pub Keyed : Floor → ℕ → List ℕ → Type 0

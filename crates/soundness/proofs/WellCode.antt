@@ -19,7 +19,7 @@ use Rattle.floor.specs.declared.Settings.{Settings}
 use Rattle.floor.specs.declared.Floor.{Floor}
 use Rattle.floor.specs.Settings.{total, spacing, hoppersOf, settingsRefusal, settingsPass}
 use Rattle.floor.specs.Model.{tileOf, numbers, numbersOn}
-use Rattle.floor.specs.Memory.{headOf, view, block, tileFits}
+use Rattle.floor.specs.Memory.{isZeroCanister, headOf, view, block, tileFits}
 use Rattle.floor.specs.Well.{headSound, inside, apart, inOrder, membersSound, tileSound, numbersSound, countersSound, stateSound, stateWell, wellFormed}
 use Rattle.floor.proofs.Well.{settings-fact, pairs-imp}
 use Rattle.floor.proofs.Rows.{state-fits-of, state-fit-at, view-length}
@@ -28,8 +28,9 @@ use Rattle.floor.proofs.LayoutPlaces.{placeTest, layouts-code}
 use Rattle.unique.specs.Differ.{differ, Runs}
 use Rattle.heads.specs.Head.{Sized}
 use Rattle.places.specs.Place.{memberSound}
-use Rattle.soundness.specs.Tile.{usedSound, tileTest}
+use Rattle.soundness.specs.Tile.{usedSound, tileTest, headTest, placesTest}
 use Rattle.soundness.specs.Code.{tilesTest, counted}
+use Rattle.soundness.proofs.Branches.{test-empty, test-used}
 use Rattle.soundness.proofs.Joins.{all-cat}
 use Rattle.soundness.proofs.Blocks.{usedOf, Fit, used-off, tile-view, numbers-view, count-view, differ-view, runs-view}
 
@@ -74,6 +75,15 @@ Tests f t =
 
 abbrev pub testOf : Floor → ℕ → Bool
 testOf f = tilesTest (f .settings) (f .counters .last) (f .tiles) (f .canisters)
+
+-- tile t by the parts that the code tests
+pub tested-empty : (f : Floor) (t : ℕ) → headOf f t .count ≡ 0 → (headTest (f .settings) t (headOf f t) && allOf isZeroCanister (block (f .canisters) t)) ≡ testOf f t
+unfolding tilesTest
+tested-empty f t e = test-empty (f .settings) (f .counters .last) t (headOf f t) (block (f .canisters) t) e
+
+pub tested-used : (f : Floor) (t : ℕ) → (headOf f t .count ≡ 0 → ⊥) → (headTest (f .settings) t (headOf f t) && placesTest (f .settings) (f .counters .last) (headOf f t .count) (block (f .canisters) t)) ≡ testOf f t
+unfolding tilesTest
+tested-used f t e = test-used (f .settings) (f .counters .last) t (headOf f t) (block (f .canisters) t) e
 
 test-fit : (f : Floor) (t : ℕ) → testOf f t ≡ true → Fit f t
 unfolding tilesTest tileTest

@@ -6,7 +6,7 @@ ghost use lib.ListN.{length};
 ghost use Rattle.floor.specs.Settings.{hoppersOf, settingsPass};
 ghost use Rattle.floor.specs.Well.{countersSound, stateWell, wellFormed};
 ghost use Rattle.heads.specs.Head.{Sized};
-ghost use Rattle.soundness.specs.Tile.{tileTest};
+ghost use Rattle.soundness.specs.Tile.{headTest, placesTest};
 ghost use Rattle.soundness.specs.Code.{counted};
 use chains::numbers_differ;
 use floor::Canister;
@@ -20,6 +20,7 @@ use layouts::layouts_ok;
 use places::members_ok;
 use places::pairs_ok;
 use places::rest_ok;
+use places::zero_canister;
 use sets::size;
 use settings::settings_refusal;
 use settings::tiles_of;
@@ -30,25 +31,33 @@ const NONE: Canister = Canister {
     b: 0,
 };
 
-// One tile, from its head and its sixteen places.
-pub fn tile_ok(s: Settings, last: u32, t: usize, h: Tile, items: [Canister; 16]) -> bool
-    requires { ⌜ Sized s × (s .length ≤ s .width) ⌝ }
-    ensures { λ r. ⌜ r ≡ tileTest s last t h items ⌝ }
+// A tile without its canisters.
+pub fn head_test(s: Settings, t: usize, h: Tile) -> bool
+    requires { ⌜ Sized s ⌝ }
+    ensures { λ r. ⌜ r ≡ headTest s t h ⌝ }
 {
     let fits = head_fits(s, t, h);
-    if !fits {
-        return false;
-    }
-    let n = h.count as usize;
-    let free = rest_ok(items, n);
     let all = tiles_of(s);
     if all <= t {
-        return free;
+        return fits;
     }
-    let head = head_ok(s, t, h);
+    let own = head_ok(s, t, h);
+    fits & own
+}
+
+// The sixteen places of a tile that has canisters.
+pub fn places_test(s: Settings, last: u32, count: u8, items: [Canister; 16]) -> bool
+    requires { ⌜ s .length ≤ s .width ⌝ }
+    ensures { λ r. ⌜ r ≡ placesTest s last count items ⌝ }
+{
+    if 16 < count {
+        return false;
+    }
+    let n = count as usize;
+    let free = rest_ok(items, n);
     let each = members_ok(s, last, items, n);
     let pairs = pairs_ok(s, items, n);
-    free & (head & (each & pairs))
+    free & (each & pairs)
 }
 
 // How many canisters the tiles hold together.
@@ -89,8 +98,8 @@ pub fn counters_ok(s: Settings, c: Counters, n: u32) -> bool
     spare & ((booked == sum) & (c.booked <= c.last))
 }
 
-// Well formed but for the layouts, once the settings have passed. The places are read where they stand; where no canister is on the floor, no numbers are compared.
-// A tile without canisters leaves its numbers zero.
+// Well formed but for the layouts, once the settings have passed. The places are read where they stand, and copied only where a
+// tile has canisters; where no canister is on the floor, no numbers are compared. A tile without canisters leaves its numbers zero.
 pub fn scan(f: Floor) -> bool
     requires { ⌜ settingsPass (f .settings) ≡ true ⌝ }
     ensures { λ r. ⌜ r ≡ stateWell f ⌝ }
@@ -99,12 +108,21 @@ pub fn scan(f: Floor) -> bool
     let counters = f.counters;
     for t in 0usize..64 {
         let h = f.tiles[t];
-        let mut items = [NONE; 16];
-        for k in 0usize..16 {
-            items[k] = f.canisters[16 * t + k];
+        let mut ok = head_test(s, t, h);
+        if h.count == 0 {
+            for k in 0usize..16 {
+                let one = zero_canister(f.canisters[16 * t + k]);
+                ok = ok & one;
+            }
+        } else {
+            let mut items = [NONE; 16];
+            for i in 0usize..16 {
+                items[i] = f.canisters[16 * t + i];
+            }
+            let used = places_test(s, counters.last, h.count, items);
+            ok = ok & used;
         }
-        let one = tile_ok(s, counters.last, t, h, items);
-        if !one {
+        if !ok {
             return false;
         }
     }
@@ -118,9 +136,9 @@ pub fn scan(f: Floor) -> bool
     for u in 0usize..64 {
         let h = f.tiles[u];
         if 0 < h.count {
-            for i in 0usize..16 {
-                let c = f.canisters[16 * u + i];
-                keys[16 * u + i] = c.number;
+            for j in 0usize..16 {
+                let c = f.canisters[16 * u + j];
+                keys[16 * u + j] = c.number;
             }
         }
     }

@@ -1,20 +1,24 @@
 use mathlib.Core.Path.{_≡_, refl, sym, ap, _∙_, subst}
 use mathlib.Core.Logic.{⊎-elim}
-use mathlib.Core.Bool.{true, false}
+use mathlib.Core.Bool.{Bool, true, false, _&&_}
 use mathlib.Core.List.{List}
 use Prim.Native.Nat.{ℕ, _+_, _-_, _*_, _≤_, _<_}
 use native.Mathlib.Omega.{arith}
-use lib.ListN.{length, getD, length-set}
+use lib.ListN.{length, getD, take, length-set}
+use lib.Seq.{take-all}
 use borrow.Author.Tests.{not-true, not-false}
-use Rattle.laws.specs.Define.{allBelow}
-use Rattle.laws.specs.Tables.{Upto, upto-turn, below-zero, below-step, ended}
+use Rattle.laws.specs.Define.{allOf, allBelow}
+use Rattle.laws.specs.Tables.{Upto, upto-turn, below-zero, below-step, ended, with-zero, with-step}
+use Rattle.floor.specs.declared.Canister.{Canister}
+use Rattle.floor.specs.declared.Floor.{Floor}
 use Rattle.floor.specs.Model.{numbers}
-use Rattle.floor.specs.Memory.{zeroCanister, headOf, block}
+use Rattle.floor.specs.Memory.{zeroCanister, isZeroCanister, headOf, block}
 use Rattle.floor.proofs.Sized.{tiles-length, canisters-length}
 use Rattle.unique.specs.Differ.{Runs}
-use Rattle.soundness.specs.Tile.{tileTest}
-use Rattle.soundness.specs.Code.{tilesTest, counted}
-use Rattle.soundness.proofs.WellCode.{testOf, fit-each, keys-run, well-unlike, well-tiled, well-empty, pass-sized}
+use Rattle.soundness.specs.Tile.{headTest, placesTest}
+use Rattle.soundness.specs.Code.{counted}
+use Rattle.soundness.proofs.WellCode.{testOf, fit-each, keys-run, well-unlike, well-tiled, well-empty, pass-sized, tested-empty, tested-used}
+use Rattle.soundness.proofs.Blocks.{block-length, block-at}
 use Rattle.soundness.proofs.Keys.{Keyed, block-copied, keyed-start, keyed-first, keyed-turn, keyed-last, keyed-empty, keyed-end}
 use borrow.Author.Needs.{needs}
 use Rattle.soundness.proofs.scan.Statement.{statement}
@@ -22,15 +26,39 @@ use Rattle.soundness.proofs.scan.Tie as tie
 use Rattle.soundness.proofs.scan.Reads as reads
 use Rattle.soundness.proofs.scan.Lts as lts
 use Rattle.chains.proofs.numbers_differ.Reads as numbers-differ-reads
+use Rattle.places.proofs.zero_canister.Reads as zero-canister-reads
 use Rattle.soundness.proofs.count_all.Reads as count-all-reads
 use Rattle.soundness.proofs.counters_ok.Reads as counters-ok-reads
-use Rattle.soundness.proofs.tile_ok.Reads as tile-ok-reads
+use Rattle.soundness.proofs.head_test.Reads as head-test-reads
+use Rattle.soundness.proofs.places_test.Reads as places-test-reads
+
+-- tile t without its canisters
+abbrev headed : Floor → ℕ → Bool
+headed f t = headTest (f .settings) t (headOf f t)
+
+-- what its test is once its places are gone through
+after-empty : (f : Floor) (t k : ℕ) {ok : Bool} → length (f .canisters) ≡ 1024 → t < 64 → headOf f t .count ≡ 0 → 16 ≤ k → ok ≡ (headed f t && allOf isZeroCanister (take k (block (f .canisters) t))) → ok ≡ testOf f t
+after-empty f t k lc on none all e =
+    let n : length (block (f .canisters) t) ≤ k = rw (block-length (f .canisters) t lc on) all in
+    e ∙ ap (λ (l : List Canister). headed f t && allOf isZeroCanister l) (take-all k (block (f .canisters) t) n) ∙ tested-empty f t none
+
+after-used : (f : Floor) (t k : ℕ) (items : List Canister) {a b : Bool} → length (f .canisters) ≡ 1024 → t < 64 → (headOf f t .count ≡ 0 → ⊥) → 16 ≤ k → length items ≡ 16
+    → Upto k (λ j. getD (f .canisters) (16 * t + j) zeroCanister) zeroCanister items → a ≡ headed f t → b ≡ placesTest (f .settings) (f .counters .last) (headOf f t .count) items → (a && b) ≡ testOf f t
+after-used f t k items lc on some all len up p q =
+    let e : items ≡ block (f .canisters) t = block-copied (f .canisters) t items lc on len (λ j h. up j (omega arith)) in
+    rw (p, q, e) (tested-used f t some)
 
 abbrev Inv-loop2 : tie.InvT-loop2
-Inv-loop2 f s counters t h items₀ k₀ items k = (k ≤ 16) × (length items ≡ 16) × Upto k (λ j. getD (f .canisters) (16 * t + j) zeroCanister) zeroCanister items
+Inv-loop2 f s counters t ok₀ k₀ ok k = (k ≤ 16) × (t < 64) × (ok ≡ (headed f t && allOf isZeroCanister (take k (block (f .canisters) t))))
 
 abbrev μ-loop2 : tie.MeasureT-loop2
-μ-loop2 f s counters t h items₀ k₀ items k = 16 - k
+μ-loop2 f s counters t ok₀ k₀ ok k = 16 - k
+
+abbrev Inv-loop3 : tie.InvT-loop3
+Inv-loop3 f s counters t h ok items₀ i₀ items i = (i ≤ 16) × (length items ≡ 16) × Upto i (λ j. getD (f .canisters) (16 * t + j) zeroCanister) zeroCanister items
+
+abbrev μ-loop3 : tie.MeasureT-loop3
+μ-loop3 f s counters t h ok items₀ i₀ items i = 16 - i
 
 abbrev Inv-loop : tie.InvT-loop
 Inv-loop f s counters t₀ t = (t ≤ 64) × (true ≡ allBelow (testOf f) t)
@@ -38,203 +66,239 @@ Inv-loop f s counters t₀ t = (t ≤ 64) × (true ≡ allBelow (testOf f) t)
 abbrev μ-loop : tie.MeasureT-loop
 μ-loop f s counters t₀ t = 64 - t
 
+abbrev Inv-loop5 : tie.InvT-loop5
+Inv-loop5 f n added keys₀ u j₀ keys j = (j ≤ 16) × (length keys ≡ 1024) × Keyed f (16 * u + j) keys
+
+abbrev μ-loop5 : tie.MeasureT-loop5
+μ-loop5 f n added keys₀ u j₀ keys j = 16 - j
+
 abbrev Inv-loop4 : tie.InvT-loop4
-Inv-loop4 f n added keys₀ u i₀ keys i = (i ≤ 16) × (length keys ≡ 1024) × Keyed f (16 * u + i) keys
+Inv-loop4 f n added keys₀ u₀ keys u = (u ≤ 64) × (length keys ≡ 1024) × Keyed f (16 * u) keys
 
 abbrev μ-loop4 : tie.MeasureT-loop4
-μ-loop4 f n added keys₀ u i₀ keys i = 16 - i
+μ-loop4 f n added keys₀ u₀ keys u = 64 - u
 
-abbrev Inv-loop3 : tie.InvT-loop3
-Inv-loop3 f n added keys₀ u₀ keys u = (u ≤ 64) × (length keys ≡ 1024) × Keyed f (16 * u) keys
-
-abbrev μ-loop3 : tie.MeasureT-loop3
-μ-loop3 f n added keys₀ u₀ keys u = 64 - u
-
-loop-holds : tie.Need-loop-holds Inv-loop2 μ-loop2 Inv-loop μ-loop Inv-loop4 μ-loop4 Inv-loop3 μ-loop3
+loop-holds : tie.Need-loop-holds Inv-loop2 μ-loop2 Inv-loop3 μ-loop3 Inv-loop μ-loop Inv-loop5 μ-loop5 Inv-loop4 μ-loop4
 loop-holds c = (omega arith, sym (below-zero (testOf (c .before .before .args .t1))))
 
-mul-h : tie.Need-mul-h Inv-loop2 μ-loop2 Inv-loop μ-loop Inv-loop4 μ-loop4 Inv-loop3 μ-loop3
+mul-h : tie.Need-mul-h Inv-loop2 μ-loop2 Inv-loop3 μ-loop3 Inv-loop μ-loop Inv-loop5 μ-loop5 Inv-loop4 μ-loop4
 mul-h c = search needs
 
-element-copy-out-h : tie.Need-element-copy-out-h Inv-loop2 μ-loop2 Inv-loop μ-loop Inv-loop4 μ-loop4 Inv-loop3 μ-loop3
+element-copy-out-h : tie.Need-element-copy-out-h Inv-loop2 μ-loop2 Inv-loop3 μ-loop3 Inv-loop μ-loop Inv-loop5 μ-loop5 Inv-loop4 μ-loop4
 element-copy-out-h c = search needs
 
-loop2-holds : tie.Need-loop2-holds Inv-loop2 μ-loop2 Inv-loop μ-loop Inv-loop4 μ-loop4 Inv-loop3 μ-loop3
-loop2-holds c = (omega arith, refl, λ i h. absurd (omega arith))
+head-test-requires : tie.Need-head-test-requires Inv-loop2 μ-loop2 Inv-loop3 μ-loop3 Inv-loop μ-loop Inv-loop5 μ-loop5 Inv-loop4 μ-loop4
+head-test-requires c κs = let S = c .before .before .before .before .before in pass-sized (S .args .t1 .settings) (S .pre) .0
 
-mul-items : tie.Need-mul-items Inv-loop2 μ-loop2 Inv-loop μ-loop Inv-loop4 μ-loop4 Inv-loop3 μ-loop3
-mul-items c = search needs
-
-add-items : tie.Need-add-items Inv-loop2 μ-loop2 Inv-loop μ-loop Inv-loop4 μ-loop4 Inv-loop3 μ-loop3
-add-items c = search needs
-
-mul-items-2 : tie.Need-mul-items-2 Inv-loop2 μ-loop2 Inv-loop μ-loop Inv-loop4 μ-loop4 Inv-loop3 μ-loop3
-mul-items-2 c = search needs
-
-element-copy-out-items : tie.Need-element-copy-out-items Inv-loop2 μ-loop2 Inv-loop μ-loop Inv-loop4 μ-loop4 Inv-loop3 μ-loop3
-element-copy-out-items c = search needs
-
-mul-items-3 : tie.Need-mul-items-3 Inv-loop2 μ-loop2 Inv-loop μ-loop Inv-loop4 μ-loop4 Inv-loop3 μ-loop3
-mul-items-3 c = search needs
-
-array-set-from-items : tie.Need-array-set-from-items Inv-loop2 μ-loop2 Inv-loop μ-loop Inv-loop4 μ-loop4 Inv-loop3 μ-loop3
-array-set-from-items c = search needs
-
-add-k : tie.Need-add-k Inv-loop2 μ-loop2 Inv-loop μ-loop Inv-loop4 μ-loop4 Inv-loop3 μ-loop3
-add-k c = search needs
-
-loop2-less : tie.Need-loop2-less Inv-loop2 μ-loop2 Inv-loop μ-loop Inv-loop4 μ-loop4 Inv-loop3 μ-loop3
-loop2-less c = search needs
-
-loop2-again : tie.Need-loop2-again Inv-loop2 μ-loop2 Inv-loop μ-loop Inv-loop4 μ-loop4 Inv-loop3 μ-loop3
-loop2-again c =
+loop2-holds : tie.Need-loop2-holds Inv-loop2 μ-loop2 Inv-loop3 μ-loop3 Inv-loop μ-loop Inv-loop5 μ-loop5 Inv-loop4 μ-loop4
+loop2-holds c =
     let f = c .before .before .before .before .before .before .before .before .args .t1 in
     let o = c .before .before .before .before .before .loop in
-    let l = c .before .before .loop2 in
-    (omega arith, simp length-set (l .inv .1), upto-turn (l .k) (λ j. getD (f .canisters) (16 * o .t + j) zeroCanister) zeroCanister (l .items) (getD (f .canisters) (16 * o .t + l .k) zeroCanister) (omega arith) (l .inv .2) refl)
+    (omega arith, omega arith, with-zero isZeroCanister (block (f .canisters) (o .t)) (c .before .before .head-test .ensures))
 
-tile-ok-requires : tie.Need-tile-ok-requires Inv-loop2 μ-loop2 Inv-loop μ-loop Inv-loop4 μ-loop4 Inv-loop3 μ-loop3
-tile-ok-requires c κs = pass-sized (c .before .before .before .before .before .before .before .args .t1 .settings) (c .before .before .before .before .before .before .before .pre)
+mul-zero-canister : tie.Need-mul-zero-canister Inv-loop2 μ-loop2 Inv-loop3 μ-loop3 Inv-loop μ-loop Inv-loop5 μ-loop5 Inv-loop4 μ-loop4
+mul-zero-canister c = search needs
 
-returns : tie.Need-returns Inv-loop2 μ-loop2 Inv-loop μ-loop Inv-loop4 μ-loop4 Inv-loop3 μ-loop3
-unfolding tilesTest
+add-zero-canister : tie.Need-add-zero-canister Inv-loop2 μ-loop2 Inv-loop3 μ-loop3 Inv-loop μ-loop Inv-loop5 μ-loop5 Inv-loop4 μ-loop4
+add-zero-canister c = search needs
+
+mul-zero-canister-2 : tie.Need-mul-zero-canister-2 Inv-loop2 μ-loop2 Inv-loop3 μ-loop3 Inv-loop μ-loop Inv-loop5 μ-loop5 Inv-loop4 μ-loop4
+mul-zero-canister-2 c = search needs
+
+element-copy-out-zero-canister : tie.Need-element-copy-out-zero-canister Inv-loop2 μ-loop2 Inv-loop3 μ-loop3 Inv-loop μ-loop Inv-loop5 μ-loop5 Inv-loop4 μ-loop4
+element-copy-out-zero-canister c = search needs
+
+zero-canister-requires : tie.Need-zero-canister-requires Inv-loop2 μ-loop2 Inv-loop3 μ-loop3 Inv-loop μ-loop Inv-loop5 μ-loop5 Inv-loop4 μ-loop4
+zero-canister-requires c κs = search needs
+
+add-k : tie.Need-add-k Inv-loop2 μ-loop2 Inv-loop3 μ-loop3 Inv-loop μ-loop Inv-loop5 μ-loop5 Inv-loop4 μ-loop4
+add-k c = search needs
+
+loop2-less : tie.Need-loop2-less Inv-loop2 μ-loop2 Inv-loop3 μ-loop3 Inv-loop μ-loop Inv-loop5 μ-loop5 Inv-loop4 μ-loop4
+loop2-less c = search needs
+
+loop2-again : tie.Need-loop2-again Inv-loop2 μ-loop2 Inv-loop3 μ-loop3 Inv-loop μ-loop Inv-loop5 μ-loop5 Inv-loop4 μ-loop4
+loop2-again c =
+    let S = c .before .before .before .before .before .before .before .before .before .before .before .before in
+    let f = S .args .t1 in
+    let o = c .before .before .before .before .before .before .before .before .before .loop in
+    let l = c .before .before .before .loop2 in
+    let cs = f .canisters in
+    let on : l .k < 16 = omega arith in
+    (omega arith, l .inv .1, with-step (headed f (o .t)) isZeroCanister (block cs (o .t)) (l .k) zeroCanister (rw (block-length cs (o .t) (canisters-length f _ (S .good .0)) (l .inv .1)) on) (l .inv .2) (c .zero-canister .ensures ∙ ap isZeroCanister (sym (block-at cs (o .t) (l .k) on))))
+
+loop3-holds : tie.Need-loop3-holds Inv-loop2 μ-loop2 Inv-loop3 μ-loop3 Inv-loop μ-loop Inv-loop5 μ-loop5 Inv-loop4 μ-loop4
+loop3-holds c = (omega arith, refl, λ i h. absurd (omega arith))
+
+mul-items : tie.Need-mul-items Inv-loop2 μ-loop2 Inv-loop3 μ-loop3 Inv-loop μ-loop Inv-loop5 μ-loop5 Inv-loop4 μ-loop4
+mul-items c = search needs
+
+add-items : tie.Need-add-items Inv-loop2 μ-loop2 Inv-loop3 μ-loop3 Inv-loop μ-loop Inv-loop5 μ-loop5 Inv-loop4 μ-loop4
+add-items c = search needs
+
+mul-items-2 : tie.Need-mul-items-2 Inv-loop2 μ-loop2 Inv-loop3 μ-loop3 Inv-loop μ-loop Inv-loop5 μ-loop5 Inv-loop4 μ-loop4
+mul-items-2 c = search needs
+
+element-copy-out-items : tie.Need-element-copy-out-items Inv-loop2 μ-loop2 Inv-loop3 μ-loop3 Inv-loop μ-loop Inv-loop5 μ-loop5 Inv-loop4 μ-loop4
+element-copy-out-items c = search needs
+
+mul-items-3 : tie.Need-mul-items-3 Inv-loop2 μ-loop2 Inv-loop3 μ-loop3 Inv-loop μ-loop Inv-loop5 μ-loop5 Inv-loop4 μ-loop4
+mul-items-3 c = search needs
+
+array-set-from-items : tie.Need-array-set-from-items Inv-loop2 μ-loop2 Inv-loop3 μ-loop3 Inv-loop μ-loop Inv-loop5 μ-loop5 Inv-loop4 μ-loop4
+array-set-from-items c = search needs
+
+add-i : tie.Need-add-i Inv-loop2 μ-loop2 Inv-loop3 μ-loop3 Inv-loop μ-loop Inv-loop5 μ-loop5 Inv-loop4 μ-loop4
+add-i c = search needs
+
+loop3-less : tie.Need-loop3-less Inv-loop2 μ-loop2 Inv-loop3 μ-loop3 Inv-loop μ-loop Inv-loop5 μ-loop5 Inv-loop4 μ-loop4
+loop3-less c = search needs
+
+loop3-again : tie.Need-loop3-again Inv-loop2 μ-loop2 Inv-loop3 μ-loop3 Inv-loop μ-loop Inv-loop5 μ-loop5 Inv-loop4 μ-loop4
+loop3-again c =
+    let f = c .before .before .before .before .before .before .before .before .before .before .before .args .t1 in
+    let o = c .before .before .before .before .before .before .before .before .loop in
+    let l = c .before .before .loop3 in
+    (omega arith, simp length-set (l .inv .1), upto-turn (l .i) (λ j. getD (f .canisters) (16 * o .t + j) zeroCanister) zeroCanister (l .items) (getD (f .canisters) (16 * o .t + l .i) zeroCanister) (omega arith) (l .inv .2) refl)
+
+places-test-requires : tie.Need-places-test-requires Inv-loop2 μ-loop2 Inv-loop3 μ-loop3 Inv-loop μ-loop Inv-loop5 μ-loop5 Inv-loop4 μ-loop4
+places-test-requires c κs = let S = c .before .before .before .before .before .before .before .before .before .before in pass-sized (S .args .t1 .settings) (S .pre) .1
+
+returns : tie.Need-returns Inv-loop2 μ-loop2 Inv-loop3 μ-loop3 Inv-loop μ-loop Inv-loop5 μ-loop5 Inv-loop4 μ-loop4
 returns c =
     let S = c .before .before .before .before .before .before .before .before .before in
     let f = S .args .t1 in
     let g = S .good .0 in
     let lc = canisters-length f _ g in
     let o = c .before .before .before .before .before .before .loop in
-    let m = c .before .before .before .loop2 in
-    let k : m .k ≡ 16 = omega (arith, c .before .before .loop2-test .left, m .inv .0) in
     let on : o .t < 64 = omega arith in
-    let e : m .items ≡ block (f .canisters) (o .t) = block-copied (f .canisters) (o .t) (m .items) lc on (m .inv .1) (λ j h. m .inv .2 j (omega (arith, k))) in
-    let one = c .before .tile-ok in
-    let test = tileTest (f .settings) (f .counters .last) (o .t) (headOf f (o .t)) in
-    let fails : testOf f (o .t) ≡ false = sym (_∙_ {b = test (m .items)} (one .ensures) (ap test e)) ∙ not-true _ (c .if1 .taken) in
-    well-unlike f (tiles-length f _ g) lc (S .pre) (o .t) on fails
+    let j = c .before .if1 in
+    let tested : j .ok ≡ testOf f (o .t) = ⊎-elim
+    (λ w. w .3 ∙ after-empty f (o .t) (w .1 .k) lc on (w .0 .taken) (w .2 .left) (w .1 .inv .2))
+    (λ w. w .4 ∙ after-used f (o .t) (w .1 .i) (w .1 .items) lc on (w .0 .left) (w .2 .left) (w .1 .inv .1) (w .1 .inv .2) (c .before .before .before .head-test .ensures) (w .3 .ensures))
+    (j .came) in
+    well-unlike f (tiles-length f _ g) lc (S .pre) (o .t) on (sym tested ∙ not-true _ (c .if2 .taken))
 
-add-t : tie.Need-add-t Inv-loop2 μ-loop2 Inv-loop μ-loop Inv-loop4 μ-loop4 Inv-loop3 μ-loop3
+add-t : tie.Need-add-t Inv-loop2 μ-loop2 Inv-loop3 μ-loop3 Inv-loop μ-loop Inv-loop5 μ-loop5 Inv-loop4 μ-loop4
 add-t c = search needs
 
-loop-less : tie.Need-loop-less Inv-loop2 μ-loop2 Inv-loop μ-loop Inv-loop4 μ-loop4 Inv-loop3 μ-loop3
+loop-less : tie.Need-loop-less Inv-loop2 μ-loop2 Inv-loop3 μ-loop3 Inv-loop μ-loop Inv-loop5 μ-loop5 Inv-loop4 μ-loop4
 loop-less c = search needs
 
-loop-again : tie.Need-loop-again Inv-loop2 μ-loop2 Inv-loop μ-loop Inv-loop4 μ-loop4 Inv-loop3 μ-loop3
-unfolding tilesTest
+loop-again : tie.Need-loop-again Inv-loop2 μ-loop2 Inv-loop3 μ-loop3 Inv-loop μ-loop Inv-loop5 μ-loop5 Inv-loop4 μ-loop4
 loop-again c =
     let S = c .before .before .before .before .before .before .before .before .before in
     let f = S .args .t1 in
     let lc = canisters-length f _ (S .good .0) in
     let o = c .before .before .before .before .before .before .loop in
-    let m = c .before .before .before .loop2 in
-    let k : m .k ≡ 16 = omega (arith, c .before .before .loop2-test .left, m .inv .0) in
     let on : o .t < 64 = omega arith in
-    let e : m .items ≡ block (f .canisters) (o .t) = block-copied (f .canisters) (o .t) (m .items) lc on (m .inv .1) (λ j h. m .inv .2 j (omega (arith, k))) in
-    let one = c .before .tile-ok in
-    let test = tileTest (f .settings) (f .counters .last) (o .t) (headOf f (o .t)) in
-    let passes : true ≡ testOf f (o .t) = sym (not-false _ (c .if1 .left)) ∙ _∙_ {b = test (m .items)} (one .ensures) (ap test e) in
-    (omega arith, below-step (testOf f) (o .t) (o .inv .1) passes)
+    let j = c .before .if1 in
+    let tested : j .ok ≡ testOf f (o .t) = ⊎-elim
+    (λ w. w .3 ∙ after-empty f (o .t) (w .1 .k) lc on (w .0 .taken) (w .2 .left) (w .1 .inv .2))
+    (λ w. w .4 ∙ after-used f (o .t) (w .1 .i) (w .1 .items) lc on (w .0 .left) (w .2 .left) (w .1 .inv .1) (w .1 .inv .2) (c .before .before .before .head-test .ensures) (w .3 .ensures))
+    (j .came) in
+    (omega arith, below-step (testOf f) (o .t) (o .inv .1) (sym (not-false _ (c .if2 .left)) ∙ tested))
 
-count-all-requires : tie.Need-count-all-requires Inv-loop2 μ-loop2 Inv-loop μ-loop Inv-loop4 μ-loop4 Inv-loop3 μ-loop3
+count-all-requires : tie.Need-count-all-requires Inv-loop2 μ-loop2 Inv-loop3 μ-loop3 Inv-loop μ-loop Inv-loop5 μ-loop5 Inv-loop4 μ-loop4
 count-all-requires c κs = search needs
 
-counters-ok-requires : tie.Need-counters-ok-requires Inv-loop2 μ-loop2 Inv-loop μ-loop Inv-loop4 μ-loop4 Inv-loop3 μ-loop3
+counters-ok-requires : tie.Need-counters-ok-requires Inv-loop2 μ-loop2 Inv-loop3 μ-loop3 Inv-loop μ-loop Inv-loop5 μ-loop5 Inv-loop4 μ-loop4
 counters-ok-requires c κs = search needs
 
-returns-2 : tie.Need-returns-2 Inv-loop2 μ-loop2 Inv-loop μ-loop Inv-loop4 μ-loop4 Inv-loop3 μ-loop3
+returns-2 : tie.Need-returns-2 Inv-loop2 μ-loop2 Inv-loop3 μ-loop3 Inv-loop μ-loop Inv-loop5 μ-loop5 Inv-loop4 μ-loop4
 returns-2 c =
     let S = c .before .before .before .before .before .before .before .before in
     let f = S .args .t1 in
     let g = S .good .0 in
     let o = c .before .before .before .before .before .loop in
     let all : allBelow (testOf f) 64 ≡ true = sym (ended (allBelow (testOf f)) (c .before .before .before .before .loop-test .left) (o .inv .0) (o .inv .1)) in
-    let none : counted (f .tiles) 64 ≡ 0 = sym (c .before .before .count-all .ensures) ∙ c .if2 .taken in
+    let none : counted (f .tiles) 64 ≡ 0 = sym (c .before .before .count-all .ensures) ∙ c .if3 .taken in
     rw (c .before .counters-ok .ensures, c .before .before .count-all .ensures) (well-empty f (tiles-length f _ g) (canisters-length f _ g) (S .pre) all none)
 
-loop3-holds : tie.Need-loop3-holds Inv-loop2 μ-loop2 Inv-loop μ-loop Inv-loop4 μ-loop4 Inv-loop3 μ-loop3
-loop3-holds c = (omega arith, refl, keyed-start (c .before .before .before .before .before .before .before .before .args .t1))
+loop4-holds : tie.Need-loop4-holds Inv-loop2 μ-loop2 Inv-loop3 μ-loop3 Inv-loop μ-loop Inv-loop5 μ-loop5 Inv-loop4 μ-loop4
+loop4-holds c = (omega arith, refl, keyed-start (c .before .before .before .before .before .before .before .before .args .t1))
 
-mul-h-2 : tie.Need-mul-h-2 Inv-loop2 μ-loop2 Inv-loop μ-loop Inv-loop4 μ-loop4 Inv-loop3 μ-loop3
+mul-h-2 : tie.Need-mul-h-2 Inv-loop2 μ-loop2 Inv-loop3 μ-loop3 Inv-loop μ-loop Inv-loop5 μ-loop5 Inv-loop4 μ-loop4
 mul-h-2 c = search needs
 
-element-copy-out-h-2 : tie.Need-element-copy-out-h-2 Inv-loop2 μ-loop2 Inv-loop μ-loop Inv-loop4 μ-loop4 Inv-loop3 μ-loop3
+element-copy-out-h-2 : tie.Need-element-copy-out-h-2 Inv-loop2 μ-loop2 Inv-loop3 μ-loop3 Inv-loop μ-loop Inv-loop5 μ-loop5 Inv-loop4 μ-loop4
 element-copy-out-h-2 c = search needs
 
-loop4-holds : tie.Need-loop4-holds Inv-loop2 μ-loop2 Inv-loop μ-loop Inv-loop4 μ-loop4 Inv-loop3 μ-loop3
-loop4-holds c = let x = c .before .before .before .before .loop3 in (omega arith, x .inv .1, keyed-first (c .before .before .before .before .before .before .before .before .before .before .before .before .before .args .t1) (x .u) (x .keys) (x .inv .2))
+loop5-holds : tie.Need-loop5-holds Inv-loop2 μ-loop2 Inv-loop3 μ-loop3 Inv-loop μ-loop Inv-loop5 μ-loop5 Inv-loop4 μ-loop4
+loop5-holds c = let x = c .before .before .before .before .loop4 in (omega arith, x .inv .1, keyed-first (c .before .before .before .before .before .before .before .before .before .before .before .before .before .args .t1) (x .u) (x .keys) (x .inv .2))
 
-mul-c : tie.Need-mul-c Inv-loop2 μ-loop2 Inv-loop μ-loop Inv-loop4 μ-loop4 Inv-loop3 μ-loop3
+mul-c : tie.Need-mul-c Inv-loop2 μ-loop2 Inv-loop3 μ-loop3 Inv-loop μ-loop Inv-loop5 μ-loop5 Inv-loop4 μ-loop4
 mul-c c = search needs
 
-add-c : tie.Need-add-c Inv-loop2 μ-loop2 Inv-loop μ-loop Inv-loop4 μ-loop4 Inv-loop3 μ-loop3
+add-c : tie.Need-add-c Inv-loop2 μ-loop2 Inv-loop3 μ-loop3 Inv-loop μ-loop Inv-loop5 μ-loop5 Inv-loop4 μ-loop4
 add-c c = search needs
 
-mul-c-2 : tie.Need-mul-c-2 Inv-loop2 μ-loop2 Inv-loop μ-loop Inv-loop4 μ-loop4 Inv-loop3 μ-loop3
+mul-c-2 : tie.Need-mul-c-2 Inv-loop2 μ-loop2 Inv-loop3 μ-loop3 Inv-loop μ-loop Inv-loop5 μ-loop5 Inv-loop4 μ-loop4
 mul-c-2 c = search needs
 
-element-copy-out-c : tie.Need-element-copy-out-c Inv-loop2 μ-loop2 Inv-loop μ-loop Inv-loop4 μ-loop4 Inv-loop3 μ-loop3
+element-copy-out-c : tie.Need-element-copy-out-c Inv-loop2 μ-loop2 Inv-loop3 μ-loop3 Inv-loop μ-loop Inv-loop5 μ-loop5 Inv-loop4 μ-loop4
 element-copy-out-c c = search needs
 
-mul-keys : tie.Need-mul-keys Inv-loop2 μ-loop2 Inv-loop μ-loop Inv-loop4 μ-loop4 Inv-loop3 μ-loop3
+mul-keys : tie.Need-mul-keys Inv-loop2 μ-loop2 Inv-loop3 μ-loop3 Inv-loop μ-loop Inv-loop5 μ-loop5 Inv-loop4 μ-loop4
 mul-keys c = search needs
 
-add-keys : tie.Need-add-keys Inv-loop2 μ-loop2 Inv-loop μ-loop Inv-loop4 μ-loop4 Inv-loop3 μ-loop3
+add-keys : tie.Need-add-keys Inv-loop2 μ-loop2 Inv-loop3 μ-loop3 Inv-loop μ-loop Inv-loop5 μ-loop5 Inv-loop4 μ-loop4
 add-keys c = search needs
 
-mul-keys-2 : tie.Need-mul-keys-2 Inv-loop2 μ-loop2 Inv-loop μ-loop Inv-loop4 μ-loop4 Inv-loop3 μ-loop3
+mul-keys-2 : tie.Need-mul-keys-2 Inv-loop2 μ-loop2 Inv-loop3 μ-loop3 Inv-loop μ-loop Inv-loop5 μ-loop5 Inv-loop4 μ-loop4
 mul-keys-2 c = search needs
 
-array-write-keys : tie.Need-array-write-keys Inv-loop2 μ-loop2 Inv-loop μ-loop Inv-loop4 μ-loop4 Inv-loop3 μ-loop3
+array-write-keys : tie.Need-array-write-keys Inv-loop2 μ-loop2 Inv-loop3 μ-loop3 Inv-loop μ-loop Inv-loop5 μ-loop5 Inv-loop4 μ-loop4
 array-write-keys c = search needs
 
-add-i : tie.Need-add-i Inv-loop2 μ-loop2 Inv-loop μ-loop Inv-loop4 μ-loop4 Inv-loop3 μ-loop3
-add-i c = search needs
+add-j : tie.Need-add-j Inv-loop2 μ-loop2 Inv-loop3 μ-loop3 Inv-loop μ-loop Inv-loop5 μ-loop5 Inv-loop4 μ-loop4
+add-j c = search needs
 
-loop4-less : tie.Need-loop4-less Inv-loop2 μ-loop2 Inv-loop μ-loop Inv-loop4 μ-loop4 Inv-loop3 μ-loop3
-loop4-less c = search needs
+loop5-less : tie.Need-loop5-less Inv-loop2 μ-loop2 Inv-loop3 μ-loop3 Inv-loop μ-loop Inv-loop5 μ-loop5 Inv-loop4 μ-loop4
+loop5-less c = search needs
 
-loop4-again : tie.Need-loop4-again Inv-loop2 μ-loop2 Inv-loop μ-loop Inv-loop4 μ-loop4 Inv-loop3 μ-loop3
-loop4-again c =
-    let x = c .before .before .before .before .before .before .before .loop3 in
-    let l = c .before .before .loop4 in
-    (omega arith, simp length-set (l .inv .1), keyed-turn (c .before .before .before .before .before .before .before .before .before .before .before .before .before .before .before .before .args .t1) (x .u) (l .i) (l .keys) (omega arith) (l .inv .2))
+loop5-again : tie.Need-loop5-again Inv-loop2 μ-loop2 Inv-loop3 μ-loop3 Inv-loop μ-loop Inv-loop5 μ-loop5 Inv-loop4 μ-loop4
+loop5-again c =
+    let x = c .before .before .before .before .before .before .before .loop4 in
+    let l = c .before .before .loop5 in
+    (omega arith, simp length-set (l .inv .1), keyed-turn (c .before .before .before .before .before .before .before .before .before .before .before .before .before .before .before .before .args .t1) (x .u) (l .j) (l .keys) (omega arith) (l .inv .2))
 
-add-u : tie.Need-add-u Inv-loop2 μ-loop2 Inv-loop μ-loop Inv-loop4 μ-loop4 Inv-loop3 μ-loop3
+add-u : tie.Need-add-u Inv-loop2 μ-loop2 Inv-loop3 μ-loop3 Inv-loop μ-loop Inv-loop5 μ-loop5 Inv-loop4 μ-loop4
 add-u c = search needs
 
-loop3-less : tie.Need-loop3-less Inv-loop2 μ-loop2 Inv-loop μ-loop Inv-loop4 μ-loop4 Inv-loop3 μ-loop3
-loop3-less c = search needs
+loop4-less : tie.Need-loop4-less Inv-loop2 μ-loop2 Inv-loop3 μ-loop3 Inv-loop μ-loop Inv-loop5 μ-loop5 Inv-loop4 μ-loop4
+loop4-less c = search needs
 
-loop3-again : tie.Need-loop3-again Inv-loop2 μ-loop2 Inv-loop μ-loop Inv-loop4 μ-loop4 Inv-loop3 μ-loop3
-loop3-again c =
+loop4-again : tie.Need-loop4-again Inv-loop2 μ-loop2 Inv-loop3 μ-loop3 Inv-loop μ-loop Inv-loop5 μ-loop5 Inv-loop4 μ-loop4
+loop4-again c =
     let S = c .before .before .before .before .before .before .before .before .before .before .before .before .before in
     let f = S .args .t1 in
     let lc = canisters-length f _ (S .good .0) in
     let o = c .before .before .before .before .before .before .before .before .before .before .loop in
     let all : allBelow (testOf f) 64 ≡ true = sym (ended (allBelow (testOf f)) (c .before .before .before .before .before .before .before .before .before .loop-test .left) (o .inv .0) (o .inv .1)) in
-    let x = c .before .before .before .before .loop3 in
-    let on : x .u < 64 = c .before .before .before .loop3-test .taken in
-    let j = c .if3 in
+    let x = c .before .before .before .before .loop4 in
+    let on : x .u < 64 = c .before .before .before .loop4-test .taken in
+    let j = c .if4 in
     let len : length (j .keys) ≡ 1024 = ⊎-elim (λ w. ap length (w .3) ∙ w .1 .inv .1) (λ w. ap length (w .1) ∙ x .inv .1) (j .came) in
     let keyed : Keyed f (16 * (x .u + 1)) (j .keys)
     = ⊎-elim
-    (λ w. subst (λ (l : List ℕ). Keyed f (16 * (x .u + 1)) l) (sym (w .3)) (keyed-last f (x .u) (w .1 .i) (w .1 .keys) (omega (arith, w .1 .inv .0, w .2 .left)) (w .1 .inv .2)))
+    (λ w. subst (λ (l : List ℕ). Keyed f (16 * (x .u + 1)) l) (sym (w .3)) (keyed-last f (x .u) (w .1 .j) (w .1 .keys) (omega (arith, w .1 .inv .0, w .2 .left)) (w .1 .inv .2)))
     (λ w. subst (λ (l : List ℕ). Keyed f (16 * (x .u + 1)) l) (sym (w .1)) (keyed-empty f lc (x .u) (x .keys) on (fit-each f all (x .u) on) (w .0 .left) (x .inv .2)))
     (j .came) in
     (omega arith, len, keyed)
 
-numbers-differ-requires : tie.Need-numbers-differ-requires Inv-loop2 μ-loop2 Inv-loop μ-loop Inv-loop4 μ-loop4 Inv-loop3 μ-loop3
+numbers-differ-requires : tie.Need-numbers-differ-requires Inv-loop2 μ-loop2 Inv-loop3 μ-loop3 Inv-loop μ-loop Inv-loop5 μ-loop5 Inv-loop4 μ-loop4
 numbers-differ-requires c κs =
     let S = c .before .before .before .before .before .before .before .before .before .before in
     let f = S .args .t1 in
     let lc = canisters-length f _ (S .good .0) in
     let o = c .before .before .before .before .before .before .before .loop in
     let all : allBelow (testOf f) 64 ≡ true = sym (ended (allBelow (testOf f)) (c .before .before .before .before .before .before .loop-test .left) (o .inv .0) (o .inv .1)) in
-    let x = c .before .loop3 in
-    let u : x .u ≡ 64 = omega (arith, c .loop3-test .left, x .inv .0) in
+    let x = c .before .loop4 in
+    let u : x .u ≡ 64 = omega (arith, c .loop4-test .left, x .inv .0) in
     subst (λ (l : List ℕ). Runs l) (sym (keyed-end f lc (x .u) (x .keys) u (x .inv .1) (x .inv .2))) (keys-run f all lc)
 
-returns-3 : tie.Need-returns-3 Inv-loop2 μ-loop2 Inv-loop μ-loop Inv-loop4 μ-loop4 Inv-loop3 μ-loop3
+returns-3 : tie.Need-returns-3 Inv-loop2 μ-loop2 Inv-loop3 μ-loop3 Inv-loop μ-loop Inv-loop5 μ-loop5 Inv-loop4 μ-loop4
 returns-3 c =
     let S = c .before .before .before .before .before .before .before .before .before .before .before in
     let f = S .args .t1 in
@@ -242,8 +306,8 @@ returns-3 c =
     let lc = canisters-length f _ g in
     let o = c .before .before .before .before .before .before .before .before .loop in
     let all : allBelow (testOf f) 64 ≡ true = sym (ended (allBelow (testOf f)) (c .before .before .before .before .before .before .before .loop-test .left) (o .inv .0) (o .inv .1)) in
-    let x = c .before .before .loop3 in
-    let u : x .u ≡ 64 = omega (arith, c .before .loop3-test .left, x .inv .0) in
+    let x = c .before .before .loop4 in
+    let u : x .u ≡ 64 = omega (arith, c .before .loop4-test .left, x .inv .0) in
     let keys : x .keys ≡ numbers (f .canisters) = keyed-end f lc (x .u) (x .keys) u (x .inv .1) (x .inv .2) in
     rw (c .before .before .before .before .counters-ok .ensures, c .before .before .before .before .before .count-all .ensures, c .numbers-differ .ensures, keys)
     (well-tiled f (tiles-length f _ g) lc (S .pre) all)
@@ -254,26 +318,38 @@ scan-spec =
     (tie.spec
     Inv-loop2
     μ-loop2
-    Inv-loop
-    μ-loop
-    Inv-loop4
-    μ-loop4
     Inv-loop3
     μ-loop3
+    Inv-loop
+    μ-loop
+    Inv-loop5
+    μ-loop5
+    Inv-loop4
+    μ-loop4
     loop-holds
     mul-h
     element-copy-out-h
+    head-test-requires
     loop2-holds
+    mul-zero-canister
+    add-zero-canister
+    mul-zero-canister-2
+    element-copy-out-zero-canister
+    zero-canister-requires
+    add-k
+    loop2-less
+    loop2-again
+    loop3-holds
     mul-items
     add-items
     mul-items-2
     element-copy-out-items
     mul-items-3
     array-set-from-items
-    add-k
-    loop2-less
-    loop2-again
-    tile-ok-requires
+    add-i
+    loop3-less
+    loop3-again
+    places-test-requires
     returns
     add-t
     loop-less
@@ -281,10 +357,10 @@ scan-spec =
     count-all-requires
     counters-ok-requires
     returns-2
-    loop3-holds
+    loop4-holds
     mul-h-2
     element-copy-out-h-2
-    loop4-holds
+    loop5-holds
     mul-c
     add-c
     mul-c-2
@@ -293,11 +369,11 @@ scan-spec =
     add-keys
     mul-keys-2
     array-write-keys
-    add-i
+    add-j
+    loop5-less
+    loop5-again
+    add-u
     loop4-less
     loop4-again
-    add-u
-    loop3-less
-    loop3-again
     numbers-differ-requires
     returns-3)
