@@ -60,7 +60,7 @@ unfolding crosses
 cross-none s c = refl
 
 module _ (s : Settings) (g : Measured s) where
-  -- ---- clear, crossing, shift and landing, by the room
+  -- ---- the gap, crossing, shift and landing, by the room
   pub lack-room : {k : ℕ} → List·Memᴰ k sides → (c : Canister) → lack s k c ≡ 0 → spacing s ≤ room s k c
   unfolding lack room
   lack-room m = each-side (λ k. (c : Canister) → lack s k c ≡ 0 → spacing s ≤ room s k c)

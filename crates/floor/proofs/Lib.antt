@@ -54,4 +54,5 @@ pub mod Trials
 pub mod Samples
 pub mod LayoutSamples
 pub mod Instances
+pub mod StandingInstances
 pub mod LayoutInstances

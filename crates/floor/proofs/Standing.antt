@@ -1,6 +1,6 @@
 -- Why did the tile stand: every tile has the first reason that fits, and 6 exactly where its canisters shifted. The statement is specs/Standing.
 use mathlib.Core.Path.{_≡_, refl, sym, ap, _∙_, subst, fun-ext}
-use mathlib.Core.Logic.{_≢_}
+use mathlib.Core.Logic.{_↔_, _≢_}
 use mathlib.Core.Bool.{true, cond, not}
 use mathlib.Core.List.{List, [], _∷_, List·Memᴰ, List·Memᴰ·head}
 use Prim.Native.Nat.{ℕ, zero, suc, _+_, _≤_, _<_}
@@ -13,7 +13,9 @@ use Rattle.laws.specs.Define.{tab}
 use Rattle.laws.specs.Every.{All}
 use Rattle.laws.specs.Tests.{not-both}
 use Rattle.laws.specs.Tables.{tab-at, tab-off}
-use Rattle.laws.specs.Lists.{all-mem, all-of}
+use Rattle.laws.specs.Lists.{all-mem, all-of, all-imp}
+use Rattle.floor.specs.declared.Canister.{Canister}
+use Rattle.floor.specs.declared.Settings.{Settings}
 use Rattle.floor.specs.declared.Floor.{Floor}
 use Rattle.floor.specs.declared.Report.{Report}
 use Rattle.floor.specs.Sides.{sides, opposite}
@@ -23,15 +25,15 @@ use Rattle.floor.specs.Model.{Model, runsOf, nextOf, membersOf}
 use Rattle.floor.specs.Memory.{view}
 use Rattle.floor.specs.Well.{wellFormed}
 use Rattle.floor.specs.Route.{route}
-use Rattle.floor.specs.Signal.{missing}
+use Rattle.floor.specs.Signal.{lack, missing}
 use Rattle.floor.specs.Reasons.{aheadOf, reasonOf, missingOf}
 use Rattle.floor.specs.Calls.{afterRound, reportOf, roundAnswer}
 use Rattle.floor.specs.Reports.{listedAt}
 use Rattle.floor.specs.Demand3.{round, outcome}
 use Rattle.floor.specs.Fairness.{turnOf}
-use Rattle.floor.specs.Standing.{ahead, Shifts, Shifted, Stood, Fits, Standing, reasonAt, missingAt, WhyStood}
+use Rattle.floor.specs.Standing.{ahead, Shifts, Shifted, Stood, Fits, Standing, reasonAt, missingAt, WhyStood, HasGap, GapTest}
 use Rattle.floor.proofs.Sound.{Sound}
-use Rattle.floor.proofs.Grid.{opposite-sum}
+use Rattle.floor.proofs.Grid.{each-side, opposite-sum}
 use Rattle.floor.proofs.Tables.{run-on}
 use Rattle.floor.proofs.Pack.{well-sound}
 use Rattle.floor.proofs.Fields.{wayAt, went, round-next}
@@ -160,12 +162,16 @@ module _ (m : Model) (S : Sound m) where
     stood : reasonOf (route m) t ≢ 6 → Stood m n t
     stood d = stood-at d (decLe 1 (wayAt m t)) (decLe 1 (length (membersOf m t)))
 
-    moved-from : Shifted m n (went m) t → Dec (reasonOf (route m) t ≡ 6) → reasonOf (route m) t ≡ 6
-    moved-from h (yes e) = e
-    moved-from h (no d) =
+    -- by any one canister
+    excludes : Shifted m n (went m) t → ¬ (Stood m n t)
+    excludes h q =
         let c = some-of (membersOf m t) (h .0) in
         let mk : List·Memᴰ (nextOf n t) sides = by-arrow (λ j. List·Memᴰ j sides) t (side t (omega (arith, h .1, arrow-is t))) in
-        absurd (never-both m S (nextOf n t) t (c .0) mk (c .1) (all-mem (λ x. List·Memᴰ x (membersOf n t)) (c .1) (stood d)) (all-mem (Shifts (m .settings) n (went m) (nextOf n t) t) (c .1) (h .2)))
+        never-both m S (nextOf n t) t (c .0) mk (c .1) (all-mem (λ x. List·Memᴰ x (membersOf n t)) (c .1) q) (all-mem (Shifts (m .settings) n (went m) (nextOf n t) t) (c .1) (h .2))
+
+    moved-from : Shifted m n (went m) t → Dec (reasonOf (route m) t ≡ 6) → reasonOf (route m) t ≡ 6
+    moved-from h (yes e) = e
+    moved-from h (no d) = absurd (excludes h (stood d))
 
   judged : Standing m n (went m) (reasonOf (route m)) (missingOf (route m))
   judged = record {
@@ -178,6 +184,7 @@ module _ (m : Model) (S : Sound m) where
     below = λ t. let h = most t (ℕ-discrete (reasonOf (route m) t) 5) in (h, omega (arith, h, S .measured .short));
     moved = λ t. (λ e. moved-to t (sym (on-reason t (on-by t 6 (omega arith) e)) ∙ e), λ h. moved-from t h (ℕ-discrete (reasonOf (route m) t) 6));
     stood = λ t d. stood t d;
+    not-both = λ t h. excludes t h;
     hopper = λ t h. let r = S .hopper-runs t h in on-reason t (run-on m (S .len) t r) ∙ empty-first m S t r (S .hopper-empty t h);
     none = λ t h. let z = off-reason t h in (z, missing-else t (λ e. absurd (omega (arith, z))));
   }
@@ -217,3 +224,24 @@ standing f w =
     (subst (λ (x : ℕ → List ℕ). Standing (view f) (afterRound (view f)) x (reasonAt f) (missingAt f)) (sym (listed f w))
     (subst (λ (x : ℕ → ℕ). Standing (view f) (afterRound (view f)) (went (view f)) x (missingAt f)) (sym (reasons f w))
     (subst (λ (x : ℕ → ℕ). Standing (view f) (afterRound (view f)) (went (view f)) (reasonOf (route (view f))) x) (sym (millimetres f w)) (judged (view f) (well-sound f w)))))
+
+-- ---- the gap test
+worst : (s : Settings) (k : ℕ) (l : List Canister) (n : ℕ) → missing s k l ≤ n ↔ All (λ c. lack s k c ≤ n) l
+unfolding missing
+worst s k [] n = (λ h. tt, λ h. omega arith)
+worst s k (c ∷ l) n = let r = worst s k l n in (λ h. (omega arith, r .0 (omega arith)), λ h. omega (arith, h .0, r .1 (h .1)))
+
+enough : (s : Settings) {k : ℕ} → List·Memᴰ k sides → (c : Canister) → lack s k c ≡ 0 ↔ HasGap s k c
+unfolding lack
+enough s m = each-side (λ k. (c : Canister) → lack s k c ≡ 0 ↔ HasGap s k c)
+    (λ c. (λ h. omega arith, λ h. omega arith)) (λ c. (λ h. omega arith, λ h. omega arith)) (λ c. (λ h. omega arith, λ h. omega arith)) (λ c. (λ h. omega arith, λ h. omega arith)) m
+
+pub gap-test : (s : Settings) → GapTest s
+gap-test s = record {
+  worst = worst s;
+  enough = λ m c. enough s m c;
+  gap = λ {k} m l. (
+    λ h. all-imp (λ c. lack s k c ≤ 0) (HasGap s k) l (λ c z. enough s m c .0 (omega arith)) (worst s k l 0 .0 (omega arith)),
+    λ h. let z = worst s k l 0 .1 (all-imp (HasGap s k) (λ c. lack s k c ≤ 0) l (λ c g. omega (arith, enough s m c .1 g)) h) in omega arith,
+  );
+}

@@ -1,22 +1,22 @@
--- Why did the tile stand: what the reasons of a round's report tell. The theorem is `standing` of proofs/Standing.
+-- Why did the tile stand: what the reasons of a round's report tell, and what the gap test does. The theorems are `standing` and `gap-test` of proofs/Standing.
 use mathlib.Core.Path.{_≡_}
 use mathlib.Core.Logic.{_↔_, _≢_}
 use mathlib.Core.Bool.{true, false}
 use mathlib.Core.List.{List, [], List·Memᴰ}
-use Prim.Native.Nat.{ℕ, zero, suc, _≤_, _<_}
+use Prim.Native.Nat.{ℕ, zero, suc, _+_, _≤_, _<_}
 use lib.ListN.{length, getD}
 use Rattle.laws.specs.Define.{bitsBelow}
 use Rattle.laws.specs.Every.{All}
 use Rattle.floor.specs.declared.Canister.{Canister}
 use Rattle.floor.specs.declared.Settings.{Settings}
 use Rattle.floor.specs.declared.Floor.{Floor}
-use Rattle.floor.specs.Sides.{opposite}
+use Rattle.floor.specs.Sides.{sides, opposite}
 use Rattle.floor.specs.Settings.{total, spacing, isHopper}
 use Rattle.floor.specs.Grid.{neighbour}
 use Rattle.floor.specs.Model.{Model, runsOf, nextOf, membersOf}
 use Rattle.floor.specs.Memory.{view}
 use Rattle.floor.specs.Well.{wellFormed}
-use Rattle.floor.specs.Signal.{missing}
+use Rattle.floor.specs.Signal.{lack, missing}
 use Rattle.floor.specs.Move.{crosses, shift, land}
 use Rattle.floor.specs.Calls.{roundAnswer}
 use Rattle.floor.specs.Reports.{listedAt}
@@ -71,6 +71,7 @@ pub record Standing (m n : Model) (out : ℕ → List ℕ) (reason lack : ℕ �
   -- "A tile has reason 6 exactly when its canisters shifted."; else all stand where they stood
   pub moved : (t : ℕ) → reason t ≡ 6 ↔ Shifted m n out t
   pub stood : (t : ℕ) → reason t ≢ 6 → Stood m n t
+  pub not-both : (t : ℕ) → Shifted m n out t → ¬ (Stood m n t)
   -- a hopper never has canisters
   pub hopper : (t : ℕ) → isHopper (m .settings) t ≡ true → reason t ≡ 2
   -- no tile, no reason
@@ -86,3 +87,19 @@ missingAt f t = getD (roundAnswer f .report .missing) t 0
 -- the theorem: for every well-formed floor
 abbrev pub WhyStood : Type 0
 WhyStood = (f : Floor) → wellFormed f ≡ true → Standing (view f) (view (roundAnswer f .floor)) (listedAt (roundAnswer f .report)) (reasonAt f) (missingAt f)
+
+-- ---- the gap test
+-- "The gap: every canister here has a ≥ d for a west turn, b ≥ d for south, b + l + d ≤ U for north, a + l + d ≤ U for east."
+abbrev pub HasGap : Settings → ℕ → Canister → Type 0
+HasGap s zero c = ⊥
+HasGap s (suc zero) c = spacing s ≤ c .a
+HasGap s (suc (suc zero)) c = spacing s ≤ c .b
+HasGap s (suc (suc (suc zero))) c = c .b + s .length + spacing s ≤ s .width
+HasGap s (suc (suc (suc (suc zero)))) c = c .a + s .length + spacing s ≤ s .width
+HasGap s (suc (suc (suc (suc (suc k))))) c = ⊥
+
+-- "The gap test now says how many millimetres are missing, the worst canister's, 0 for a gap": for any settings, canisters anywhere
+pub record GapTest (s : Settings) : Type 0 where
+  pub worst : (k : ℕ) (l : List Canister) (n : ℕ) → missing s k l ≤ n ↔ All (λ c. lack s k c ≤ n) l
+  pub enough : {k : ℕ} → List·Memᴰ k sides → (c : Canister) → lack s k c ≡ 0 ↔ HasGap s k c
+  pub gap : {k : ℕ} → List·Memᴰ k sides → (l : List Canister) → missing s k l ≡ 0 ↔ All (HasGap s k) l
