@@ -317,7 +317,7 @@ module _ (f : Floor) (w : wellFormed f ≡ true) where
       → wants (view (floorAfter f (recall name ∷ cs))) t k ≡ false
   unfolding floorAfter recallSet
   after-recall name t e on b cs h r k =
-      let A = accepted f (heldTests (view f) name) (held-pos name (view f)) (sym (recall-answers name .number f) ∙ e) .1 in
+      let A = accepted f (heldTests (view f .layouts) name) (held-pos name (view f)) (sym (recall-answers name .number f) ∙ e) .1 in
       let v : view (outcome f (recall name) .floor) ≡ recalled (view f) (setOf (view f .layouts) name) = ap view (recall-answers name .floor f) ∙ went (recallForm name) f (view f) w refl A .sees in
       let in-view : t < total (view f .settings) = omega (arith, ap (λ (s : Settings). total s) (view-settings f)) in
       let d : distanceOf (view (outcome f (recall name) .floor)) t ≡ 255 = ap (λ (m : Model). distanceOf m t) v ∙ recall-out (view f) (well-sound f w) (setOf (view f .layouts) name) t in-view b in

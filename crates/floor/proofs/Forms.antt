@@ -178,22 +178,22 @@ unfolding outcome bookAnswer answer
 book-answers t b h = record { number = λ f. refl; floor = λ f. refl }
 
 -- keeping, forgetting, recalling
-pub keep-pos : (name : ℕ) (m : Model) → All (λ x. 0 < x .1) (keepTests m name)
+pub keep-pos : (name : ℕ) (m : Model) → All (λ x. 0 < x .1) (keepTests (m .layouts) name)
 unfolding keepTests
 keep-pos name m = omega arith
 
-pub held-pos : (name : ℕ) (m : Model) → All (λ x. 0 < x .1) (heldTests m name)
+pub held-pos : (name : ℕ) (m : Model) → All (λ x. 0 < x .1) (heldTests (m .layouts) name)
 unfolding heldTests
 held-pos name m = omega arith
 
 abbrev pub keepForm : ℕ → Form
-keepForm name = record { tests = λ m. keepTests m name; change = λ m. keptUnder m name; pos = keep-pos name; sound = λ m S A. keep-keeps m S name A .well }
+keepForm name = record { tests = λ m. keepTests (m .layouts) name; change = λ m. keptUnder m name; pos = keep-pos name; sound = λ m S A. keep-keeps m S name A .well }
 
 abbrev pub forgetForm : ℕ → Form
-forgetForm name = record { tests = λ m. heldTests m name; change = λ m. forgotten m name; pos = held-pos name; sound = λ m S A. forget-keeps m S name .well }
+forgetForm name = record { tests = λ m. heldTests (m .layouts) name; change = λ m. forgotten m name; pos = held-pos name; sound = λ m S A. forget-keeps m S name .well }
 
 abbrev pub recallForm : ℕ → Form
-recallForm name = record { tests = λ m. heldTests m name; change = λ m. recalled m (setOf (m .layouts) name); pos = held-pos name; sound = λ m S A. recall-keeps m S name A .well }
+recallForm name = record { tests = λ m. heldTests (m .layouts) name; change = λ m. recalled m (setOf (m .layouts) name); pos = held-pos name; sound = λ m S A. recall-keeps m S name A .well }
 
 pub keep-answers : (name : ℕ) → Answers (keep name) (keepForm name)
 unfolding outcome keepAnswer answer

@@ -246,14 +246,23 @@ east-three =
     let e = grants-same (floorOf crowd) (made crowd .1) crowd-shows (rounds 3) (typed-rounds 3) 4 ∙ east-test .1 in
     nobody-waits-twice (floorOf crowd) (crowd-shows .well) .three (rounds 3) (typed-rounds 3) 4 4 east-waits (subst (λ (l : List ℕ). ¬ (List·Memᴰ {A = ℕ} 4 l)) (sym e) not-east)
 
-one-test : (made one .0 ≡ true) × (refusalBy (made one .1) (stop 0) ≡ 0)
-unfolding holds holdBy one
-one-test = (refl, refl)
+-- W 3, hopper 0: the canister on tile 2 wants into tile 1; tile 1 stopped and repaired at once, it no longer does
+unfoldable queue : Made
+queue = put 5 70 0 2 (run 2 (fresh 3 1 0))
 
-ends-repaired : (k : ℕ) → wants (view (floorAfter (floorOf one) (stop 0 ∷ repair 0 ∷ []))) 0 k ≡ false
+queue-test : (made queue .0 ≡ true) × ((wants (made queue .1) 1 4 ≡ true) × (refusalBy (made queue .1) (stop 1) ≡ 0))
+unfolding holds holdBy queue wants
+queue-test = (refl, (refl, refl))
+
+queue-shows : Shows (floorOf queue) (made queue .1)
+queue-shows = made-shows queue (queue-test .0)
+
+queue-wants : wants (view (floorOf queue)) 1 4 ≡ true
+queue-wants = ap (λ (x : Model). wants x 1 4) (queue-shows .value) ∙ queue-test .1 .0
+
+ends-repaired : (k : ℕ) → wants (view (floorAfter (floorOf queue) (stop 1 ∷ repair 1 ∷ []))) 1 k ≡ false
 ends-repaired =
-    let E = made-shows one (one-test .0) in
-    nobody-waits-twice (floorOf one) (E .well) .stop-ends 0 (shows-refusal (floorOf one) (made one .1) E (stop 0) ∙ one-test .1) (repair 0 ∷ []) (typed-repair 0, tt) refl
+    nobody-waits-twice (floorOf queue) (queue-shows .well) .stop-ends 1 (shows-refusal (floorOf queue) (made queue .1) queue-shows (stop 1) ∙ queue-test .1 .1) (repair 1 ∷ []) (typed-repair 1, tt) refl
 
 -- the grant by the value
 grantBy : Model → ℕ → ℕ

@@ -262,7 +262,7 @@ kept-ok m S name ok =
     (all-imp (λ t. (t < total s) × (bit (s .hoppers) t ≡ true)) (λ t. bit (setBelow (runsOf m) (total s)) t ≡ true) (bitsBelow (s .hoppers) (total s))
     (λ t h. below-bit (runsOf m) (total s) t ∙ and-true (lt-ltb t (total s) (h .0)) (S .hopper-runs t (h .1))) (bits-all (s .hoppers) (total s)))))
 
-pub keep-keeps : (m : Model) → Sound m → (name : ℕ) → Accepted (keepTests m name) → Keeps m (keptUnder m name) [] none
+pub keep-keeps : (m : Model) → Sound m → (name : ℕ) → Accepted (keepTests (m .layouts) name) → Keeps m (keptUnder m name) [] none
 unfolding keepTests keptUnder
 keep-keeps m S name T =
     let s = m .settings in

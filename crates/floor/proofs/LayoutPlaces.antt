@@ -19,19 +19,10 @@ use Rattle.floor.specs.declared.Layout.{Layout}
 use Rattle.floor.specs.declared.Floor.{Floor}
 use Rattle.floor.specs.Layouts.{layoutOk, layoutsSound}
 use Rattle.floor.specs.Memory.{zeroLayout, usedLayouts, isZeroLayout, layoutsFit}
-use Rattle.floor.specs.Well.{layoutsWell}
+use Rattle.floor.specs.Well.{layoutsWell, placeOk, nameAt}
+pub use Rattle.floor.specs.Well.{placeTest}
+use Rattle.floor.proofs.Rows.{used-named}
 use Rattle.floor.proofs.Laying.{Rises, laid-of, laid-is}
-
--- one place; `above` is the name in the place after it, 0 after the last
-unfoldable pub placeOk : Settings → Layout → ℕ → Bool
-placeOk s x above = cond (eqb (x .name) 0) (eqb (x .set) 0 && eqb above 0) (layoutOk s x && (eqb above 0 || ltb (x .name) above))
-
-abbrev pub nameAt : List Layout → ℕ → ℕ
-nameAt l k = getD l k zeroLayout .name
-
--- the place k
-abbrev pub placeTest : Settings → List Layout → ℕ → Bool
-placeTest s l k = placeOk s (getD l k zeroLayout) (nameAt l (suc k))
 
 -- what the test says of a place without a name, and of one with a name
 free-place : (s : Settings) (x : Layout) (above : ℕ) → x .name ≡ 0 → placeOk s x above ≡ true ↔ ((x .set ≡ 0) × (above ≡ 0))
@@ -127,15 +118,6 @@ filled-tests s (x ∷ l) F k i = go (by-test (eqb (x .name) 0)) (F .each) (F .ri
         let b = rw e at rise in
         ih (record { each = a .1; rise = b .1; rest = rw e at rest }) k (omega arith)
 
-used-length : (l : List Layout) → length (usedLayouts l) ≤ length l
-unfolding usedLayouts
-used-length [] = omega arith
-used-length (x ∷ l) = go (eqb (x .name) 0) (used-length l)
-  where
-    go : (b : Bool) → length (usedLayouts l) ≤ length l → length (cond b [] (x ∷ usedLayouts l)) ≤ suc (length l)
-    go true h = omega arith
-    go false h = omega arith
-
 -- for the code: place by place
 pub layouts-code : (f : Floor) → length (f .layouts) ≡ 8 → layoutsWell f ≡ allBelow (placeTest (f .settings) (f .layouts)) 8
 unfolding layoutsWell layoutsFit Tests
@@ -159,4 +141,4 @@ layouts-code f e = same-test (layoutsSound s (usedLayouts l) && (eqb (length l) 
     out : allBelow (placeTest s l) 8 ≡ true → (layoutsSound s (usedLayouts l) && (eqb (length l) 8 && Z)) ≡ true
     out h =
         let F = tests-filled s l (λ k i. below-at (placeTest s l) 8 h k (omega arith)) in
-        and-true (laid-is s (usedLayouts l) (record { eight = omega (arith, used-length l, e); each = F .each; rise = F .rise })) (and-true (eq-eqb (length l) 8 e) (F .rest))
+        and-true (laid-is s (usedLayouts l) (record { eight = omega (arith, used-named l .1, e); each = F .each; rise = F .rise })) (and-true (eq-eqb (length l) 8 e) (F .rest))

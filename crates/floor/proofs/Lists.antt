@@ -141,9 +141,9 @@ module _ (f : Floor) (w : wellFormed f ≡ true) where
   call-keeps round h =
       subst (λ (g : Floor). KeepsWell f g [] (outcome f round .reported)) (sym round-floor)
       (subst (λ (l : ℕ → List ℕ). KeepsWell f (pack (afterRound (view f))) [] l) (sym round-reported) (packed (afterRound (view f)) [] (went (view f)) (round-keeps (view f) S)))
-  call-keeps (keep name) h = answer-keeps (keepTests (view f) name) (omega arith) (keptUnder (view f) name) (λ _. []) refl (keep-keeps (view f) S name)
-  call-keeps (forget name) h = answer-keeps (heldTests (view f) name) (omega arith) (forgotten (view f) name) (λ _. []) refl (λ _. forget-keeps (view f) S name)
-  call-keeps (recall name) h = answer-keeps (heldTests (view f) name) (omega arith) (recalled (view f) (setOf (view f .layouts) name)) (λ _. []) refl (recall-keeps (view f) S name)
+  call-keeps (keep name) h = answer-keeps (keepTests (view f .layouts) name) (omega arith) (keptUnder (view f) name) (λ _. []) refl (keep-keeps (view f) S name)
+  call-keeps (forget name) h = answer-keeps (heldTests (view f .layouts) name) (omega arith) (forgotten (view f) name) (λ _. []) refl (λ _. forget-keeps (view f) S name)
+  call-keeps (recall name) h = answer-keeps (heldTests (view f .layouts) name) (omega arith) (recalled (view f) (setOf (view f .layouts) name)) (λ _. []) refl (recall-keeps (view f) S name)
 
   -- which tiles run after it
   pub call-runs : (c : Call) → Typed c → (t : ℕ) → runsOf (view (outcome f c .floor)) t ≡ runsBy f c t (runsOf (view f) t)
@@ -160,14 +160,14 @@ module _ (f : Floor) (w : wellFormed f ≡ true) where
       answer-runs (repairTests (view f) u) (omega arith) (withTile (view f) u (repaired (tileOf (view f) u))) t (eqb u t) true S (λ T. repair-keeps (view f) S u T .well) (λ T. repair-runs (view f) S u T t)
   call-runs round h t = ap (λ (x : Model). runsOf x t) (view-round round refl) ∙ round-runs (view f) (S .len) t
   call-runs (keep name) h t =
-      by-answer (keepTests (view f) name) (omega arith) (λ b. runsOf (view (cond b (pack (keptUnder (view f) name)) f)) t ≡ runsOf (view f) t)
+      by-answer (keepTests (view f .layouts) name) (omega arith) (λ b. runsOf (view (cond b (pack (keptUnder (view f) name)) f)) t ≡ runsOf (view f) t)
       (λ T. ap (λ (x : Model). runsOf x t) (view-packed (keptUnder (view f) name) (keep-keeps (view f) S name T .well))) refl
   call-runs (forget name) h t =
-      by-answer (heldTests (view f) name) (omega arith) (λ b. runsOf (view (cond b (pack (forgotten (view f) name)) f)) t ≡ runsOf (view f) t)
+      by-answer (heldTests (view f .layouts) name) (omega arith) (λ b. runsOf (view (cond b (pack (forgotten (view f) name)) f)) t ≡ runsOf (view f) t)
       (λ T. ap (λ (x : Model). runsOf x t) (view-packed (forgotten (view f) name) (forget-keeps (view f) S name .well))) refl
   call-runs (recall name) h t =
       let set = setOf (view f .layouts) name in
-      by-answer (heldTests (view f) name) (omega arith)
+      by-answer (heldTests (view f .layouts) name) (omega arith)
       (λ b. runsOf (view (cond b (pack (recalled (view f) set)) f)) t ≡ cond (b && (ltb t (total (f .settings)) && cond (bit set t) (not (runsOf (view f) t)) (runsOf (view f) t))) (bit set t) (runsOf (view f) t))
       (λ T. ap (λ (x : Model). runsOf x t) (view-packed (recalled (view f) set) (recall-keeps (view f) S name T .well)) ∙ recall-runs (view f) S set t) refl
 
@@ -181,9 +181,9 @@ module _ (f : Floor) (w : wellFormed f ≡ true) where
   call-refused (stop t) r h = refused (stopTests (view f) t) (withTile (view f) t (stopped (tileOf (view f) t))) h
   call-refused (repair t) r h = refused (repairTests (view f) t) (withTile (view f) t (repaired (tileOf (view f) t))) h
   call-refused round r h = absurd (true≢false r)
-  call-refused (keep name) r h = refused (keepTests (view f) name) (keptUnder (view f) name) h
-  call-refused (forget name) r h = refused (heldTests (view f) name) (forgotten (view f) name) h
-  call-refused (recall name) r h = refused (heldTests (view f) name) (recalled (view f) (setOf (view f .layouts) name)) h
+  call-refused (keep name) r h = refused (keepTests (view f .layouts) name) (keptUnder (view f) name) h
+  call-refused (forget name) r h = refused (heldTests (view f .layouts) name) (forgotten (view f) name) h
+  call-refused (recall name) r h = refused (heldTests (view f .layouts) name) (recalled (view f) (setOf (view f .layouts) name)) h
 
   -- ---- calls that change the layouts at most
   abbrev pub Relaid : Call → Type 0
@@ -194,12 +194,12 @@ module _ (f : Floor) (w : wellFormed f ≡ true) where
 
   pub relaid-keep : (name : ℕ) → Relaid (keep name)
   unfolding outcome keepAnswer answer keepTests keptUnder
-  relaid-keep name = by-answer (keepTests (view f) name) (omega arith) (λ b. (l : List Layout) × (view (cond b (pack (keptUnder (view f) name)) f) ≡ withLayouts (view f) l))
+  relaid-keep name = by-answer (keepTests (view f .layouts) name) (omega arith) (λ b. (l : List Layout) × (view (cond b (pack (keptUnder (view f) name)) f) ≡ withLayouts (view f) l))
       (λ T. (keptUnder (view f) name .layouts, view-packed (keptUnder (view f) name) (keep-keeps (view f) S name T .well))) (view f .layouts, refl)
 
   pub relaid-forget : (name : ℕ) → Relaid (forget name)
   unfolding outcome forgetAnswer answer heldTests forgotten
-  relaid-forget name = by-answer (heldTests (view f) name) (omega arith) (λ b. (l : List Layout) × (view (cond b (pack (forgotten (view f) name)) f) ≡ withLayouts (view f) l))
+  relaid-forget name = by-answer (heldTests (view f .layouts) name) (omega arith) (λ b. (l : List Layout) × (view (cond b (pack (forgotten (view f) name)) f) ≡ withLayouts (view f) l))
       (λ T. (forgotten (view f) name .layouts, view-packed (forgotten (view f) name) (forget-keeps (view f) S name .well))) (view f .layouts, refl)
 
   not-made : (name t : ℕ) → ltb t (total (f .settings)) ≡ true → recallMakes f name t ≡ false → cond (bit (setOf (view f .layouts) name) t) (not (runsOf (view f) t)) (runsOf (view f) t) ≡ false
@@ -209,7 +209,7 @@ module _ (f : Floor) (w : wellFormed f ≡ true) where
   -- a recall that makes no stop and no repair
   pub relaid-recall : (name : ℕ) → changesRunning f (recall name) ≡ false → Relaid (recall name)
   unfolding changesRunning outcome recallAnswer answer heldTests view
-  relaid-recall name q = go (eqb (refusalOf f (heldTests (view f) name)) 0) refl
+  relaid-recall name q = go (eqb (refusalOf f (heldTests (view f .layouts) name)) 0) refl
     where
       set : ℕ
       set = setOf (view f .layouts) name
@@ -217,10 +217,10 @@ module _ (f : Floor) (w : wellFormed f ≡ true) where
       idle : Bool
       idle = allBelow (λ t. not (recallMakes f name t)) (total (f .settings))
 
-      go : (b : Bool) → eqb (refusalOf f (heldTests (view f) name)) 0 ≡ b → (l : List Layout) × (view (cond b (pack (recalled (view f) set)) f) ≡ withLayouts (view f) l)
+      go : (b : Bool) → eqb (refusalOf f (heldTests (view f .layouts) name)) 0 ≡ b → (l : List Layout) × (view (cond b (pack (recalled (view f) set)) f) ≡ withLayouts (view f) l)
       go false e = (view f .layouts, refl)
       go true e =
-          let T = passed (heldTests (view f) name) (omega arith) e in
+          let T = passed (heldTests (view f .layouts) name) (omega arith) e in
           let all : idle ≡ true = not-false idle (rw e at q) in (
             view f .layouts,
             view-packed (recalled (view f) set) (recall-keeps (view f) S name T .well)

@@ -27,15 +27,15 @@ use Rattle.floor.specs.Route.{route}
 use Rattle.floor.specs.Signal.{signal}
 use Rattle.floor.specs.Move.{move}
 use Rattle.floor.specs.Calls.{refusalOf, answer, freshFloor, freshAnswer, bookTests, booked, bookAnswer, stopTests, stopped, stopAnswer, repairTests, repaired, repairAnswer, keepTests, runningSet, keptUnder, keepAnswer, heldTests, forgotten, forgetAnswer, recallTile, recalled, recallAnswer, afterRound, roundAnswer}
-use Rattle.floor.specs.Demand3.{Call, book, stop, repair, round, forget, recall, outcome, floorAfter, recallSet, recallMakes, runsBy, changesRunning, disturbs, Typed}
+use Rattle.floor.specs.Demand3.{Call, book, stop, repair, round, forget, recall, outcome, floorAfter, recallSet, recallMakes, runsBy, changesRunning, disturbs}
 use Rattle.floor.specs.Named.{needed, recallCalls, AllAccepted, Recalling, SameButLayouts, Keeping, Forgetting, isLaying, NamedLayouts}
 use Rattle.floor.proofs.Rows.{fits-layouts, layouts-back, view-at, view-settings}
 use Rattle.floor.proofs.Pack.{pack-heads, well-sound, well-fits, well-few, well-lengths, well-head}
 use Rattle.floor.proofs.First.{pack-view-well}
 use Rattle.floor.proofs.Calls.{Accepted}
 use Rattle.floor.proofs.Laying.{Rises, laid-of, below-bit}
-use Rattle.floor.proofs.Lists.{call-runs, list-runs}
-use Rattle.floor.proofs.Recalling.{recall-made}
+use Rattle.floor.proofs.Lists.{call-runs}
+use Rattle.floor.proofs.Recalling.{recall-made, recall-counts}
 use Rattle.floor.proofs.Forms.{accepted, went, keep-pos, held-pos, keepForm, keep-answers, forgetForm, forget-answers, recallForm, recall-answers}
 
 -- ---- in memory: other layouts
@@ -180,25 +180,10 @@ recall-stays : (f : Floor) → wellFormed f ≡ true → (name t : ℕ) → reca
 unfolding recallMakes
 recall-stays f w name t q = head-stays f w (recallSet f name) t q
 
-needed-typed : (f : Floor) (set n t : ℕ) → All Typed (needed f set t n)
-unfolding needed
-needed-typed f set zero t = tt
-needed-typed f set (suc n) t = go (bit set t) (runsOf (view f) t) (needed-typed f set n (suc t))
-  where
-    go : (b r : Bool) → All Typed (needed f set (suc t) n) → All Typed (cond b (cond r [] (repair t ∷ [])) (cond r (stop t ∷ []) []) ++ needed f set (suc t) n)
-    go true true h = h
-    go true false h = (tt, h)
-    go false true h = (tt, h)
-    go false false h = h
-
-calls-typed : (f : Floor) (name : ℕ) → All Typed (recallCalls f name)
-unfolding recallCalls
-calls-typed f name = needed-typed f (recallSet f name) (total (f .settings)) 0
-
 recall-is : (f : Floor) (name : ℕ) → outcome f (recall name) .refusal ≡ 0 → (wellFormed f ≡ true) × (outcome f (recall name) .floor ≡ retiled f (tab 64 (recalledHead f (recallSet f name))))
 unfolding recallSet
 recall-is f name e =
-    let A = accepted f (heldTests (view f) name) (held-pos name (view f)) (sym (recall-answers name .number f) ∙ e) in
+    let A = accepted f (heldTests (view f .layouts) name) (held-pos name (view f)) (sym (recall-answers name .number f) ∙ e) in
     (A .0, recall-answers name .floor f ∙ went (recallForm name) f (view f) (A .0) refl (A .1) .is ∙ sym (pack-recalled f (A .0) (setOf (view f .layouts) name)))
 
 recalls : (f : Floor) (name : ℕ) → outcome f (recall name) .refusal ≡ 0 → Recalling f name
@@ -212,7 +197,7 @@ recalls f name e = record {
   same-canisters = refl;
   same-counters = refl;
   same-settings = refl;
-  counts = λ t. sym (call-runs f w (recall name) tt t) ∙ sym (ap (λ (g : Floor). runsOf (view g) t) (M .0)) ∙ sym (list-runs f w (recallCalls f name) (calls-typed f name) t);
+  counts = recall-counts f name e (M .1);
   ends = ends-list f name e;
 }
   where
@@ -280,8 +265,8 @@ keeps f name e = record {
   sets = sets;
 }
   where
-    A : (wellFormed f ≡ true) × Accepted (keepTests (view f) name)
-    A = accepted f (keepTests (view f) name) (keep-pos name (view f)) (sym (keep-answers name .number f) ∙ e)
+    A : (wellFormed f ≡ true) × Accepted (keepTests (view f .layouts) name)
+    A = accepted f (keepTests (view f .layouts) name) (keep-pos name (view f)) (sym (keep-answers name .number f) ∙ e)
 
     v : view (outcome f (Call.keep name) .floor) ≡ keptUnder (view f) name
     v = ap view (keep-answers name .floor f) ∙ went (keepForm name) f (view f) (A .0) refl (A .1) .sees
@@ -343,8 +328,8 @@ forgets f name e = record {
       ∙ sym (ap (λ (m : Model). suc (length (m .layouts))) v);
 }
   where
-    A : (wellFormed f ≡ true) × Accepted (heldTests (view f) name)
-    A = accepted f (heldTests (view f) name) (held-pos name (view f)) (sym (forget-answers name .number f) ∙ e)
+    A : (wellFormed f ≡ true) × Accepted (heldTests (view f .layouts) name)
+    A = accepted f (heldTests (view f .layouts) name) (held-pos name (view f)) (sym (forget-answers name .number f) ∙ e)
 
     v : view (outcome f (forget name) .floor) ≡ forgotten (view f) name
     v = ap view (forget-answers name .floor f) ∙ went (forgetForm name) f (view f) (A .0) refl (A .1) .sees
@@ -367,11 +352,11 @@ unchanged f = record { same-settings = refl; same-counters = refl; same-tiles = 
 
 keep-apart : (f : Floor) (name : ℕ) → SameButLayouts f (outcome f (Call.keep name) .floor)
 unfolding outcome keepAnswer answer keptUnder
-keep-apart f name = by-call f (keepTests (view f) name) (keptUnder (view f) name) (SameButLayouts f) (λ w. laid-apart f w (keptUnder (view f) name .layouts)) (unchanged f)
+keep-apart f name = by-call f (keepTests (view f .layouts) name) (keptUnder (view f) name) (SameButLayouts f) (λ w. laid-apart f w (keptUnder (view f) name .layouts)) (unchanged f)
 
 forget-apart : (f : Floor) (name : ℕ) → SameButLayouts f (outcome f (forget name) .floor)
 unfolding outcome forgetAnswer answer forgotten
-forget-apart f name = by-call f (heldTests (view f) name) (forgotten (view f) name) (SameButLayouts f) (λ w. laid-apart f w (forgotten (view f) name .layouts)) (unchanged f)
+forget-apart f name = by-call f (heldTests (view f .layouts) name) (forgotten (view f) name) (SameButLayouts f) (λ w. laid-apart f w (forgotten (view f) name .layouts)) (unchanged f)
 
 stay : (f : Floor) (tests : List (Bool × ℕ)) (n : Model) → n .layouts ≡ view f .layouts → cond (eqb (refusalOf f tests) 0) (pack n) f .layouts ≡ f .layouts
 stay f tests n e = by-call f tests n (λ g. g .layouts ≡ f .layouts) (λ w. pack-laid f w n e) refl
@@ -384,7 +369,7 @@ others-stay f (repair t) e = stay f (repairTests (view f) t) _ refl
 others-stay f round e = stay f [] (afterRound (view f)) refl
 others-stay f (Call.keep name) e = absurd (true≢false e)
 others-stay f (forget name) e = absurd (true≢false e)
-others-stay f (recall name) e = stay f (heldTests (view f) name) (recalled (view f) (setOf (view f .layouts) name)) refl
+others-stay f (recall name) e = stay f (heldTests (view f .layouts) name) (recalled (view f) (setOf (view f .layouts) name)) refl
 
 fresh-none : (s : Settings) → freshAnswer s .floor .layouts ≡ replicate 8 zeroLayout
 unfolding freshAnswer freshFloor zeroFloor pack build layoutPlaces

@@ -1,13 +1,15 @@
 -- An accepted recall is its stops and repairs, made one after another in rising tile number; each of them is accepted.
 use mathlib.Core.Path.{_≡_, refl, sym, ap, _∙_, subst}
-use mathlib.Core.Logic.{_⊎_, inl, inr}
-use mathlib.Core.Bool.{Bool, true, false, cond, not}
+use mathlib.Core.Logic.{_⊎_, inl, inr, _≢_}
+use mathlib.Core.Bool.{Bool, true, false, cond, not, _&&_}
 use mathlib.Core.List.{List, [], _∷_, _++_}
 use Prim.Native.Nat.{ℕ, zero, suc, _+_, _≤_, _<_}
 use native.Mathlib.Omega.{arith}
-use borrow.Author.Tests.{eq-eqb}
+use native.Mathlib.Decide.{decLe, ℕ-discrete}
+use lib.Dec.{ltb, eqb}
+use borrow.Author.Tests.{eq-eqb, ne-eqb, lt-ltb, le-ltb}
 use Rattle.laws.specs.Define.{bit, refusal}
-use Rattle.laws.specs.Tests.{by-test, refusal-all-false}
+use Rattle.laws.specs.Tests.{by-test, and-yes, refusal-all-false}
 use Rattle.floor.specs.declared.Floor.{Floor}
 use Rattle.floor.specs.Settings.{total}
 use Rattle.floor.specs.Layouts.{setOf}
@@ -15,7 +17,7 @@ use Rattle.floor.specs.Model.{Model, tileOf, runsOf, withTile}
 use Rattle.floor.specs.Memory.{view, pack}
 use Rattle.floor.specs.Well.{wellFormed}
 use Rattle.floor.specs.Calls.{refusalOf, answer, stopTests, stopped, stopAnswer, repairTests, repaired, repairAnswer, heldTests, recalled, recallAnswer}
-use Rattle.floor.specs.Demand3.{Call, stop, repair, recall, outcome, floorAfter, recallSet}
+use Rattle.floor.specs.Demand3.{Call, stop, repair, recall, outcome, floorAfter, recallSet, recallMakes, runsBy, latest}
 use Rattle.floor.specs.Named.{needed, recallCalls, AllAccepted}
 use Rattle.floor.proofs.Sound.{Sound}
 use Rattle.floor.proofs.Pack.{well-sound}
@@ -107,6 +109,76 @@ pub recall-made : (f : Floor) → wellFormed f ≡ true → (name : ℕ) → out
 unfolding outcome recallAnswer answer recallCalls recallSet Made view heldTests
 recall-made f w name e =
     let S = well-sound f w in
-    let T = passed f w (heldTests (view f) name) (omega arith) (eq-eqb _ 0 e) in
+    let T = passed f w (heldTests (view f .layouts) name) (omega arith) (eq-eqb _ 0 e) in
     let M = all-made f w (setOf (view f .layouts) name) (held-set (view f) S name T) in
     (M .0 ∙ rw e, M .1)
+
+-- ---- what a list of accepted stops and repairs leaves running
+-- the call that one tile needs: b whether the set has it, r whether it runs; and whether it needs one
+abbrev press : Bool → Bool → ℕ → List Call
+press b r u = cond b (cond r [] (repair u ∷ [])) (cond r (stop u ∷ []) [])
+
+abbrev makes : Bool → Bool → Bool
+makes b r = cond b (not r) r
+
+and-no : (a : Bool) → (a && false) ≡ false
+and-no true = refl
+and-no false = refl
+
+press-rest : (g : Floor) (b r : Bool) (u : ℕ) (cs : List Call) → AllAccepted g (press b r u ++ cs) → AllAccepted (floorAfter g (press b r u)) cs
+unfolding floorAfter
+press-rest g true true u cs h = h
+press-rest g true false u cs h = h .1
+press-rest g false true u cs h = h .1
+press-rest g false false u cs h = h
+
+press-runs : (g : Floor) (b r : Bool) (u t : ℕ) (q : Bool) (cs : List Call) → AllAccepted g (press b r u ++ cs) → latest g (press b r u ++ cs) t q ≡ latest (floorAfter g (press b r u)) cs t (cond (eqb u t && makes b r) b q)
+unfolding floorAfter latest runsBy
+press-runs g true true u t q cs h = rw (and-no (eqb u t))
+press-runs g true false u t q cs h = rw (eq-eqb (outcome g (repair u) .refusal) 0 (h .0), and-yes (eqb u t))
+press-runs g false true u t q cs h = rw (eq-eqb (outcome g (stop u) .refusal) 0 (h .0), and-yes (eqb u t))
+press-runs g false false u t q cs h = rw (and-no (eqb u t))
+
+module _ (f : Floor) (set t : ℕ) where
+  abbrev there : ℕ → Bool
+  there u = makes (bit set u) (runsOf (view f) u)
+
+  -- no call for the tile t among n from u on
+  runs-off : (g : Floor) (u n : ℕ) (q : Bool) → ((k : ℕ) → u ≤ k → k < u + n → k ≢ t) → AllAccepted g (needed f set u n) → latest g (needed f set u n) t q ≡ q
+  unfolding needed latest
+  runs-off g u zero q h a = refl
+  runs-off g u (suc n) q h a =
+      let b = bit set u in
+      let r = runsOf (view f) u in
+      press-runs g b r u t q (needed f set (suc u) n) a ∙ rw (ne-eqb u t (h u (omega arith) (omega arith))) (runs-off (floorAfter g (press b r u)) (suc u) n q (λ k i j. h k (omega arith) (omega arith)) (press-rest g b r u (needed f set (suc u) n) a))
+
+  runs-on : (g : Floor) (u n : ℕ) (q : Bool) → u ≤ t → t < u + n → AllAccepted g (needed f set u n) → latest g (needed f set u n) t q ≡ cond (there t) (bit set t) q
+  unfolding needed latest
+  runs-on g u zero q l m a = absurd (omega arith)
+  runs-on g u (suc n) q l m a = press-runs g b r u t q (needed f set (suc u) n) a ∙ go (ℕ-discrete u t) (λ d. runs-on (floorAfter g (press b r u)) (suc u) n q (omega (arith, d)) (omega arith) rest)
+    where
+      b : Bool
+      b = bit set u
+
+      r : Bool
+      r = runsOf (view f) u
+
+      rest : AllAccepted (floorAfter g (press b r u)) (needed f set (suc u) n)
+      rest = press-rest g b r u (needed f set (suc u) n) a
+
+      go : Dec (u ≡ t) → (u ≢ t → latest (floorAfter g (press b r u)) (needed f set (suc u) n) t q ≡ cond (there t) (bit set t) q)
+          → latest (floorAfter g (press b r u)) (needed f set (suc u) n) t (cond (eqb u t && there u) b q) ≡ cond (there t) (bit set t) q
+      go (yes e) more = rw (eq-eqb u t e) (runs-off (floorAfter g (press b r u)) (suc u) n (cond (there u) b q) (λ k i j z. absurd (omega (arith, e))) rest ∙ ap (λ (k : ℕ). cond (there k) (bit set k) q) e)
+      go (no d) more = rw (ne-eqb u t d) (more d)
+
+-- "and counts as these in demand 3": of any tile, whatever stood before
+pub recall-counts : (f : Floor) (name : ℕ) → outcome f (recall name) .refusal ≡ 0 → AllAccepted f (recallCalls f name) → (t : ℕ) (q : Bool) → runsBy f (recall name) t q ≡ latest f (recallCalls f name) t q
+unfolding runsBy recallMakes recallCalls
+recall-counts f name e a t q = rw (eq-eqb (outcome f (recall name) .refusal) 0 e) (go (decLe (suc t) (total (f .settings))))
+  where
+    set : ℕ
+    set = recallSet f name
+
+    go : Dec (t < total (f .settings)) → cond (ltb t (total (f .settings)) && cond (bit set t) (not (runsOf (view f) t)) (runsOf (view f) t)) (bit set t) q ≡ latest f (needed f set 0 (total (f .settings))) t q
+    go (yes l) = rw (lt-ltb t (total (f .settings)) l) (sym (runs-on f set t f 0 (total (f .settings)) q (omega arith) (omega arith) a))
+    go (no l) = rw (le-ltb t (total (f .settings)) (omega arith)) (sym (runs-off f set t f 0 (total (f .settings)) q (λ k i j z. absurd (omega arith)) a))

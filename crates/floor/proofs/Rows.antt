@@ -9,7 +9,7 @@ use native.Mathlib.Decide.{decLe}
 use lib.Dec.{leb, eqb}
 use lib.ListN.{length, getD, take, drop, length-append, length-drop, List·getD-append}
 use lib.Seq.{ext-getD, getD-drop, getD-append-add, drop-drop}
-use borrow.Author.Tests.{eqb-true, eq-eqb, ne-eqb, leb-true, ltb-true}
+use borrow.Author.Tests.{eqb-true, eqb-false, eq-eqb, ne-eqb, leb-true, ltb-true}
 use Rattle.laws.specs.Define.{allOf}
 use Rattle.laws.specs.Every.{All}
 use Rattle.laws.specs.Lists.{all-imp, all-true}
@@ -214,6 +214,21 @@ layouts-back l h = places-used 8 l (eqb-true (length l) 8 (and-left _ _ h)) (and
 -- layouts that eight places hold: each has a name
 abbrev pub Placed : List Layout → Type 0
 Placed l = All (λ x. x .name ≢ 0) l × (length l ≤ 8)
+
+-- those in use
+pub used-named : (l : List Layout) → All (λ x. x .name ≢ 0) (usedLayouts l) × (length (usedLayouts l) ≤ length l)
+unfolding usedLayouts
+used-named [] = (tt, omega arith)
+used-named (x ∷ l) = go (eqb (x .name) 0) refl (used-named l)
+  where
+    go : (b : Bool) → eqb (x .name) 0 ≡ b → All (λ y. y .name ≢ 0) (usedLayouts l) × (length (usedLayouts l) ≤ length l)
+        → All (λ y. y .name ≢ 0) (cond b [] (x ∷ usedLayouts l)) × (length (cond b [] (x ∷ usedLayouts l)) ≤ suc (length l))
+    go true e h = (tt, omega arith)
+    go false e h = ((eqb-false (x .name) 0 e, h .0), omega (arith, h .1))
+
+pub used-placed : (l : List Layout) → layoutsFit l ≡ true → Placed (usedLayouts l)
+unfolding layoutsFit
+used-placed l h = let u = used-named l in (u .0, omega (arith, u .1, eqb-true (length l) 8 (and-left _ _ h)))
 
 -- layouts with names, at most n of them
 pub used-places : (n : ℕ) (l : List Layout) → All (λ x. x .name ≢ 0) l → length l ≤ n → usedLayouts (layoutPlaces n l) ≡ l

@@ -35,9 +35,9 @@ testsOf m (book t c) = bookTests m t c
 testsOf m (stop t) = stopTests m t
 testsOf m (repair t) = repairTests m t
 testsOf m round = []
-testsOf m (keep name) = keepTests m name
-testsOf m (forget name) = heldTests m name
-testsOf m (recall name) = heldTests m name
+testsOf m (keep name) = keepTests (m .layouts) name
+testsOf m (forget name) = heldTests (m .layouts) name
+testsOf m (recall name) = heldTests (m .layouts) name
 
 unfoldable pub changed : Model → Call → Model
 changed m (book t c) = booked m t c
@@ -82,9 +82,9 @@ module _ (f : Floor) (w : wellFormed f ≡ true) where
   refusal-here (stop t) = plain (stopTests (view f) t)
   refusal-here (repair t) = plain (repairTests (view f) t)
   refusal-here round = plain []
-  refusal-here (keep name) = plain (keepTests (view f) name)
-  refusal-here (forget name) = plain (heldTests (view f) name)
-  refusal-here (recall name) = plain (heldTests (view f) name)
+  refusal-here (keep name) = plain (keepTests (view f .layouts) name)
+  refusal-here (forget name) = plain (heldTests (view f .layouts) name)
+  refusal-here (recall name) = plain (heldTests (view f .layouts) name)
 
   value-here : (c : Call) → Typed c → view (outcome f c .floor) ≡ valueBy (view f) c
   unfolding outcome bookAnswer stopAnswer repairAnswer keepAnswer forgetAnswer recallAnswer answer bookTests stopTests repairTests keepTests heldTests valueBy refusalBy testsOf changed refusal
@@ -92,9 +92,9 @@ module _ (f : Floor) (w : wellFormed f ≡ true) where
   value-here (stop t) h = after (stopTests (view f) t) (omega arith) (withTile (view f) t (stopped (tileOf (view f) t))) (λ T. stop-keeps (view f) S t T .well)
   value-here (repair t) h = after (repairTests (view f) t) (omega arith) (withTile (view f) t (repaired (tileOf (view f) t))) (λ T. repair-keeps (view f) S t T .well)
   value-here round h = view-round f w round refl
-  value-here (keep name) h = after (keepTests (view f) name) (omega arith) (keptUnder (view f) name) (λ T. keep-keeps (view f) S name T .well)
-  value-here (forget name) h = after (heldTests (view f) name) (omega arith) (forgotten (view f) name) (λ _. forget-keeps (view f) S name .well)
-  value-here (recall name) h = after (heldTests (view f) name) (omega arith) (recalled (view f) (setOf (view f .layouts) name)) (λ T. recall-keeps (view f) S name T .well)
+  value-here (keep name) h = after (keepTests (view f .layouts) name) (omega arith) (keptUnder (view f) name) (λ T. keep-keeps (view f) S name T .well)
+  value-here (forget name) h = after (heldTests (view f .layouts) name) (omega arith) (forgotten (view f) name) (λ _. forget-keeps (view f) S name .well)
+  value-here (recall name) h = after (heldTests (view f .layouts) name) (omega arith) (recalled (view f) (setOf (view f .layouts) name)) (λ T. recall-keeps (view f) S name T .well)
 
   read-here : (t : ℕ) → readAnswer f t ≡ readBy (view f) t
   unfolding readAnswer readBy

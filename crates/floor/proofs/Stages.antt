@@ -136,11 +136,11 @@ module _ (m : Model) (S : Sound m) (chosen : ℕ) (hop : Covers (m .settings) ch
 
 -- ---- the call
 -- the set of a held name has the hoppers
-pub held-set : (m : Model) → Sound m → (name : ℕ) → Accepted (heldTests m name) → Covers (m .settings) (setOf (m .layouts) name)
+pub held-set : (m : Model) → Sound m → (name : ℕ) → Accepted (heldTests (m .layouts) name) → Covers (m .settings) (setOf (m .layouts) name)
 unfolding heldTests
 held-set m S name T = held-covers (m .settings) (S .measured) (m .layouts) name (laid-of (m .settings) (m .layouts) (S .laid-out) .each) (not-false (held (m .layouts) name) (T .1 .0))
 
-pub recall-keeps : (m : Model) → Sound m → (name : ℕ) → Accepted (heldTests m name) → Keeps m (recalled m (setOf (m .layouts) name)) [] none
+pub recall-keeps : (m : Model) → Sound m → (name : ℕ) → Accepted (heldTests (m .layouts) name) → Keeps m (recalled m (setOf (m .layouts) name)) [] none
 recall-keeps m S name T = recalled-keeps m S (setOf (m .layouts) name) (held-set m S name T)
 
 -- what runs after a recall

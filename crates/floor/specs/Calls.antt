@@ -7,6 +7,7 @@ use lib.ListN.{length, getD, replicate}
 use Rattle.laws.specs.Define.{tab, allOf, bit, refusal}
 use Rattle.floor.specs.declared.Canister.{Canister}
 use Rattle.floor.specs.declared.Settings.{Settings}
+use Rattle.floor.specs.declared.Layout.{Layout}
 use Rattle.floor.specs.declared.Floor.{Floor}
 use Rattle.floor.specs.declared.Delivery.{Delivery}
 use Rattle.floor.specs.declared.Report.{Report}
@@ -83,10 +84,10 @@ repaired x = record { running = 1; distance = x .distance; next = x .next; token
 unfoldable pub repairAnswer : Floor → ℕ → Answer
 repairAnswer f t = let m = view f in answer f (repairTests m t) (withTile m t (repaired (tileOf m t)))
 
--- ---- layouts; a name is the number of its eight bytes (`nameNumber`)
+-- ---- layouts; a name is the number of its eight bytes (`nameNumber`), l the layouts that are kept
 -- "44, bad name, after 30"; "46, eight other names held, after 44, at keeping"
-unfoldable pub keepTests : Model → ℕ → List (Bool × ℕ)
-keepTests m name = (not (nameOk name), 44) ∷ (leb 8 (length (m .layouts)) && not (held (m .layouts) name), 46) ∷ []
+unfoldable pub keepTests : List Layout → ℕ → List (Bool × ℕ)
+keepTests l name = (not (nameOk name), 44) ∷ (leb 8 (length l) && not (held l name), 46) ∷ []
 
 -- "the set of tiles that ran when it was kept"
 unfoldable pub runningSet : Model → ℕ
@@ -97,17 +98,17 @@ unfoldable pub keptUnder : Model → ℕ → Model
 keptUnder m name = withLayouts m (keepIn (record { name = name; set = runningSet m }) (m .layouts))
 
 unfoldable pub keepAnswer : Floor → ℕ → Answer
-keepAnswer f name = let m = view f in answer f (keepTests m name) (keptUnder m name)
+keepAnswer f name = let m = view f in answer f (keepTests (m .layouts) name) (keptUnder m name)
 
 -- "45, name not held, after 44, at recall and forgetting"
-unfoldable pub heldTests : Model → ℕ → List (Bool × ℕ)
-heldTests m name = (not (nameOk name), 44) ∷ (not (held (m .layouts) name), 45) ∷ []
+unfoldable pub heldTests : List Layout → ℕ → List (Bool × ℕ)
+heldTests l name = (not (nameOk name), 44) ∷ (not (held l name), 45) ∷ []
 
 unfoldable pub forgotten : Model → ℕ → Model
 forgotten m name = withLayouts m (forgetIn name (m .layouts))
 
 unfoldable pub forgetAnswer : Floor → ℕ → Answer
-forgetAnswer f name = let m = view f in answer f (heldTests m name) (forgotten m name)
+forgetAnswer f name = let m = view f in answer f (heldTests (m .layouts) name) (forgotten m name)
 
 -- "Recall makes the stops and repairs needed": a stopped tile of the set is repaired, a running one outside it is stopped; the others stay as they are
 unfoldable pub recallTile : ℕ → ℕ → TileState → TileState
@@ -117,7 +118,7 @@ unfoldable pub recalled : Model → ℕ → Model
 recalled m set = withTiles m (tab (total (m .settings)) (λ t. recallTile set t (tileOf m t)))
 
 unfoldable pub recallAnswer : Floor → ℕ → Answer
-recallAnswer f name = let m = view f in answer f (heldTests m name) (recalled m (setOf (m .layouts) name))
+recallAnswer f name = let m = view f in answer f (heldTests (m .layouts) name) (recalled m (setOf (m .layouts) name))
 
 -- ---- a round
 -- "Each step reads only what the step before left, for all tiles together."

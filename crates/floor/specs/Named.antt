@@ -46,8 +46,8 @@ pub record Recalling (f : Floor) (name : ℕ) : Type 0 where
   pub same-canisters : after .canisters ≡ f .canisters
   pub same-counters : after .counters ≡ f .counters
   pub same-settings : after .settings ≡ f .settings
-  -- "and counts as these in demand 3": in what runs, and in what ends a list without accepted stops and repairs
-  pub counts : (t : ℕ) → runsBy f (recall name) t (runsOf (view f) t) ≡ latest f (recallCalls f name) t (runsOf (view f) t)
+  -- "and counts as these in demand 3": in what runs, r being what was said of the tile before, and in what ends a list without accepted stops and repairs
+  pub counts : (t : ℕ) (r : Bool) → runsBy f (recall name) t r ≡ latest f (recallCalls f name) t r
   pub ends : disturbs f (recall name) ≡ false ↔ recallCalls f name ≡ []
 
 -- ---- keeping and forgetting

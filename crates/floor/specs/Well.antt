@@ -1,20 +1,21 @@
 -- Well formed, clause by clause.
 use mathlib.Core.Bool.{Bool, cond, not, _&&_, _||_}
 use mathlib.Core.List.{List}
-use Prim.Native.Nat.{ℕ, _+_, _^_}
+use Prim.Native.Nat.{ℕ, suc, _+_, _^_}
 use lib.Dec.{leb, ltb, eqb}
-use lib.ListN.{length, drop}
+use lib.ListN.{length, getD, drop}
 use Rattle.laws.specs.Define.{allOf, pairsOf, allBelow, sum}
 use Rattle.floor.specs.declared.Canister.{Canister}
 use Rattle.floor.specs.declared.Settings.{Settings}
 use Rattle.floor.specs.declared.Counters.{Counters}
 use Rattle.floor.specs.declared.Tile.{Tile}
+use Rattle.floor.specs.declared.Layout.{Layout}
 use Rattle.floor.specs.declared.Floor.{Floor}
 use Rattle.floor.specs.Settings.{total, spacing, span, isHopper, hoppersOf, settingsPass}
 use Rattle.floor.specs.Grid.{neighbour}
-use Rattle.floor.specs.Layouts.{layoutsSound}
+use Rattle.floor.specs.Layouts.{layoutOk, layoutsSound}
 use Rattle.floor.specs.Model.{TileState, Model, tileOf, numbersOn}
-use Rattle.floor.specs.Memory.{usedLayouts, view, head, stateFits, layoutsFit, fits}
+use Rattle.floor.specs.Memory.{zeroLayout, usedLayouts, view, head, stateFits, layoutsFit, fits}
 
 -- each hopper: "The hopper runs, has distance 0, arrow none and no canisters."
 unfoldable pub hopperSound : Tile → Bool
@@ -86,3 +87,14 @@ layoutsWell f = layoutsSound (f .settings) (usedLayouts (f .layouts)) && layouts
 -- "Well formed": the value is, and "unused places in memory are zero"
 unfoldable pub wellFormed : Floor → Bool
 wellFormed f = let m = view f in sound m && fits f
+
+-- ---- the layouts in memory place by place, for the code; all eight together are `layoutsWell` (`layouts-code` of proofs/LayoutPlaces)
+-- one place; `above` is the name in the place after it, 0 after the last
+unfoldable pub placeOk : Settings → Layout → ℕ → Bool
+placeOk s x above = cond (eqb (x .name) 0) (eqb (x .set) 0 && eqb above 0) (layoutOk s x && (eqb above 0 || ltb (x .name) above))
+
+abbrev pub nameAt : List Layout → ℕ → ℕ
+nameAt l k = getD l k zeroLayout .name
+
+abbrev pub placeTest : Settings → List Layout → ℕ → Bool
+placeTest s l k = placeOk s (getD l k zeroLayout) (nameAt l (suc k))

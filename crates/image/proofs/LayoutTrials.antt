@@ -76,6 +76,7 @@ table =
     ∷ shows (among (encode (view ends)) 52 (layout (65 ∷ []) 9)) 0
     ∷ shows (among (encode (view ends)) 52 (layout (65 ∷ []) 8)) 12
     ∷ shows (among (encode (view ends)) 52 (layout (65 ∷ []) 1)) 12
+    ∷ shows (among (encode (view ends)) 52 (layout (65 ∷ []) 7)) 12
     -- eight, bad or not; 10: a ninth, bad or not
     ∷ shows (with (lettered 65 3 8)) 0
     ∷ shows (with (lettered 97 3 8)) 12

@@ -241,23 +241,23 @@ fault xs =
 unfoldable pub answerBy : ℕ → Model → Answer
 answerBy n m = record { refusal = n; floor = cond (eqb n 0) (pack m) zeroFloor }
 
--- every layout has a name: one without is bad, and would not show in memory
-unfoldable pub named : Model → Bool
-named m = allOf (λ x. ltb 0 (x .name)) (m .layouts)
-
--- the answer without 12 but for this
-unfoldable pub recordsRefusal : List ℕ → ℕ
-recordsRefusal xs = orElse (fault xs) (refusal ((not (named (modelIn xs)), 12) ∷ []))
-
-unfoldable pub recordsAnswer : List ℕ → Answer
-recordsAnswer xs = answerBy (recordsRefusal xs) (modelIn xs)
-
 -- "then 12": "Image complete, floor not well formed."; "Bad, unsorted or repeated names, a stopped hopper or a bit for no tile are 12"
 unfoldable pub loadRefusal : List ℕ → ℕ
 loadRefusal xs = orElse (fault xs) (refusal ((not (sound (modelIn xs)), 12) ∷ []))
 
 unfoldable pub loadAnswer : List ℕ → Answer
 loadAnswer xs = answerBy (loadRefusal xs) (modelIn xs)
+
+-- ---- the same in the two steps of the code: the records are read, then the floor that they gave is judged in memory, and is 12 where it is not well formed (`load-12` and `load-other` of proofs/Promises)
+-- In memory a layout of sixteen zero bytes is an unused place, and the second step could not tell. So the first step answers 12 for a layout without a name; every other 12 comes from the second.
+unfoldable pub named : Model → Bool
+named m = allOf (λ x. ltb 0 (x .name)) (m .layouts)
+
+unfoldable pub recordsRefusal : List ℕ → ℕ
+recordsRefusal xs = orElse (fault xs) (refusal ((not (named (modelIn xs)), 12) ∷ []))
+
+unfoldable pub recordsAnswer : List ℕ → Answer
+recordsAnswer xs = answerBy (recordsRefusal xs) (modelIn xs)
 
 -- ---- writing into a buffer
 -- "Writing: 30, 13."; "13. Buffer shorter than the image to write."

@@ -20,7 +20,7 @@ use Rattle.floor.specs.Settings.{total, hoppersOf, settingsPass}
 use Rattle.floor.specs.Layouts.{letters, isLetter, spelled, nameOk, layoutOk}
 use Rattle.floor.specs.Memory.{zeroLayout}
 use Rattle.floor.proofs.Well.{settings-fact}
-use Rattle.floor.proofs.LayoutPlaces.{placeOk, nameAt, placeTest}
+use Rattle.floor.specs.Well.{placeOk, nameAt, placeTest}
 
 -- ---- a name
 abbrev zero : ℕ → Bool

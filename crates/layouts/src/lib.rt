@@ -4,7 +4,7 @@ ghost use mathlib.Core.Bool.{true};
 ghost use Rattle.laws.specs.Define.{allBelow};
 ghost use Rattle.floor.specs.Settings.{settingsPass};
 ghost use Rattle.floor.specs.Layouts.{nameOk, layoutOk};
-ghost use Rattle.floor.proofs.LayoutPlaces.{placeOk, placeTest};
+ghost use Rattle.floor.specs.Well.{placeOk, placeTest};
 use floor::Layout;
 use floor::Settings;
 use sets::meets;

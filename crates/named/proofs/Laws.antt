@@ -20,11 +20,11 @@ use Rattle.floor.specs.Model.{TileState, noTile, tileOf, runs, runsOf}
 use Rattle.floor.specs.Memory.{zeroTile, headOf, stateOf, view, head, usedLayouts, layoutPlaces, layoutsFit, pack, retiled, relaid}
 use Rattle.floor.specs.Well.{wellFormed}
 use Rattle.floor.specs.Calls.{stopped, repaired, keepTests, runningSet, keptUnder, heldTests, forgotten, recallTile, recalled}
-use Rattle.floor.proofs.Rows.{fits-layouts, Placed, view-at}
-use Rattle.floor.proofs.Pack.{well-sound, well-fits, well-placed, well-head}
+use Rattle.floor.proofs.Rows.{fits-layouts, view-at}
+use Rattle.floor.proofs.Pack.{well-sound, well-fits, well-head}
 use Rattle.floor.proofs.Laying.{Rises, laid-of}
 use Rattle.floor.proofs.Named.{pack-relaid, recalledHead, pack-recalled}
-use Rattle.laying.specs.Places.{keepChecks, heldChecks, putIn, ranIn, recallHead, recallAt}
+use Rattle.laying.specs.Places.{putIn, ranIn, recallHead, recallAt}
 use Rattle.laying.proofs.Laws.{some-name, set-used, keep-used, forget-used}
 
 -- ---- the set of what passes depends on what passes alone
@@ -45,33 +45,29 @@ head-recalled set t x = go (bit set t) (runs x)
     go false false = refl
 
 -- ---- accepted, the name is one
-pub keep-named : (l : List Layout) (name : ℕ) → refusal (keepChecks l name) ≡ 0 → nameOk name ≡ true
-unfolding keepChecks
+pub keep-named : (l : List Layout) (name : ℕ) → refusal (keepTests l name) ≡ 0 → nameOk name ≡ true
+unfolding keepTests
 keep-named l name e = not-false (nameOk name) (test-none (not (nameOk name)) 44 _ (omega arith) e .0)
 
-pub held-named : (l : List Layout) (name : ℕ) → refusal (heldChecks l name) ≡ 0 → nameOk name ≡ true
-unfolding heldChecks
+pub held-named : (l : List Layout) (name : ℕ) → refusal (heldTests l name) ≡ 0 → nameOk name ≡ true
+unfolding heldTests
 held-named l name e = not-false (nameOk name) (test-none (not (nameOk name)) 44 _ (omega arith) e .0)
 
 module _ (f : Floor) (w : wellFormed f ≡ true) where
   pub laid-fit : layoutsFit (f .layouts) ≡ true
   laid-fit = fits-layouts f (well-fits f w)
 
-  pub laid-placed : Placed (usedLayouts (f .layouts))
-  unfolding view
-  laid-placed = well-placed f w
-
   laid-rises : Rises (usedLayouts (f .layouts))
   unfolding view
   laid-rises = laid-of (f .settings) (usedLayouts (f .layouts)) (well-sound f w .laid-out) .rise
 
   -- ---- the refusals
-  pub keep-same : (name : ℕ) → refusal (keepChecks (usedLayouts (f .layouts)) name) ≡ refusal (keepTests (view f) name)
-  unfolding keepChecks keepTests view
+  pub keep-same : (name : ℕ) → refusal (keepTests (usedLayouts (f .layouts)) name) ≡ refusal (keepTests (view f .layouts) name)
+  unfolding view
   keep-same name = refl
 
-  pub held-same : (name : ℕ) → refusal (heldChecks (usedLayouts (f .layouts)) name) ≡ refusal (heldTests (view f) name)
-  unfolding heldChecks heldTests view
+  pub held-same : (name : ℕ) → refusal (heldTests (usedLayouts (f .layouts)) name) ≡ refusal (heldTests (view f .layouts) name)
+  unfolding view
   held-same name = refl
 
   -- ---- keeping
@@ -84,13 +80,13 @@ module _ (f : Floor) (w : wellFormed f ≡ true) where
   unfolding keptUnder view
   kept-pack name set ok e ls q =
       let x : Layout = record { name = name; set = runningSet (view f) } in
-      ap (relaid f) (q ∙ ap (λ (s : ℕ). putIn (record { name = name; set = s }) (f .layouts)) (e ∙ ran-is) ∙ keep-used (f .layouts) laid-fit laid-placed laid-rises x ok)
+      ap (relaid f) (q ∙ ap (λ (s : ℕ). putIn (record { name = name; set = s }) (f .layouts)) (e ∙ ran-is) ∙ keep-used (f .layouts) laid-fit laid-rises x ok)
       ∙ sym (pack-relaid f w (keepIn x (usedLayouts (f .layouts))))
 
   -- ---- forgetting
   pub forgotten-pack : (name : ℕ) → nameOk name ≡ true → (ls : List Layout) → ls ≡ layoutPlaces 8 (forgetIn name (f .layouts)) → _≡_ {A = Floor} (relaid f ls) (pack (forgotten (view f) name))
   unfolding forgotten view
-  forgotten-pack name ok ls q = ap (relaid f) (q ∙ forget-used (f .layouts) laid-fit laid-placed name ok) ∙ sym (pack-relaid f w (forgetIn name (usedLayouts (f .layouts))))
+  forgotten-pack name ok ls q = ap (relaid f) (q ∙ forget-used (f .layouts) laid-fit name ok) ∙ sym (pack-relaid f w (forgetIn name (usedLayouts (f .layouts))))
 
   -- ---- recalling
   recall-same : (set t : ℕ) → recallAt (f .settings) (f .tiles) set t ≡ recalledHead f set t
@@ -105,6 +101,6 @@ module _ (f : Floor) (w : wellFormed f ≡ true) where
       → _≡_ {A = Floor} (retiled f ts) (pack (recalled (view f) (setOf (view f .layouts) name)))
   unfolding view
   recalled-pack name set ok e ts q =
-      let s : set ≡ setOf (usedLayouts (f .layouts)) name = e ∙ set-used (f .layouts) laid-fit laid-placed name (some-name name ok) in
+      let s : set ≡ setOf (usedLayouts (f .layouts)) name = e ∙ set-used (f .layouts) laid-fit name (some-name name ok) in
       ap (retiled f) (q ∙ tab-same 64 (recallAt (f .settings) (f .tiles) set) (recalledHead f set) (λ t l. recall-same set t))
       ∙ pack-recalled f w set ∙ ap (λ (k : ℕ). pack (recalled (view f) k)) s

@@ -223,7 +223,7 @@ fn rest_of(s: &[u8], from: usize, settings: Settings, counters: Counters) -> Ans
     }
 }
 
-// The floor that the bytes hold, or the first refusal in reading order and the all-zero floor. Of 12 only a layout without a name.
+// The floor that the bytes hold, or the first refusal in reading order and the all-zero floor. It answers 12 for a layout without a name only: what else is 12 shows in memory, and is told there.
 pub fn read_image(s: &[u8]) -> Answer
     ensures { λ r. ⌜ r ≡ recordsAnswer (now (s .entry)) ⌝ }
 {

@@ -5,7 +5,7 @@ use native.Mathlib.Omega.{arith}
 use lib.ListN.{length, getD}
 use borrow.Author.Tests.{not-true, not-false}
 use Rattle.floor.specs.Memory.{zeroLayout}
-use Rattle.floor.proofs.LayoutPlaces.{nameAt, placeTest}
+use Rattle.floor.specs.Well.{nameAt, placeTest}
 use Rattle.layouts.proofs.Laws.{last-name, place-tested, Passed, passed-turn, passed-all, one-fails}
 use borrow.Author.Needs.{needs}
 use Rattle.layouts.proofs.layouts_ok.Statement.{statement}

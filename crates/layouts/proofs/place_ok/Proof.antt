@@ -1,5 +1,5 @@
 use borrow.Author.Tests.{eq-eqb, ne-eqb}
-use Rattle.floor.proofs.LayoutPlaces.{placeOk}
+use Rattle.floor.specs.Well.{placeOk}
 use borrow.Author.Needs.{needs}
 use Rattle.layouts.proofs.place_ok.Statement.{statement}
 use Rattle.layouts.proofs.place_ok.Tie as tie

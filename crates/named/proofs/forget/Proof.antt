@@ -5,7 +5,7 @@ use Rattle.floor.specs.Layouts.{nameNumber, nameOk}
 use Rattle.floor.specs.Memory.{view, usedLayouts}
 use Rattle.book.proofs.Answers.{malformed, formed, answer-refused, answer-by}
 use Rattle.floor.specs.Calls.{heldTests, forgotten, forgetAnswer}
-use Rattle.named.proofs.Laws.{held-named, laid-fit, laid-placed, held-same, forgotten-pack}
+use Rattle.named.proofs.Laws.{held-named, laid-fit, held-same, forgotten-pack}
 use borrow.Author.Needs.{needs}
 use Rattle.named.proofs.forget.Statement.{statement}
 use Rattle.named.proofs.forget.Tie as tie
@@ -26,7 +26,7 @@ held-refusal-requires : tie.Need-held-refusal-requires
 held-refusal-requires c κs =
     let f = c .before .before .before .before .args .floor in
     let w = sym (c .before .before .before .well-formed .ensures) ∙ c .before .before .if1 .taken in
-    (laid-fit f w, laid-placed f w)
+    laid-fit f w
 
 forget-in-requires : tie.Need-forget-in-requires
 forget-in-requires c κs = search needs
@@ -39,9 +39,9 @@ returns c =
     let N = c .before .before .before .before .name-number in
     let n = N .result in
     let K = c .before .before .held-refusal in
-    let number = formed f (heldTests (view f) n) (K .result) w (K .ensures ∙ held-same f w n) in
+    let number = formed f (heldTests (view f .layouts) n) (K .result) w (K .ensures ∙ held-same f w n) in
     let ok : nameOk n ≡ true = held-named (usedLayouts (f .layouts)) n (sym (K .ensures) ∙ c .before .if2 .taken) in
-    answer-by f _ (heldTests (view f) n) (forgotten (view f) n) (K .result) number (c .before .if2 .taken)
+    answer-by f _ (heldTests (view f .layouts) n) (forgotten (view f) n) (K .result) number (c .before .if2 .taken)
     (forgotten-pack f w n ok (c .forget-in .result) (c .forget-in .ensures))
     ∙ ap (forgetAnswer f) (N .ensures)
 
@@ -53,8 +53,8 @@ returns-2 c =
     let N = c .before .before .before .name-number in
     let n = N .result in
     let K = c .before .held-refusal in
-    let number = formed f (heldTests (view f) n) (K .result) w (K .ensures ∙ held-same f w n) in
-    answer-refused f (heldTests (view f) n) (forgotten (view f) n) (K .result) number (c .if2 .left) ∙ ap (forgetAnswer f) (N .ensures)
+    let number = formed f (heldTests (view f .layouts) n) (K .result) w (K .ensures ∙ held-same f w n) in
+    answer-refused f (heldTests (view f .layouts) n) (forgotten (view f) n) (K .result) number (c .if2 .left) ∙ ap (forgetAnswer f) (N .ensures)
 
 returns-3 : tie.Need-returns-3
 unfolding forgetAnswer
@@ -62,7 +62,7 @@ returns-3 c =
     let f = c .before .before .args .floor in
     let w = sym (c .before .well-formed .ensures) ∙ c .if1 .left in
     let n = nameNumber (c .before .before .args .name .letters) in
-    answer-refused f (heldTests (view f) n) (forgotten (view f) n) 30 (malformed f (heldTests (view f) n) w) (omega arith)
+    answer-refused f (heldTests (view f .layouts) n) (forgotten (view f) n) 30 (malformed f (heldTests (view f .layouts) n) w) (omega arith)
 
 pub forget-spec : {M : Type 1} → statement M
 forget-spec =

@@ -6,7 +6,7 @@ use Rattle.floor.specs.Memory.{view, usedLayouts}
 use Rattle.book.proofs.Answers.{malformed, formed, answer-refused, answer-by}
 use Rattle.floor.specs.Calls.{keepTests, keptUnder, keepAnswer}
 use Rattle.floor.proofs.Pack.{well-few}
-use Rattle.named.proofs.Laws.{keep-named, laid-fit, laid-placed, keep-same, kept-pack}
+use Rattle.named.proofs.Laws.{keep-named, laid-fit, keep-same, kept-pack}
 use borrow.Author.Needs.{needs}
 use Rattle.named.proofs.keep.Statement.{statement}
 use Rattle.named.proofs.keep.Tie as tie
@@ -28,7 +28,7 @@ keep-refusal-requires : tie.Need-keep-refusal-requires
 keep-refusal-requires c κs =
     let f = c .before .before .before .before .args .floor in
     let w = sym (c .before .before .before .well-formed .ensures) ∙ c .before .before .if1 .taken in
-    (laid-fit f w, laid-placed f w)
+    laid-fit f w
 
 running-set-requires : tie.Need-running-set-requires
 running-set-requires c κs = well-few (c .before .before .before .before .before .before .before .before .args .floor) (sym (c .before .before .before .before .before .before .before .well-formed .ensures) ∙ c .before .before .before .before .before .before .if1 .taken)
@@ -44,9 +44,9 @@ returns c =
     let N = c .before .before .before .before .before .before .before .name-number in
     let n = N .result in
     let K = c .before .before .before .before .before .keep-refusal in
-    let number = formed f (keepTests (view f) n) (K .result) w (K .ensures ∙ keep-same f w n) in
+    let number = formed f (keepTests (view f .layouts) n) (K .result) w (K .ensures ∙ keep-same f w n) in
     let ok : nameOk n ≡ true = keep-named (usedLayouts (f .layouts)) n (sym (K .ensures) ∙ c .before .before .before .before .if2 .taken) in
-    answer-by f _ (keepTests (view f) n) (keptUnder (view f) n) (K .result) number (c .before .before .before .before .if2 .taken)
+    answer-by f _ (keepTests (view f .layouts) n) (keptUnder (view f) n) (K .result) number (c .before .before .before .before .if2 .taken)
     (kept-pack f w n (c .before .running-set .result) ok (c .before .running-set .ensures) (c .keep-in .result) (c .keep-in .ensures))
     ∙ ap (keepAnswer f) (N .ensures)
 
@@ -58,8 +58,8 @@ returns-2 c =
     let N = c .before .before .before .name-number in
     let n = N .result in
     let K = c .before .keep-refusal in
-    let number = formed f (keepTests (view f) n) (K .result) w (K .ensures ∙ keep-same f w n) in
-    answer-refused f (keepTests (view f) n) (keptUnder (view f) n) (K .result) number (c .if2 .left) ∙ ap (keepAnswer f) (N .ensures)
+    let number = formed f (keepTests (view f .layouts) n) (K .result) w (K .ensures ∙ keep-same f w n) in
+    answer-refused f (keepTests (view f .layouts) n) (keptUnder (view f) n) (K .result) number (c .if2 .left) ∙ ap (keepAnswer f) (N .ensures)
 
 returns-3 : tie.Need-returns-3
 unfolding keepAnswer
@@ -67,7 +67,7 @@ returns-3 c =
     let f = c .before .before .args .floor in
     let w = sym (c .before .well-formed .ensures) ∙ c .if1 .left in
     let n = nameNumber (c .before .before .args .name .letters) in
-    answer-refused f (keepTests (view f) n) (keptUnder (view f) n) 30 (malformed f (keepTests (view f) n) w) (omega arith)
+    answer-refused f (keepTests (view f .layouts) n) (keptUnder (view f) n) 30 (malformed f (keepTests (view f .layouts) n) w) (omega arith)
 
 pub keep-spec : {M : Type 1} → statement M
 keep-spec =

@@ -6,7 +6,7 @@ use Rattle.floor.specs.Memory.{view, usedLayouts}
 use Rattle.book.proofs.Answers.{malformed, formed, answer-refused, answer-by}
 use Rattle.floor.specs.Calls.{heldTests, recalled, recallAnswer}
 use Rattle.floor.proofs.Pack.{well-few}
-use Rattle.named.proofs.Laws.{held-named, laid-fit, laid-placed, held-same, recalled-pack}
+use Rattle.named.proofs.Laws.{held-named, laid-fit, held-same, recalled-pack}
 use borrow.Author.Needs.{needs}
 use Rattle.named.proofs.recall.Statement.{statement}
 use Rattle.named.proofs.recall.Tie as tie
@@ -28,7 +28,7 @@ held-refusal-requires : tie.Need-held-refusal-requires
 held-refusal-requires c κs =
     let f = c .before .before .before .before .args .floor in
     let w = sym (c .before .before .before .well-formed .ensures) ∙ c .before .before .if1 .taken in
-    (laid-fit f w, laid-placed f w)
+    laid-fit f w
 
 set-under-requires : tie.Need-set-under-requires
 set-under-requires c κs = search needs
@@ -44,9 +44,9 @@ returns c =
     let N = c .before .before .before .before .before .before .before .name-number in
     let n = N .result in
     let K = c .before .before .before .before .before .held-refusal in
-    let number = formed f (heldTests (view f) n) (K .result) w (K .ensures ∙ held-same f w n) in
+    let number = formed f (heldTests (view f .layouts) n) (K .result) w (K .ensures ∙ held-same f w n) in
     let ok : nameOk n ≡ true = held-named (usedLayouts (f .layouts)) n (sym (K .ensures) ∙ c .before .before .before .before .if2 .taken) in
-    answer-by f _ (heldTests (view f) n) (recalled (view f) (setOf (view f .layouts) n)) (K .result) number (c .before .before .before .before .if2 .taken)
+    answer-by f _ (heldTests (view f .layouts) n) (recalled (view f) (setOf (view f .layouts) n)) (K .result) number (c .before .before .before .before .if2 .taken)
     (recalled-pack f w n (c .before .set-under .result) ok (c .before .set-under .ensures) (c .recall-tiles .result) (c .recall-tiles .ensures))
     ∙ ap (recallAnswer f) (N .ensures)
 
@@ -58,8 +58,8 @@ returns-2 c =
     let N = c .before .before .before .name-number in
     let n = N .result in
     let K = c .before .held-refusal in
-    let number = formed f (heldTests (view f) n) (K .result) w (K .ensures ∙ held-same f w n) in
-    answer-refused f (heldTests (view f) n) (recalled (view f) (setOf (view f .layouts) n)) (K .result) number (c .if2 .left) ∙ ap (recallAnswer f) (N .ensures)
+    let number = formed f (heldTests (view f .layouts) n) (K .result) w (K .ensures ∙ held-same f w n) in
+    answer-refused f (heldTests (view f .layouts) n) (recalled (view f) (setOf (view f .layouts) n)) (K .result) number (c .if2 .left) ∙ ap (recallAnswer f) (N .ensures)
 
 returns-3 : tie.Need-returns-3
 unfolding recallAnswer
@@ -67,7 +67,7 @@ returns-3 c =
     let f = c .before .before .args .floor in
     let w = sym (c .before .well-formed .ensures) ∙ c .if1 .left in
     let n = nameNumber (c .before .before .args .name .letters) in
-    answer-refused f (heldTests (view f) n) (recalled (view f) (setOf (view f .layouts) n)) 30 (malformed f (heldTests (view f) n) w) (omega arith)
+    answer-refused f (heldTests (view f .layouts) n) (recalled (view f) (setOf (view f .layouts) n)) 30 (malformed f (heldTests (view f .layouts) n) w) (omega arith)
 
 pub recall-spec : {M : Type 1} → statement M
 recall-spec =
