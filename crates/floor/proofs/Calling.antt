@@ -64,12 +64,6 @@ named l = nameNumber (take 8 (l ++ replicate 8 0))
 unfoldable pub keeps : ℕ → Floor → Floor
 keeps name f = got (keepAnswer f name)
 
-unfoldable pub forgets : ℕ → Floor → Floor
-forgets name f = got (forgetAnswer f name)
-
-unfoldable pub recalls : ℕ → Floor → Floor
-recalls name f = got (recallAnswer f name)
-
 -- n rounds
 unfoldable pub rounds : ℕ → Floor → Floor
 rounds zero f = f
@@ -84,9 +78,12 @@ flat (c ∷ l) = c .number ∷ c .a ∷ c .b ∷ flat l
 unfoldable pub on : ℕ → Floor → List ℕ
 on t f = let r = readAnswer f t in r .refusal ∷ flat (take (r .tile .count) (r .members))
 
--- all that tile t has: running, distance, arrow, turn; number, a and b of each canister
+-- all that a reading, or tile t, has: running, distance, arrow, turn; number, a and b of each canister
+unfoldable pub has : Reading → List ℕ
+has r = r .refusal ∷ r .tile .running ∷ r .tile .distance ∷ r .tile .next .code ∷ r .tile .token .code ∷ flat (take (r .tile .count) (r .members))
+
 unfoldable pub tile : ℕ → Floor → List ℕ
-tile t f = let r = readAnswer f t in r .refusal ∷ r .tile .running ∷ r .tile .distance ∷ r .tile .next .code ∷ r .tile .token .code ∷ flat (take (r .tile .count) (r .members))
+tile t f = has (readAnswer f t)
 
 -- the distances of the tiles below n, after the total of the refusals
 unfoldable pub distances : ℕ → Floor → List ℕ
@@ -150,6 +147,10 @@ layoutNumbers (x ∷ l) = x .name ∷ x .set ∷ layoutNumbers l
 unfoldable pub laid : Floor → List ℕ
 laid f = readAnswer f 0 .refusal ∷ layoutNumbers (view f .layouts)
 
+-- all of a floor of n tiles: what each has, its counters, its layouts
+unfoldable pub whole : ℕ → Floor → List ℕ
+whole n f = join (map has (tab n (readAnswer f))) ++ (counts (f .counters) ++ layoutNumbers (view f .layouts))
+
 unfoldable pub sameFloor : Floor → Floor → Bool
 sameFloor f g =
     same (setUp (f .settings)) (setUp (g .settings)) && (same (counts (f .counters)) (counts (g .counters))
@@ -174,7 +175,7 @@ abbrev pub Table : Type 0
 Table = List (List ℕ × List ℕ)
 
 unfoldable pub holds : Table → Bool
-unfolding got several settings fresh can book stop repair named keeps forgets recalls rounds flat on tile distances next turn listedAt reportedTo reported grant why counts counted same setUp heads layoutNumbers laid sameFloor refused refusedRound refusedReading
+unfolding got several settings fresh can book stop repair named keeps rounds flat on has tile distances next turn listedAt reportedTo reported grant why counts counted same setUp heads layoutNumbers laid whole sameFloor refused refusedRound refusedReading
     tab cat allOf anyOf pairsOf allBelow keep firstOf sum bit bitsBelow join refusal
     sides opposite after following chosen isHopper hoppersOf settingsTests settingsRefusal settingsPass neighbour numbersOn
     nameNumber letters isLetter spelled nameOk layoutOk layoutsSound setBelow held setOf keepIn forgetIn

@@ -1,32 +1,34 @@
 -- Tables about floors that calls made: how a floor was made, what is read of it, what is due. A table speaks of floors in memory; it is computed on their values.
 use mathlib.Core.Path.{_≡_, refl, ap, fun-ext}
-use mathlib.Core.Bool.{Bool, true, cond, _&&_}
+use mathlib.Core.Bool.{Bool, true, cond, not, _&&_}
 use mathlib.Core.List.{List, [], _∷_, _++_, map}
 use Prim.Native.Nat.{ℕ, zero, suc}
 use lib.Dec.{eqb}
 use lib.ListN.{getD, take}
-use Rattle.laws.specs.Define.{tab, allOf, sum}
+use Rattle.laws.specs.Define.{tab, allOf, sum, join, refusal}
 use Rattle.laws.specs.Every.{All}
 use Rattle.laws.specs.Tests.{and-left, and-right, and-true}
 use Rattle.floor.specs.declared.Settings.{Settings}
+use Rattle.floor.specs.declared.Layout.{Layout}
 use Rattle.floor.specs.declared.Floor.{Floor}
 use Rattle.floor.specs.declared.Report.{Report}
 use Rattle.floor.specs.Settings.{settingsPass}
+use Rattle.floor.specs.Layouts.{layoutsSound}
 use Rattle.floor.specs.Model.{Model, runsOf}
-use Rattle.floor.specs.Memory.{zeroFloor, view}
-use Rattle.floor.specs.Calls.{freshFloor, freshAnswer, reportOf}
+use Rattle.floor.specs.Memory.{zeroFloor, usedLayouts, view, layoutsFit, relaid}
+use Rattle.floor.specs.Calls.{freshFloor, freshAnswer, reportOf, readTests, readAnswer}
 use Rattle.floor.specs.Reports.{listedAt}
 use Rattle.floor.specs.Bound.{bound}
 use Rattle.floor.specs.Live.{connectedCount}
-use Rattle.floor.specs.Demand3.{Call, book as booking, stop as stopping, repair as repairing, round, Typed, outcome, bookedIn as bookedOn, reportedIn as reportedOn, runsAfter as runsOn}
+use Rattle.floor.specs.Demand3.{Call, book as booking, stop as stopping, repair as repairing, round, keep as keeping, forget as forgetting, recall as recalling, Typed, outcome, bookedIn as bookedOn, reportedIn as reportedOn, runsAfter as runsOn}
 use Rattle.floor.specs.Together.{saidIn}
 use Rattle.floor.specs.Fairness.{grantsIn}
 use Rattle.floor.proofs.Well.{settings-fact}
 use Rattle.floor.proofs.Capacity.{view-packed, sound-well}
 use Rattle.floor.proofs.First.{fresh-sound}
-use Rattle.floor.proofs.Shown.{Shows, testsOf, changed, refusalBy, valueBy, readBy, shows-refusal, shows-call, shows-read, shows-round, shows-report}
+use Rattle.floor.proofs.Shown.{Shows, testsOf, changed, refusalBy, valueBy, readBy, shows-refusal, shows-call, shows-read, shows-relaid, shows-round, shows-report}
 use Rattle.floor.proofs.Walked.{isTyped, typed, all-typed, answers as answersOn, valueAfter, answersBy, bookedOf, bookedBy, reportBy, saidBy, reportedOf, reportedBy, grantsBy, answers-same, booked-same, said-same, reported-same, grants-same, runs-same}
-use Rattle.floor.proofs.Calling.{got, settings, can, flat, same, counts, on as onFloor, distances as distancesOn, next as nextOn, reportedTo as reportedFrom, grant as grantOn, why as whyOn, counted as countedOn, liveCount as liveOn, boundOf as boundOn}
+use Rattle.floor.proofs.Calling.{got, settings, can, flat, same, counts, on as onFloor, distances as distancesOn, next as nextOn, reportedTo as reportedFrom, grant as grantOn, why as whyOn, layoutNumbers, laid as laidOn, has, whole as wholeOf, counted as countedOn, liveCount as liveOn, boundOf as boundOn}
 
 -- ---- how a floor was made: fresh, then call after call
 pub data Made : Type 0 where
@@ -47,6 +49,15 @@ stop t e = called (stopping t) e
 abbrev pub repair : ℕ → Made → Made
 repair t e = called (repairing t) e
 
+abbrev pub keep : ℕ → Made → Made
+keep name e = called (keeping name) e
+
+abbrev pub forget : ℕ → Made → Made
+forget name e = called (forgetting name) e
+
+abbrev pub recall : ℕ → Made → Made
+recall name e = called (recalling name) e
+
 abbrev pub rounds : ℕ → Made → Made
 rounds zero e = e
 rounds (suc n) e = rounds n (called round e)
@@ -64,6 +75,8 @@ pub data Seen : Type 0 where
   reportedTo : ℕ → Made → Seen
   grant : ℕ → Made → Seen
   why : ℕ → Made → Seen
+  laid : Made → Seen
+  whole : ℕ → Made → Seen
   counted : Made → Seen
   liveCount : Made → Seen
   boundOf : Made → Seen
@@ -74,6 +87,8 @@ pub data Seen : Type 0 where
   said : (ℕ × Report → ℕ) → List Call → Made → Seen
   grants : ℕ → List Call → Made → Seen
   runsAfter : List ℕ → List Call → Made → Seen
+  -- the refusal of reading it with these places of layouts
+  laying : List Layout → Made → Seen
   given : List ℕ → Seen
 
 abbrev pub reported : Made → Seen
@@ -86,6 +101,8 @@ seen (next t e) = nextOn t (floorOf e)
 seen (reportedTo k e) = reportedFrom k (floorOf e)
 seen (grant t e) = grantOn t (floorOf e)
 seen (why n e) = whyOn n (floorOf e)
+seen (laid e) = laidOn (floorOf e)
+seen (whole n e) = wholeOf n (floorOf e)
 seen (counted e) = countedOn (floorOf e)
 seen (liveCount e) = liveOn (floorOf e) ∷ []
 seen (boundOf e) = boundOn (floorOf e) ∷ []
@@ -96,6 +113,7 @@ seen (reportedIn k cs e) = reportedOn (floorOf e) cs k
 seen (said g cs e) = map g (saidIn (floorOf e) cs)
 seen (grants t cs e) = grantsIn (floorOf e) cs t
 seen (runsAfter ts cs e) = let r = runsOn (floorOf e) cs in map (λ t. cond (r t) 1 0) ts
+seen (laying ls e) = readAnswer (relaid (floorOf e) ls) 0 .refusal ∷ []
 seen (given l) = l
 
 -- each row is what is seen, then what is due
@@ -138,6 +156,8 @@ seenBy (next t e) = let p = made e in let r = readBy (p .1) t in (p .0, r .refus
 seenBy (reportedTo k e) = let p = made e in (p .0, 0 ∷ listedAt (reportOf (p .1)) k)
 seenBy (grant t e) = let p = made e in (p .0, 0 ∷ getD (reportOf (p .1) .grants) t 0 ∷ [])
 seenBy (why n e) = let p = made e in let r = reportOf (p .1) in (p .0, 0 ∷ take n (r .reasons) ++ take n (r .missing))
+seenBy (laid e) = let p = made e in (p .0, readBy (p .1) 0 .refusal ∷ layoutNumbers (p .1 .layouts))
+seenBy (whole n e) = let p = made e in let m = p .1 in (p .0, join (map has (tab n (readBy m))) ++ (counts (m .counters) ++ layoutNumbers (m .layouts)))
 seenBy (counted e) = let p = made e in (p .0, readBy (p .1) 0 .refusal ∷ counts (p .1 .counters))
 seenBy (liveCount e) = let p = made e in let m = p .1 in (p .0, connectedCount m (runsOf m) ∷ [])
 seenBy (boundOf e) = let p = made e in let m = p .1 in (p .0, bound (m .settings) (connectedCount m (runsOf m)) ∷ [])
@@ -148,6 +168,7 @@ seenBy (reportedIn k cs e) = let p = made e in (p .0 && allOf isTyped cs, report
 seenBy (said g cs e) = let p = made e in (p .0 && allOf isTyped cs, map g (saidBy (p .1) cs))
 seenBy (grants t cs e) = let p = made e in (p .0 && allOf isTyped cs, grantsBy (p .1) cs t)
 seenBy (runsAfter ts cs e) = let p = made e in let m = valueAfter (p .1) cs in (p .0 && allOf isTyped cs, map (λ t. cond (runsOf m t) 1 0) ts)
+seenBy (laying ls e) = let p = made e in let m = p .1 in (p .0, refusal ((not (layoutsSound (m .settings) (usedLayouts ls) && layoutsFit ls), 30) ∷ readTests m 0) ∷ [])
 seenBy (given l) = (true, l)
 
 -- a floor made, and a list of calls on it
@@ -159,13 +180,19 @@ module _ (e : Made) (cs : List Call) (h : (made e .0 && allOf isTyped cs) ≡ tr
   list-typed = all-typed cs (and-right (made e .0) _ h)
 
 seen-same : (x : Seen) → seenBy x .0 ≡ true → seen x ≡ seenBy x .1
-unfolding seen seenBy onFloor distancesOn nextOn reportedFrom grantOn whyOn countedOn liveOn boundOn view
+unfolding seen seenBy onFloor distancesOn nextOn reportedFrom grantOn whyOn laidOn wholeOf countedOn liveOn boundOn view
 seen-same (on t e) h = rw (shows-read (floorOf e) (made e .1) (made-shows e h) t)
 seen-same (distances n e) h = rw (fun-ext (shows-read (floorOf e) (made e .1) (made-shows e h)))
 seen-same (next t e) h = rw (shows-read (floorOf e) (made e .1) (made-shows e h) t)
 seen-same (reportedTo k e) h = let E = made-shows e h in rw (shows-round (floorOf e) (made e .1) E, shows-report (floorOf e) (made e .1) E)
 seen-same (grant t e) h = let E = made-shows e h in rw (shows-round (floorOf e) (made e .1) E, shows-report (floorOf e) (made e .1) E)
 seen-same (why n e) h = let E = made-shows e h in rw (shows-round (floorOf e) (made e .1) E, shows-report (floorOf e) (made e .1) E)
+seen-same (laid e) h =
+    let E = made-shows e h in
+    rw (shows-read (floorOf e) (made e .1) E 0) (ap (λ (m : Model). readBy (made e .1) 0 .refusal ∷ layoutNumbers (m .layouts)) (E .value))
+seen-same (whole n e) h =
+    let E = made-shows e h in
+    rw (fun-ext (shows-read (floorOf e) (made e .1) E)) (ap (λ (m : Model). join (map has (tab n (readBy (made e .1)))) ++ (counts (m .counters) ++ layoutNumbers (m .layouts))) (E .value))
 seen-same (counted e) h =
     let E = made-shows e h in
     rw (shows-read (floorOf e) (made e .1) E 0) (ap (λ (m : Model). readBy (made e .1) 0 .refusal ∷ counts (m .counters)) (E .value))
@@ -178,6 +205,7 @@ seen-same (reportedIn k cs e) h = reported-same (floorOf e) (made e .1) (list-sh
 seen-same (said g cs e) h = ap (map g) (said-same (floorOf e) (made e .1) (list-shows e cs h) cs (list-typed e cs h))
 seen-same (grants t cs e) h = grants-same (floorOf e) (made e .1) (list-shows e cs h) cs (list-typed e cs h) t
 seen-same (runsAfter ts cs e) h = ap (λ (r : ℕ → Bool). map (λ t. cond (r t) 1 0) ts) (fun-ext (runs-same (floorOf e) (made e .1) (list-shows e cs h) cs (list-typed e cs h)))
+seen-same (laying ls e) h = ap (λ (n : ℕ). n ∷ []) (shows-relaid (floorOf e) (made e .1) (made-shows e h) ls)
 seen-same (given l) h = refl
 
 unfoldable pub holdBy : Rows → Bool

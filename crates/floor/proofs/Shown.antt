@@ -1,23 +1,25 @@
 -- What a well-formed floor answers is computed on its value alone: no memory is laid out or checked between the calls. The tables of Trials, Samples and Instances speak of floors in memory, and are computed so.
-use mathlib.Core.Path.{_≡_, refl, ap, _∙_}
-use mathlib.Core.Bool.{Bool, true, false, cond}
-use mathlib.Core.List.{List, []}
+use mathlib.Core.Path.{_≡_, refl, sym, ap, _∙_}
+use mathlib.Core.Bool.{Bool, true, false, cond, not, _&&_}
+use mathlib.Core.List.{List, [], _∷_}
 use Prim.Native.Nat.{ℕ, _<_}
 use native.Mathlib.Omega.{arith}
 use lib.Dec.{eqb}
 use lib.ListN.{getD, replicate}
 use Rattle.laws.specs.Define.{tab, refusal}
 use Rattle.laws.specs.Every.{All}
+use Rattle.laws.specs.Tests.{and-left}
+use Rattle.floor.specs.declared.Layout.{Layout}
 use Rattle.floor.specs.declared.Floor.{Floor}
 use Rattle.floor.specs.declared.Reading.{Reading}
-use Rattle.floor.specs.Layouts.{setOf}
-use Rattle.floor.specs.Model.{Model, tileOf, withTile}
-use Rattle.floor.specs.Memory.{zeroTile, zeroCanister, view, head, pack}
-use Rattle.floor.specs.Well.{wellFormed}
+use Rattle.floor.specs.Layouts.{layoutsSound, setOf}
+use Rattle.floor.specs.Model.{Model, tileOf, withTile, numbersOn}
+use Rattle.floor.specs.Memory.{zeroTile, zeroCanister, stateOf, usedLayouts, view, head, pack, stateFits, layoutsFit, relaid}
+use Rattle.floor.specs.Well.{stateSound, stateWell, layoutsWell, wellFormed}
 use Rattle.floor.specs.Calls.{refusalOf, answer, bookTests, booked, bookAnswer, stopTests, stopped, stopAnswer, repairTests, repaired, repairAnswer, keepTests, keptUnder, keepAnswer, heldTests, forgotten, forgetAnswer, recalled, recallAnswer, afterRound, reportOf, roundAnswer, readTests, readAnswer}
 use Rattle.floor.specs.Demand3.{Call, book, stop, repair, round, keep, forget, recall, Typed, outcome}
 use Rattle.floor.proofs.Sound.{Sound}
-use Rattle.floor.proofs.Pack.{well-sound}
+use Rattle.floor.proofs.Pack.{well-sound, well-parts}
 use Rattle.floor.proofs.Capacity.{view-packed}
 use Rattle.floor.proofs.Calls.{Accepted, book-keeps, stop-keeps, repair-keeps}
 use Rattle.floor.proofs.Laying.{keep-keeps, forget-keeps}
@@ -109,6 +111,15 @@ module _ (f : Floor) (m : Model) (s : Shows f m) where
 
   pub shows-read : (t : ℕ) → readAnswer f t ≡ readBy m t
   shows-read t = read-here f (s .well) t ∙ ap (λ (x : Model). readBy x t) (s .value)
+
+  -- with other layouts: 30 where they are not well formed in memory
+  well-relaid : (ls : List Layout) → wellFormed (relaid f ls) ≡ (layoutsSound (f .settings) (usedLayouts ls) && layoutsFit ls)
+  unfolding stateWell stateSound stateFits numbersOn view stateOf layoutsWell
+  well-relaid ls = well-parts (relaid f ls) ∙ ap (λ (b : Bool). b && layoutsWell (relaid f ls)) (and-left (stateWell f) (layoutsWell f) (sym (well-parts f) ∙ s .well))
+
+  pub shows-relaid : (ls : List Layout) → readAnswer (relaid f ls) 0 .refusal ≡ refusal ((not (layoutsSound (m .settings) (usedLayouts ls) && layoutsFit ls), 30) ∷ readTests m 0)
+  unfolding readAnswer refusalOf readTests view layoutsWell
+  shows-relaid ls = rw (well-relaid ls) (ap (λ (x : Model). refusal ((not (layoutsSound (x .settings) (usedLayouts ls) && layoutsFit ls), 30) ∷ readTests x 0)) (s .value))
 
   pub shows-round : roundAnswer f .refusal ≡ 0
   unfolding roundAnswer
