@@ -59,7 +59,8 @@ extern "C" {
 #define CEROMBY_NUMBER_ZERO 6     /* canister number 0 */
 #define CEROMBY_OUTSIDE 7         /* a or b above U - l */
 #define CEROMBY_STOP_OF_HOPPER 8  /* stop of a hopper */
-#define CEROMBY_IMAGE_ENDS 9      /* image ends within a record or without its end record, or goes on after it */
+#define CEROMBY_IMAGE_ENDS 9      /* image ends within a record or without its end record, or goes on after it; never for
+                                     zero bytes, which load the standard floor */
 #define CEROMBY_OTHER_KIND 10     /* record of another kind than the one due */
 #define CEROMBY_RECORD_SHAPE 11   /* wrong record length, or a fixed byte wrong */
 #define CEROMBY_IMAGE_MALFORMED 12 /* image complete, floor not well formed */
@@ -173,7 +174,7 @@ typedef struct ceromby_reading {
 
 typedef struct ceromby_written {
     uint8_t refusal;
-    uint32_t length; /* of the image */
+    uint32_t length; /* of the image, never 0; where refused, 0: don't store that many bytes, see ceromby_write */
 } ceromby_written;
 
 /* A floor without canisters. Refused by 1, 2, 3. */
@@ -209,10 +210,18 @@ ceromby_reading ceromby_read(ceromby_floor floor, uint32_t tile);
    bytes left over, then 12. With several hoppers the settings' record has 28 bytes, the set last and its
    lowest tile as the hopper byte (else 11; not tested for an empty set), and is 2 unless that has
    two to four tiles of the floor; the counters' record has one delivered counter for each. Up to eight layouts follow
-   the counters, each in a record of 16 bytes (else 11); a ninth is 10. Older images have none. */
+   the counters, each in a record of 16 bytes (else 11); a ninth is 10. Older images have none.
+
+   Zero bytes, the image file of a new controller, load the standard floor, fresh: W 4, H 4, hopper 10, fill tile 4, U 1,000,
+   l 250, r 50, v 200. So ceromby_load(bytes, 0) gives that floor to a caller that doesn't know the figures. One to three
+   bytes are 9. */
 ceromby_answer ceromby_load(const uint8_t *bytes, size_t length);
 
-/* Writes an image and leaves the bytes after it. Refused by 30, 13. */
+/* Writes an image and leaves the bytes after it. Refused by 30, 13.
+
+   Look at the refusal before the length is used. A refused write answers length 0: a program that stores `length` bytes all
+   the same keeps an empty file, and loading that is accepted and gives the standard floor, without canisters and with
+   counters at 0. */
 ceromby_written ceromby_write(ceromby_floor floor, uint8_t *buffer, size_t length);
 
 #ifdef __cplusplus

@@ -1,24 +1,24 @@
 -- Trials of the image: one table, one proof. Each row is a test that must pass.
 use mathlib.Core.Path.{_≡_, refl}
-use mathlib.Core.Bool.{Bool, true}
+use mathlib.Core.Bool.{Bool, true, cond}
 use mathlib.Core.List.{List, [], _∷_, _++_}
 use Prim.Native.Nat.{ℕ, _+_}
 use lib.Dec.{eqb}
 use lib.ListN.{length, set, take, drop, replicate}
-use Rattle.laws.specs.Define.{allOf}
+use Rattle.laws.specs.Define.{tab, allOf, join}
 use Rattle.wire.specs.Bytes.{le, bytes, fieldsOf, bytesOf}
 use Rattle.floor.specs.declared.Floor.{Floor}
 use Rattle.floor.specs.Memory.{zeroFloor, view}
 use Rattle.floor.specs.Calls.{freshAnswer}
 use Rattle.floor.proofs.Calling.{got, several, fresh, book, rounds, same, sameFloor, holds}
-use Rattle.image.specs.Image.{lowest, oneTile, several as isSeveral, byteWrong, recordOf, settingsBody, countersBody, canistersBody, tileBody, layoutBody, layoutsBytes, tilesBytes, encode, settingsIn, countersIn, canisterIn, canistersIn, tileIn, tilesIn, layoutIn, isLayout, layoutsIn, afterLayouts, modelIn, settingsFaults, countersFaults, tileFaults, layoutFaults, endFaults, ownFaults, recordFault, endFault, tilesFault, laidFault, fault, answerBy, loadRefusal, loadAnswer, writeRefusal, writeAnswer, written}
+use Rattle.image.specs.Image.{lowest, oneTile, several as isSeveral, byteWrong, recordOf, settingsBody, countersBody, canistersBody, tileBody, layoutBody, layoutsBytes, tilesBytes, encode, settingsIn, countersIn, canisterIn, canistersIn, tileIn, tilesIn, layoutIn, isLayout, layoutsIn, afterLayouts, modelIn, settingsFaults, countersFaults, tileFaults, layoutFaults, endFaults, ownFaults, recordFault, endFault, tilesFault, laidFault, fault, answerBy, imageRefusal, imageAnswer, standard, loadAnswer, writeRefusal, writeAnswer, written}
 
 -- what loading and writing compute: a table's line names this alone
 unfoldable pub shows : List ℕ → ℕ → Bool
 unfolding holds le bytes fieldsOf bytesOf
     lowest oneTile isSeveral byteWrong recordOf settingsBody countersBody canistersBody tileBody layoutBody layoutsBytes tilesBytes encode
     settingsIn countersIn canisterIn canistersIn tileIn tilesIn layoutIn isLayout layoutsIn afterLayouts modelIn
-    settingsFaults countersFaults tileFaults layoutFaults endFaults ownFaults recordFault endFault tilesFault laidFault fault answerBy loadRefusal loadAnswer writeRefusal writeAnswer written
+    settingsFaults countersFaults tileFaults layoutFaults endFaults ownFaults recordFault endFault tilesFault laidFault fault answerBy imageRefusal imageAnswer standard loadAnswer writeRefusal writeAnswer written
 shows xs k = eqb (loadAnswer xs .refusal) k
 
 -- ---- the floors
@@ -72,6 +72,16 @@ pairBytes =
     ∷ 6 ∷ 0 ∷ 3 ∷ 0 ∷ 3 ∷ 1 ∷ 0 ∷ 0 ∷ 1 ∷ 0
     ∷ 0 ∷ 0 ∷ 4 ∷ 0 ∷ []
 
+-- W 4, H 4, hopper 10, fill tile 4, U 1,000, l 250, r 50, v 200, fresh
+unfoldable standardBytes : List ℕ
+standardBytes =
+    (20 ∷ 0 ∷ 1 ∷ 0
+    ∷ 4 ∷ 4 ∷ 10 ∷ 0 ∷ 232 ∷ 3 ∷ 250 ∷ 0 ∷ 50 ∷ 0 ∷ 200 ∷ 0 ∷ 16 ∷ 0 ∷ 0 ∷ 0 ∷ 0 ∷ 0 ∷ 0 ∷ 0
+    ∷ 12 ∷ 0 ∷ 2 ∷ 0
+    ∷ replicate 12 0)
+    ++ join (tab 16 (λ t. 6 ∷ 0 ∷ 3 ∷ 0 ∷ t ∷ 1 ∷ cond (eqb t 10) 0 255 ∷ 0 ∷ 0 ∷ 0 ∷ []))
+    ++ (0 ∷ 0 ∷ 4 ∷ 0 ∷ [])
+
 -- with hopper byte h, and byte k of the hopper set made x; on 4 × 4 too, without fill tiles
 unfoldable hoppers : ℕ → ℕ → ℕ → List ℕ
 hoppers h k x = set (set pairBytes 6 h) (24 + k) x
@@ -90,11 +100,16 @@ with k x = set good k x
 -- ---- the table
 unfoldable table : List Bool
 table =
-    -- "The fresh W 2 floor has an image of 64 bytes; an empty image is 9."
+    -- "The fresh W 2 floor has an image of 64 bytes"; "Zero bytes now load the standard floor, fresh"; "One byte is still 9."
     same (encode (view blank)) good
     ∷ eqb (length good) 64
     ∷ shows good 0
-    ∷ shows [] 9
+    ∷ shows [] 0
+    ∷ same (encode (view (loadAnswer [] .floor))) standardBytes
+    ∷ sameFloor (loadAnswer standardBytes .floor) (loadAnswer [] .floor)
+    ∷ shows (0 ∷ []) 9
+    ∷ shows (take 1 good) 9
+    ∷ shows (take 2 good) 9
     -- an image with a canister
     ∷ eqb (length (encode (view one))) 72
     ∷ shows (encode (view one)) 0
@@ -183,5 +198,5 @@ table =
     ∷ []
 
 trials : allOf (λ b. b) table ≡ true
-unfolding shows blank one moved pair good movedBytes pairBytes hoppers larger counters with table
+unfolding shows blank one moved pair good movedBytes pairBytes standardBytes hoppers larger counters with table
 trials = refl

@@ -17,7 +17,7 @@ use Rattle.floor.specs.Layouts.{nameNumber, letters}
 use Rattle.floor.specs.Model.{TileState, Model}
 use Rattle.floor.specs.Memory.{view, pack, zeroFloor}
 use Rattle.floor.specs.Well.{sound}
-use Rattle.floor.specs.Calls.{refusalOf}
+use Rattle.floor.specs.Calls.{refusalOf, freshAnswer}
 use Rattle.image.specs.declared.Written.{Written}
 
 -- ---- the fields of each record: the bytes of each, and its value
@@ -242,11 +242,21 @@ unfoldable pub answerBy : ℕ → Model → Answer
 answerBy n m = record { refusal = n; floor = cond (eqb n 0) (pack m) zeroFloor }
 
 -- "then 12": "Image complete, floor not well formed."; "Bad, unsorted or repeated names, a stopped hopper or a bit for no tile are 12"
-unfoldable pub loadRefusal : List ℕ → ℕ
-loadRefusal xs = orElse (fault xs) (refusal ((not (sound (modelIn xs)), 12) ∷ []))
+unfoldable pub imageRefusal : List ℕ → ℕ
+imageRefusal xs = orElse (fault xs) (refusal ((not (sound (modelIn xs)), 12) ∷ []))
 
+-- what bytes answer as records
+unfoldable pub imageAnswer : List ℕ → Answer
+imageAnswer xs = answerBy (imageRefusal xs) (modelIn xs)
+
+-- "W 4, H 4, hopper 10, fill tile 4, U 1,000, l 250, r 50, v 200"
+unfoldable pub standard : Settings
+standard = record { columns = 4; rows = 4; hoppers = 2 ^ 10; sources = 2 ^ 4; width = 1000; length = 250; gap = 50; travel = 200 }
+
+-- "Zero bytes now load the standard floor, fresh"; "One byte is still 9."
 unfoldable pub loadAnswer : List ℕ → Answer
-loadAnswer xs = answerBy (loadRefusal xs) (modelIn xs)
+loadAnswer [] = freshAnswer standard
+loadAnswer (x ∷ xs) = imageAnswer (x ∷ xs)
 
 -- ---- the same in the two steps of the code: the records are read, then the floor that they gave is judged in memory, and is 12 where it is not well formed (`load-12` and `load-other` of proofs/Promises)
 -- In memory a layout of sixteen zero bytes is an unused place, and the second step could not tell. So the first step answers 12 for a layout without a name; every other 12 comes from the second.

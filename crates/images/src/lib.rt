@@ -1,9 +1,11 @@
 // Loading and writing an image. Each takes any bytes, and its contract determines the whole answer on all of them.
 ghost use mathlib.Core.Path.{_≡_};
 ghost use lib.ListN.{length};
-ghost use Rattle.image.specs.Image.{loadAnswer, writeAnswer, written};
+ghost use Rattle.image.specs.Image.{imageAnswer, standard, loadAnswer, writeAnswer, written};
+use calls::fresh;
 use floor::Answer;
 use floor::Floor;
+use floor::Settings;
 use image::Written;
 use reader::read_image;
 use reader::refused;
@@ -11,9 +13,25 @@ use soundness::well_formed;
 use writer::image_length;
 use writer::write_image;
 
-// The floor of an image; refused, the all-zero floor, which the check then looks at too. One way out: each costs a copy.
-pub fn load(bytes: &[u8]) -> Answer
-    ensures { λ r. ⌜ r ≡ loadAnswer (now (bytes .entry)) ⌝ }
+// The settings of a blank controller: hopper 10, fill tile 4.
+fn standard_settings() -> Settings
+    ensures { λ r. ⌜ r ≡ standard ⌝ }
+{
+    Settings {
+        columns: 4,
+        rows: 4,
+        hoppers: 1024,
+        sources: 16,
+        width: 1000,
+        length: 250,
+        gap: 50,
+        travel: 200,
+    }
+}
+
+// The floor of bytes as records; refused, the all-zero floor, which the check then looks at too. One way out: each costs a copy.
+fn load_image(bytes: &[u8]) -> Answer
+    ensures { λ r. ⌜ r ≡ imageAnswer (now (bytes .entry)) ⌝ }
 {
     let r = read_image(bytes);
     let f = r.floor;
@@ -21,6 +39,18 @@ pub fn load(bytes: &[u8]) -> Answer
     let mut out = r;
     if (r.refusal == 0) & !well {
         out = refused(12);
+    }
+    out
+}
+
+// The floor of an image; zero bytes load the standard floor. One way out, and the fresh floor has a variable of its own: else every load costs a copy more.
+pub fn load(bytes: &[u8]) -> Answer
+    ensures { λ r. ⌜ r ≡ loadAnswer (now (bytes .entry)) ⌝ }
+{
+    let mut out = load_image(bytes);
+    if bytes.len() == 0 {
+        let made = fresh(standard_settings());
+        out = made;
     }
     out
 }

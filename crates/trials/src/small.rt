@@ -184,26 +184,61 @@ fn reasons(t: Tally) -> Tally {
     )
 }
 
-// "The fresh W 2 floor has an image of 64 bytes; an empty image is 9."
+// "The fresh W 2 floor has an image of 64 bytes"; by [9] one byte is still 9.
 fn image(t: Tally) -> Tally {
     let f = floors::fresh(2, 1, 1, 1);
     let mut bytes = [7u8; 64];
-    let empty = images::load(&bytes[..0]);
+    let one = images::load(&bytes[..1]);
+    let three = images::load(&bytes[..3]);
     let written = images::write(f, &mut bytes);
     let whole = images::load(&bytes);
     let gave = [
         written.refusal as u64,
         wide(written.length),
-        empty.refusal as u64,
         whole.refusal as u64,
-        0,
+        one.refusal as u64,
+        three.refusal as u64,
         0,
     ];
     trial(
         t,
-        b"W 2: an image of 64 bytes, an empty one is 9",
+        b"W 2: an image of 64 bytes, one and three bytes are 9",
         gave,
-        [0, 64, 9, 0, 0, 0],
+        [0, 64, 0, 9, 9, 0],
+    )
+}
+
+// [9]: "Zero bytes now load the standard floor, fresh: W 4, H 4, hopper 10, fill tile 4, U 1,000, l 250, r 50, v 200."
+fn blank(t: Tally) -> Tally {
+    let mut bytes = [7u8; 204];
+    let empty = images::load(&bytes[..0]);
+    let s = empty.floor.settings;
+    let written = images::write(empty.floor, &mut bytes);
+    let sets = trial(
+        t,
+        b"zero bytes load 4 x 4, hopper 10, fill tile 4",
+        [
+            empty.refusal as u64,
+            s.columns as u64,
+            s.rows as u64,
+            s.hoppers,
+            s.sources,
+            wide(written.length),
+        ],
+        [0, 4, 4, 1024, 16, 204],
+    );
+    trial(
+        sets,
+        b"with U 1000, l 250, r 50, v 200",
+        [
+            s.width as u64,
+            s.length as u64,
+            s.gap as u64,
+            s.travel as u64,
+            0,
+            0,
+        ],
+        [1000, 250, 50, 200, 0, 0],
     )
 }
 
@@ -215,5 +250,6 @@ pub fn all(t: Tally) -> Tally {
     let e = distances(d);
     let f = ties_and_turns(e);
     let g = reasons(f);
-    image(g)
+    let h = image(g);
+    blank(h)
 }

@@ -1,38 +1,41 @@
-use Rattle.image.proofs.Promises.{load-12, load-other}
-use mathlib.Core.Path.{_∙_}
+use mathlib.Core.Path.{sym, ap, _∙_}
+use native.Mathlib.Omega.{arith}
+use Rattle.floor.specs.Calls.{freshAnswer}
+use Rattle.image.proofs.Promises.{load-empty, load-some}
 use borrow.Author.Needs.{needs}
 use Rattle.images.proofs.load.Statement.{statement}
 use Rattle.images.proofs.load.Tie as tie
 use Rattle.images.proofs.load.Reads as reads
 use Rattle.images.proofs.load.Lts as lts
-use Rattle.reader.proofs.read_image.Reads as read-image-reads
-use Rattle.reader.proofs.refused.Reads as refused-reads
-use Rattle.soundness.proofs.well_formed.Reads as well-formed-reads
+use Rattle.calls.proofs.fresh.Reads as fresh-reads
+use Rattle.images.proofs.load_image.Reads as load-image-reads
+use Rattle.images.proofs.standard_settings.Reads as standard-settings-reads
 
-read-image-requires : tie.Need-read-image-requires
-read-image-requires c κs = search needs
+load-image-requires : tie.Need-load-image-requires
+load-image-requires c κs = search needs
 
-well-formed-requires : tie.Need-well-formed-requires
-well-formed-requires c κs = search needs
+standard-settings-requires : tie.Need-standard-settings-requires
+standard-settings-requires c κs = search needs
 
-refused-requires : tie.Need-refused-requires
-refused-requires c κs = search needs
+fresh-requires : tie.Need-fresh-requires
+fresh-requires c κs = search needs
 
 returns : tie.Need-returns
 returns c =
-    let x = c .before .before .before .before .before .before .before .args .bytes .now in
-    let r = c .before .before .before .before .before .read-image in
-    let w = c .before .before .before .well-formed in
-    c .refused .ensures ∙ load-12 x (r .result) (w .result) (r .ensures) (w .ensures) (c .before .if1 .taken)
+    let x = c .before .before .before .before .before .args .bytes .now in
+    c .fresh .ensures ∙ ap freshAnswer (c .before .standard-settings .ensures) ∙ load-empty x (omega (arith, c .before .before .if1 .taken))
 
 returns-2 : tie.Need-returns-2
 returns-2 c =
-    let x = c .before .before .before .before .before .before .args .bytes .now in
-    let r = c .before .before .before .before .read-image in
-    let w = c .before .before .well-formed in
-    load-other x (r .result) (w .result) (r .ensures) (w .ensures) (c .if1 .left)
+    let x = c .before .before .before .args .bytes .now in
+    c .before .load-image .ensures ∙ sym (load-some x (omega (arith, c .if1 .left)))
 
 pub load-spec : {M : Type 1} → statement M
 load-spec =
     tie.close
-    (tie.spec read-image-requires well-formed-requires refused-requires returns returns-2)
+    (tie.spec
+    load-image-requires
+    standard-settings-requires
+    fresh-requires
+    returns
+    returns-2)
