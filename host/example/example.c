@@ -1,5 +1,6 @@
 /* Two tiles in a line: fill on tile 0, hopper on tile 1. */
 
+#include <stdbool.h>
 #include <stdio.h>
 #include <string.h>
 
@@ -49,11 +50,22 @@ static ceromby_floor stop(ceromby_floor floor) {
     return floor;
 }
 
+/* Writes an image and says whether there is one. A refused write has the length 0, and zero bytes load the standard
+   floor: to store `length` bytes without this test is to lose the floor. */
+static bool written_to(ceromby_floor floor, uint8_t *buffer, size_t size, ceromby_written *written) {
+    *written = ceromby_write(floor, buffer, size);
+    printf("write to %lu bytes: %u, length %lu\n", (unsigned long)size, written->refusal,
+           (unsigned long)written->length);
+    return written->refusal == CEROMBY_ACCEPTED;
+}
+
 static void store(ceromby_floor floor) {
     static uint8_t image[CEROMBY_LONGEST_IMAGE], again[CEROMBY_LONGEST_IMAGE];
-    ceromby_written written = ceromby_write(floor, image, sizeof image);
-    printf("write: %u, %lu bytes\n", written.refusal, (unsigned long)written.length);
-    printf("write to 63 bytes: %u\n", ceromby_write(floor, image, 63).refusal);
+    ceromby_written written;
+    if (!written_to(floor, image, 63, &written))
+        printf("  no image to store\n");
+    if (!written_to(floor, image, sizeof image, &written))
+        return;
     ceromby_answer answer = ceromby_load(image, written.length);
     printf("load: %u, counters %lu %lu %lu\n", answer.refusal,
            (unsigned long)answer.floor.counters.last,
@@ -61,10 +73,33 @@ static void store(ceromby_floor floor) {
            (unsigned long)answer.floor.counters.delivered[0]);
     show("loaded", answer.floor);
     printf("load without the last byte: %u\n", ceromby_load(image, written.length - 1).refusal);
-    printf("load nothing: %u\n", ceromby_load(image, 0).refusal);
-    written = ceromby_write(answer.floor, again, sizeof again);
-    printf("written again: %s\n",
-           memcmp(image, again, written.length) == 0 ? "the same bytes" : "other bytes");
+    printf("load one byte: %u\n", ceromby_load(image, 1).refusal);
+    ceromby_written second;
+    if (!written_to(answer.floor, again, sizeof again, &second))
+        return;
+    bool same = second.length == written.length && memcmp(image, again, second.length) == 0;
+    printf("written again: %s\n", same ? "the same bytes" : "other bytes");
+}
+
+static void tiles(uint64_t set) {
+    for (unsigned tile = 0; tile < CEROMBY_MAX_TILES; tile++)
+        if (set & CEROMBY_TILE(tile))
+            printf(" %u", tile);
+}
+
+/* A new controller has an empty file: zero bytes load the standard floor, fresh. */
+static void wake_up(void) {
+    static uint8_t image[CEROMBY_LONGEST_IMAGE];
+    ceromby_answer answer = ceromby_load(image, 0);
+    ceromby_settings settings = answer.floor.settings;
+    printf("load zero bytes: %u, W %u, H %u, hopper", answer.refusal, settings.columns, settings.rows);
+    tiles(settings.hoppers);
+    printf(", fill tile");
+    tiles(settings.sources);
+    printf(", U %u, l %u, r %u, v %u\n", settings.width, settings.length, settings.gap, settings.travel);
+    ceromby_written written;
+    if (written_to(answer.floor, image, sizeof image, &written))
+        show("loaded again", ceromby_load(image, written.length).floor);
 }
 
 static void list(const char *what, ceromby_answer answer) {
@@ -74,9 +109,7 @@ static void list(const char *what, ceromby_answer answer) {
         printf(" ");
         for (unsigned at = 0; at < 8 && CEROMBY_LETTER(layout, at); at++)
             printf("%c", CEROMBY_LETTER(layout, at));
-        for (unsigned tile = 0; tile < 2; tile++)
-            if (layout.set & CEROMBY_TILE(tile))
-                printf(" %u", tile);
+        tiles(layout.set);
     }
     printf("\n");
 }
@@ -95,8 +128,9 @@ static void clean_nets(ceromby_floor floor) {
     list("recall NETS", answer);
     show("  after", answer.floor);
     static uint8_t image[CEROMBY_LONGEST_IMAGE];
-    ceromby_written written = ceromby_write(answer.floor, image, sizeof image);
-    list("load", ceromby_load(image, written.length));
+    ceromby_written written;
+    if (written_to(answer.floor, image, sizeof image, &written))
+        list("load", ceromby_load(image, written.length));
     list("forget ALL", ceromby_forget(answer.floor, all));
     printf("keep nets: %u\n", ceromby_keep(floor, small).refusal);
     printf("recall NETS before it was kept: %u\n", ceromby_recall(floor, nets).refusal);
@@ -139,5 +173,6 @@ int main(void) {
     store(stop(deliver(answer.floor)));
     stand(settings);
     clean_nets(ceromby_fresh(settings).floor);
+    wake_up();
     return 0;
 }

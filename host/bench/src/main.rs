@@ -65,15 +65,18 @@ fn measure(
 /// One row: the same call of both, with the library's answer.
 macro_rules! row {
     ($name:expr, $call:expr, $ours:expr, $theirs:expr) => {
+        row!($name, $call, $ours.refusal, $ours, $theirs)
+    };
+    ($name:expr, $call:expr, $answer:expr, $ours:expr, $theirs:expr) => {
         measure(
             $name,
             $call,
-            $ours.refusal,
+            $answer,
             &mut || {
-                black_box($ours);
+                let _ = black_box($ours);
             },
             &mut || {
-                black_box($theirs);
+                let _ = black_box($theirs);
             },
         )
     };
@@ -89,7 +92,9 @@ fn timed_calls(pair: &Pair) {
     let place = ceromby::Canister { number, a, b };
     let same = oracle::Canister { number, a, b };
     let mut image = vec![0; ceromby::LONGEST_IMAGE];
-    let length = oracle::write(theirs, &mut image).length as usize;
+    let written = oracle::write(theirs, &mut image);
+    assert_eq!(written.refusal, 0);
+    let length = written.length as usize;
     image.truncate(length);
     let (mut buffer, mut other) = (vec![0; length], vec![0; length]);
     let (ours, theirs, image) = (black_box(ours), black_box(theirs), black_box(&image));
@@ -115,6 +120,7 @@ fn timed_calls(pair: &Pair) {
     row!(
         name,
         "write",
+        ceromby::write(ours, &mut buffer).err().unwrap_or(0),
         ceromby::write(ours, &mut buffer),
         oracle::write(theirs, &mut other)
     );

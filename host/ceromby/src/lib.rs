@@ -89,14 +89,40 @@ pub fn read(floor: &Floor, tile: u32) -> Reading {
     unsafe { raw::ceromby_read(*floor, tile) }
 }
 
-/// The floor of an image.
+/// The floor of an image. Zero bytes, as in the file of a new controller, load
+/// the standard floor, fresh.
 pub fn load(bytes: &[u8]) -> Answer {
     // SAFETY: the pointer and length are those of a slice that outlives the call.
     unsafe { raw::ceromby_load(bytes.as_ptr(), bytes.len()) }
 }
 
-/// Writes an image and leaves the bytes after it.
-pub fn write(floor: &Floor, buffer: &mut [u8]) -> Written {
+/// Writes an image and leaves the bytes after it. Gives the image's length,
+/// which is never 0, or the number of the refusal.
+///
+/// In C a refused write answers the length 0. A program that stored 0 bytes
+/// then would leave an empty file, and that loads as the standard floor: no
+/// refusal says that canisters, counters, layouts and settings are gone. So
+/// the length comes with an accepted write only; don't make a 0 of a refusal.
+pub fn write(floor: &Floor, buffer: &mut [u8]) -> Result<usize, u8> {
+    match written(floor, buffer) {
+        Written { refusal: 0, length } => Ok(length as usize),
+        Written { refusal, .. } => Err(refusal),
+    }
+}
+
+/// The answer of a write as C gets it.
+fn written(floor: &Floor, buffer: &mut [u8]) -> Written {
     // SAFETY: as in `load`; the borrow is exclusive.
     unsafe { raw::ceromby_write(*floor, buffer.as_mut_ptr(), buffer.len()) }
+}
+
+/// For the comparison runs: the answer of a write with the length that stands
+/// beside a refusal too. Use [`write`] in its place.
+#[cfg(feature = "as-in-c")]
+pub mod as_in_c {
+    use crate::{Floor, Written};
+
+    pub fn write(floor: &Floor, buffer: &mut [u8]) -> Written {
+        crate::written(floor, buffer)
+    }
 }

@@ -194,9 +194,13 @@ pub struct Reading {
     pub members: [Canister; PLACES],
 }
 
+/// The answer of a write as C gets it; `write` doesn't give the length of a
+/// refused one.
 #[repr(C)]
 #[derive(Clone, Copy, PartialEq, Eq, Debug)]
 pub struct Written {
     pub refusal: u8,
+    /// 0 beside a refusal. Zero bytes are an image too, that of the standard
+    /// floor, so look at the refusal first.
     pub length: u32,
 }

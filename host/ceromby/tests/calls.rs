@@ -59,7 +59,7 @@ fn two_hoppers() {
     assert_eq!(rounded.floor.counters.delivered, [1, 1, 0, 0]);
     assert_eq!(stop(&floor, 3).refusal, 8);
     let mut buffer = [0; 96];
-    assert_eq!(write(&rounded.floor, &mut buffer).length, 96);
+    assert_eq!(write(&rounded.floor, &mut buffer), Ok(96));
     assert_eq!(load(&buffer).floor, rounded.floor);
 }
 
@@ -118,7 +118,7 @@ fn layouts() {
         (0, expected)
     );
     let mut buffer = [0; 104];
-    assert_eq!(write(&nets.floor, &mut buffer).length, 104);
+    assert_eq!(write(&nets.floor, &mut buffer), Ok(104));
     assert_eq!(load(&buffer).floor, nets.floor);
 }
 
@@ -159,11 +159,44 @@ fn sets_of_one_tile() {
 fn images() {
     let floor = fresh(SETTINGS).floor;
     let mut buffer = [0x5a; 70];
-    let written = write(&floor, &mut buffer);
-    assert_eq!((written.refusal, written.length), (0, 64));
+    assert_eq!(write(&floor, &mut buffer), Ok(64));
     assert_eq!(buffer[64..], [0x5a; 6]);
     let loaded = load(&buffer[..64]);
     assert_eq!((loaded.refusal, loaded.floor), (0, floor));
-    assert_eq!(load(&[]).refusal, 9);
-    assert_eq!(write(&floor, &mut []).refusal, 13);
+    for length in 1..64 {
+        assert_eq!(load(&buffer[..length]).refusal, 9);
+    }
+}
+
+/// A refusal has no length, so nothing that could be stored as an image.
+#[test]
+fn refused_writes() {
+    let floor = fresh(SETTINGS).floor;
+    let mut buffer = [0x5a; 64];
+    for size in 0..64 {
+        assert_eq!(write(&floor, &mut buffer[..size]), Err(13));
+    }
+    let mut malformed = floor;
+    malformed.tiles[0].running = 2;
+    assert_eq!(write(&malformed, &mut buffer), Err(30));
+    assert_eq!(buffer, [0x5a; 64]);
+}
+
+#[test]
+fn a_blank_controller() {
+    let settings = Settings {
+        columns: 4,
+        rows: 4,
+        hoppers: tile(10),
+        sources: tile(4),
+        width: 1_000,
+        length: 250,
+        gap: 50,
+        travel: 200,
+    };
+    let blank = load(&[]);
+    assert_eq!((blank.refusal, blank.floor), (0, fresh(settings).floor));
+    let mut buffer = [0; 204];
+    assert_eq!(write(&blank.floor, &mut buffer), Ok(204));
+    assert_eq!(load(&buffer).floor, blank.floor);
 }

@@ -137,6 +137,16 @@ impl Outcome {
         }
     }
 
+    /// The image that was written; none if that was refused.
+    pub fn image(&self) -> Option<&[u8]> {
+        match self {
+            Outcome::Written(answer, buffer) if answer.refusal == 0 => {
+                buffer.get(..answer.length as usize)
+            }
+            _ => None,
+        }
+    }
+
     /// A round's report, zeros for other calls.
     pub fn report(&self) -> Report {
         match self {
@@ -173,6 +183,20 @@ fn loaded(bytes: &[u8]) -> ceromby::Answer {
     answer
 }
 
+/// A write as C gets it, so that the length beside a refusal is compared too.
+/// The binding's own answer must be the same, without that length.
+fn written(floor: &ceromby::Floor, size: usize) -> (ceromby::Written, Vec<u8>) {
+    let (mut buffer, mut other) = (blank(size), blank(size));
+    let answer = ceromby::as_in_c::write(floor, &mut buffer);
+    let due = match answer.refusal {
+        0 => Ok(answer.length as usize),
+        refusal => Err(refusal),
+    };
+    let same = ceromby::write(floor, &mut other) == due && buffer == other;
+    assert!(same, "the binding gives another answer to a write");
+    (answer, buffer)
+}
+
 fn by_library(floor: &Floor, call: &Call) -> Outcome {
     let theirs = || convert::to_floor(floor);
     let answer = match call {
@@ -189,8 +213,7 @@ fn by_library(floor: &Floor, call: &Call) -> Outcome {
             return Outcome::Reading(convert::from_reading(&ceromby::read(&theirs(), *tile)));
         }
         Call::Write { size } => {
-            let mut buffer = blank(*size);
-            let answer = ceromby::write(&theirs(), &mut buffer);
+            let (answer, buffer) = written(&theirs(), *size);
             return Outcome::Written(convert::from_written(&answer), buffer);
         }
         Call::Load { bytes } => loaded(bytes),
@@ -312,7 +335,8 @@ fn keeps_all(floor: &Floor, call: &Call, outcome: &Outcome) -> bool {
     }
 }
 
-/// Reading gives what the memory holds; writing leaves the bytes after the image.
+/// Reading gives what the memory holds; writing leaves the bytes after the
+/// image, which is never empty.
 fn leaves_rest(floor: &Floor, call: &Call, outcome: &Outcome) -> bool {
     match (outcome, call) {
         (Outcome::Reading(answer), Call::Read { tile }) => {
@@ -323,7 +347,8 @@ fn leaves_rest(floor: &Floor, call: &Call, outcome: &Outcome) -> bool {
         }
         (Outcome::Written(answer, buffer), _) => {
             let length = answer.length as usize;
-            buffer.get(length..) == blank(buffer.len()).get(length..)
+            (1..=buffer.len()).contains(&length)
+                && buffer.get(length..) == blank(buffer.len()).get(length..)
         }
         _ => true,
     }

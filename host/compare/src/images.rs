@@ -70,13 +70,15 @@ fn damage_once(rng: &mut Rng, bytes: &mut Vec<u8>) {
     }
 }
 
+/// At times to nothing, or to less than the head of a record.
 fn cut(rng: &mut Rng, bytes: &mut Vec<u8>) {
-    let length = match rng.below(4) {
+    let length = match rng.below(5) {
         0 => bytes.len().saturating_sub(rng.range(1, 5) as usize),
         1 => {
             let borders = borders(bytes);
             rng.pick(&borders) + rng.below(6) as usize
         }
+        2 => rng.below(4) as usize,
         _ => rng.below(bytes.len() as u64 + 1) as usize,
     };
     bytes.truncate(length);

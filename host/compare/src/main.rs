@@ -1,6 +1,7 @@
 //! Long random runs of the library against the second implementation.
 
 mod arrows;
+mod blank;
 mod call;
 mod convert;
 mod exchange;
@@ -65,6 +66,7 @@ fn requests(plan: Plan, tally: &mut Tally) -> Result<(), Found> {
         single::ties(&mut rng, tally).map_err(found("a list about ties"))?;
         single::several(&mut rng, tally).map_err(found("several hoppers"))?;
         single::layouts(&mut rng, tally).map_err(found("a list about layouts"))?;
+        single::blank(&mut rng, tally).map_err(found("a blank controller"))?;
     }
     Ok(())
 }
@@ -124,7 +126,7 @@ fn ordinary(plan: Plan) -> ExitCode {
     }
     let rest = match missing.len() {
         0 => String::new(),
-        count => format!(", but {count} of the above never occurred"),
+        count => format!(", but {count} of the above are missing"),
     };
     println!(
         "no difference{rest}; seed {}, {:.1} s",

@@ -9,12 +9,13 @@ use oracle::{
 use crate::call::Call;
 use crate::{images, layouts};
 
-/// The image of a floor; empty for a malformed one.
-pub fn image(floor: &Floor) -> Vec<u8> {
+/// The image of a floor. None for a malformed one: the length 0 of its refused
+/// write is no empty image.
+pub fn image(floor: &Floor) -> Option<Vec<u8>> {
     let mut buffer = vec![0; LONGEST_IMAGE + 1];
     let answer = oracle::write(floor, &mut buffer);
     buffer.truncate(answer.length as usize);
-    buffer
+    (answer.refusal == 0).then_some(buffer)
 }
 
 /// Any call with any arguments, at times several of them wrong.
@@ -87,8 +88,15 @@ fn coordinate(rng: &mut Rng, floor: &Floor, tile: u32, of: impl Fn(&Canister) ->
 
 /// A write to a buffer of some size near the image's.
 pub fn writing(rng: &mut Rng, floor: &Floor) -> Call {
-    let length = image(floor).len();
-    let size = match rng.below(8) {
+    Call::Write {
+        size: buffer_size(rng, floor),
+    }
+}
+
+/// The size of a buffer, near that of the floor's image.
+pub fn buffer_size(rng: &mut Rng, floor: &Floor) -> usize {
+    let length = image(floor).map_or(0, |image| image.len());
+    match rng.below(8) {
         0 => 0,
         1 => length.saturating_sub(1),
         2 => rng.below(length as u64 + 1) as usize,
@@ -96,13 +104,17 @@ pub fn writing(rng: &mut Rng, floor: &Floor) -> Call {
         5 => length + 1,
         6 => length + rng.below(40) as usize,
         _ => LONGEST_IMAGE,
-    };
-    Call::Write { size }
+    }
 }
 
-/// A load of the floor's image, good or damaged.
+/// A load of the floor's image, good or damaged. For a floor without one the
+/// write that is refused.
 pub fn loading(rng: &mut Rng, floor: &Floor) -> Call {
-    let mut bytes = image(floor);
+    let Some(mut bytes) = image(floor) else {
+        return Call::Write {
+            size: LONGEST_IMAGE,
+        };
+    };
     if rng.chance(1, 2) {
         images::damage(rng, &mut bytes);
     }

@@ -3,8 +3,9 @@
 pub mod single;
 
 use oracle::random::{self, Rng};
-use oracle::{Canister, Floor, Settings};
+use oracle::{Canister, Floor, Settings, LONGEST_IMAGE};
 
+use crate::blank;
 use crate::call::{both, Call, Outcome, Trouble};
 use crate::exchange;
 use crate::first::First;
@@ -85,6 +86,7 @@ impl<'a> Run<'a> {
             return Err(Trouble::promise("known damage", text));
         }
         if let Call::Load { bytes } = call {
+            blank::check(bytes, outcome)?;
             judge_load(bytes, refusal)?;
             layout_images::check(bytes, outcome)?;
         }
@@ -140,6 +142,23 @@ impl<'a> Run<'a> {
         match self.case.sound {
             true => self.record.check(&self.floor),
             false => Ok(()),
+        }
+    }
+
+    /// Writes the floor and loads what was written, which gives it again. False
+    /// if the write is refused: then nothing was written and nothing is loaded.
+    fn store(&mut self, size: usize) -> Result<bool, Trouble> {
+        let floor = self.floor;
+        let written = self.make(Call::Write { size })?;
+        let Some(bytes) = written.image().map(<[u8]>::to_vec) else {
+            return Ok(false);
+        };
+        match self.make(Call::Load { bytes })?.refusal() == 0 && self.floor == floor {
+            true => Ok(true),
+            false => {
+                let text = "what was written loads as another floor".into();
+                Err(Trouble::promise("round trip", text))
+            }
         }
     }
 }
@@ -340,7 +359,7 @@ pub fn damaged(rng: &mut Rng, tally: &mut Tally) -> Result<(), Box<Failure>> {
             Call::Round,
             Call::Read { tile },
             Call::Write {
-                size: rng.pick(&[0, 64, oracle::LONGEST_IMAGE]),
+                size: rng.pick(&[0, 64, LONGEST_IMAGE]),
             },
             Call::Keep { name: name.clone() },
             Call::Forget { name: name.clone() },
@@ -355,9 +374,12 @@ pub fn damaged(rng: &mut Rng, tally: &mut Tally) -> Result<(), Box<Failure>> {
     })
 }
 
-/// An image, good or damaged; if it loads, it is written again.
+/// An image, good or damaged; if it loads, it is written again. That gives the
+/// same bytes, unless there were none: those of the standard floor then.
 pub fn image(rng: &mut Rng, floor: &Floor, tally: &mut Tally) -> Result<(), Box<Failure>> {
-    let good = makers::image(floor);
+    let Some(good) = makers::image(floor) else {
+        return refused_write(floor, tally);
+    };
     let mut bytes = good.clone();
     if rng.chance(9, 10) {
         crate::images::damage(rng, &mut bytes);
@@ -375,13 +397,26 @@ pub fn image(rng: &mut Rng, floor: &Floor, tally: &mut Tally) -> Result<(), Box<
             return Ok(());
         }
         let size = bytes.len();
-        match run.make(Call::Write { size })? {
-            Outcome::Written(_, again) if again == bytes => Ok(()),
-            _ => Err(Trouble::promise("round trip", "other bytes again".into())),
+        let again = run.make(Call::Write { size })?;
+        let fits = match bytes.is_empty() {
+            true => again.refusal() == 13 && run.store(LONGEST_IMAGE)?,
+            false => again.image() == Some(&bytes),
+        };
+        match fits {
+            true => Ok(()),
+            false => Err(Trouble::promise("round trip", "other bytes again".into())),
         }
     });
     if made.is_ok() {
         tally.calls = calls;
     }
     made
+}
+
+/// A well-formed floor without an image: trouble.
+fn refused_write(floor: &Floor, tally: &mut Tally) -> Result<(), Box<Failure>> {
+    finish(begin(*floor, true, None), tally, |run| {
+        let size = LONGEST_IMAGE;
+        run.make(Call::Write { size }).map(drop)
+    })
 }

@@ -198,8 +198,8 @@ impl Change {
 
 /// A changed case whose buffers follow the length of the image.
 fn resize_buffers(before: &Case, after: &Case) -> Option<Case> {
-    let old = makers::image(&before.first).len();
-    let new = makers::image(&after.first).len();
+    let old = makers::image(&before.first)?.len();
+    let new = makers::image(&after.first)?.len();
     let mut case = after.clone();
     let mut resized = false;
     for call in &mut case.calls {

@@ -5,7 +5,7 @@ use std::fmt::Display;
 use oracle::{Floor, Grid, RoundAnswer, Side};
 
 use crate::call::{Call, Outcome, NAMES};
-use crate::{arrows, exchange, hoppers, layouts, reasons, waits};
+use crate::{arrows, blank, exchange, hoppers, layouts, reasons, waits};
 
 /// The answers that each call can give, in the order of `NAMES`.
 const ANSWERS: [&[u8]; 11] = [
@@ -36,6 +36,7 @@ pub struct Tally {
     pub hoppers: hoppers::Counts,
     reasons: reasons::Counts,
     pub layouts: layouts::Counts,
+    blank: blank::Counts,
     pub settled: u64,
     /// Arrows kept and lists held to the bound in the runs for single requests.
     tied: [u64; 2],
@@ -66,6 +67,7 @@ impl Tally {
         self.hoppers.add(&further.hoppers);
         self.reasons.add(&further.reasons);
         self.layouts.add(&further.layouts);
+        self.blank.add(&further.blank);
         self.settled += further.settled;
         self.tied = [further.kept, further.drained];
         self.closest = self.closest.max(further.closest);
@@ -77,6 +79,7 @@ impl Tally {
         if let Call::Load { bytes } = call {
             self.hoppers.note_image(bytes, outcome.refusal());
             self.layouts.images.note(bytes, outcome.refusal());
+            self.blank.note_load(bytes);
         }
         self.layouts.note(before, call, outcome.refusal());
         match (outcome, call) {
@@ -96,6 +99,7 @@ impl Tally {
         self.hoppers.note_report(&answer.report);
         self.reasons.note(before, answer);
         self.layouts.note_round(before);
+        self.blank.note_round(before, &answer.report);
         for delivery in &answer.report.deliveries {
             self.deliveries[usize::from(delivery.count).min(4)] += 1;
         }
@@ -124,7 +128,7 @@ impl Tally {
         }
     }
 
-    /// Prints the counts and gives those that are 0.
+    /// Prints the counts and gives those that are 0, or less than is required.
     pub fn print(&self) -> Vec<String> {
         let mut missing = Vec::new();
         for ((name, answers), counts) in NAMES.iter().zip(ANSWERS).zip(&self.answers) {
@@ -147,6 +151,12 @@ impl Tally {
             println!("{name}: {count}");
             if count == 0 {
                 missing.push(format!("{name}: never"));
+            }
+        }
+        for (name, count, least) in self.blank.events() {
+            println!("{name}: {count}");
+            if count < least {
+                missing.push(format!("{name}: {count}, {least} are required"));
             }
         }
         println!("rounds used of the bound, at most: {:.3}", self.closest);

@@ -92,6 +92,9 @@ faults! {
     LayoutBeyond "layout-beyond" "a layout may have a bit for no tile"
     NinthRecord "ninth-record" "a ninth record of kind 5 is passed over"
     ZeroRecord "zero-record" "a record of kind 5 may be all zero"
+    EmptyRefused "empty-refused" "an empty image is still 9"
+    OneByteLoads "one-byte-loads" "one byte loads the standard floor too"
+    StandardExchanged "standard-exchanged" "the standard floor has hopper 4 and fill tile 10"
 }
 
 #[cfg(feature = "faults")]

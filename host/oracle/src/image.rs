@@ -2,6 +2,7 @@
 
 use core::mem::take;
 
+use crate::calls::fresh;
 use crate::check::{settings_refusal, well_formed};
 use crate::faults::{self, Fault};
 use crate::refusal;
@@ -28,6 +29,18 @@ const DELIVERED_BODY: usize = 4;
 const TILE_BODY: usize = 6;
 const CANISTER_BODY: usize = 8;
 const LAYOUT_BODY: usize = 16;
+
+/// The settings of the floor that zero bytes load.
+pub const STANDARD: Settings = Settings {
+    columns: 4,
+    rows: 4,
+    hoppers: 1 << 10,
+    sources: 1 << 4,
+    width: 1_000,
+    length: 250,
+    gap: 50,
+    travel: 200,
+};
 
 pub fn write(floor: &Floor, buffer: &mut [u8]) -> WriteAnswer {
     if !well_formed(floor) {
@@ -155,7 +168,32 @@ impl Writer<'_> {
     }
 }
 
+/// Zero bytes load the standard floor, fresh.
 pub fn load(bytes: &[u8]) -> Answer {
+    match is_blank(bytes) {
+        true => fresh(standard()),
+        false => load_records(bytes),
+    }
+}
+
+/// Whether the image is that of a new controller: zero bytes.
+fn is_blank(bytes: &[u8]) -> bool {
+    let most = usize::from(faults::on(Fault::OneByteLoads));
+    bytes.len() <= most && !faults::on(Fault::EmptyRefused)
+}
+
+fn standard() -> Settings {
+    match faults::on(Fault::StandardExchanged) {
+        true => Settings {
+            hoppers: STANDARD.sources,
+            sources: STANDARD.hoppers,
+            ..STANDARD
+        },
+        false => STANDARD,
+    }
+}
+
+fn load_records(bytes: &[u8]) -> Answer {
     let mut floor = Floor::ZERO;
     match load_into(&mut floor, bytes) {
         Ok(()) => Answer::accepted(floor),

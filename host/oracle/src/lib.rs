@@ -23,7 +23,7 @@ mod types;
 pub use calls::{book, fresh, read, repair, stop};
 pub use check::{settings_refusal, well_formed};
 pub use grid::{Grid, Side, Spot};
-pub use image::{load, write, LONGEST_IMAGE};
+pub use image::{load, write, LONGEST_IMAGE, STANDARD};
 pub use layouts::{forget, keep, name, recall};
 pub use round::round;
 pub use types::{

@@ -1,11 +1,12 @@
 //! The runs for single requests.
 
 use oracle::random::{self, Rng};
+use oracle::Floor;
 
 use super::{arbitrary_floor, begin, damaged_floor, finish, list_settings, Failure};
 use crate::call::Call;
 use crate::tally::Tally;
-use crate::{arrows, exchange, layouts, makers};
+use crate::{arrows, blank, exchange, layouts, makers};
 
 /// Every pair in either order, on a well-formed floor and on a damaged one.
 pub fn exchange_once(rng: &mut Rng, tally: &mut Tally) -> Result<(), Box<Failure>> {
@@ -134,5 +135,31 @@ pub fn layouts(rng: &mut Rng, tally: &mut Tally) -> Result<(), Box<Failure>> {
         }
         run.check()?;
         run.drain(rng, 400)
+    })
+}
+
+/// A new controller: images of one to three bytes, then zero bytes; a list
+/// from there on, with its floor stored and loaded between the calls.
+pub fn blank(rng: &mut Rng, tally: &mut Tally) -> Result<(), Box<Failure>> {
+    let first = match rng.chance(1, 2) {
+        true => Floor::ZERO,
+        false => random::floor(rng),
+    };
+    finish(begin(first, true, None), tally, |run| {
+        for _ in 0..rng.below(4) {
+            run.make(blank::short_load(rng))?;
+        }
+        run.make(blank::LOAD)?;
+        for _ in 0..rng.below(60) {
+            let floor = run.floor;
+            match rng.below(16) {
+                0 => run.store(makers::buffer_size(rng, &floor)).map(drop)?,
+                1 => run.make(blank::short_load(rng)).map(drop)?,
+                2..=7 => run.make(Call::Round).map(drop)?,
+                _ => run.make(random::call(rng, &floor).into()).map(drop)?,
+            }
+        }
+        run.check()?;
+        run.drain(rng, 1_000)
     })
 }

@@ -1,6 +1,7 @@
 //! Tests against the paper.
 
 mod arrows;
+mod blank;
 mod common;
 mod floors;
 mod full;
