@@ -128,6 +128,15 @@ pub fn load_refusal(bytes: &[u8]) -> u8 {
     answer.refusal
 }
 
+/// The same with some bytes changed.
+pub fn changed_refusal(bytes: &[u8], changes: &[(usize, u8)]) -> u8 {
+    let mut bytes = bytes.to_vec();
+    for (at, byte) in changes {
+        bytes[*at] = *byte;
+    }
+    load_refusal(&bytes)
+}
+
 /// A malformed floor that breaks nothing but its first clause on the hopper.
 pub fn malformed() -> Floor {
     let mut floor = line(3, 2);

@@ -101,11 +101,7 @@ const SET: usize = 24;
 const COUNTERS: usize = 32;
 
 fn changed(changes: &[(usize, u8)]) -> u8 {
-    let mut bytes = image(&two());
-    for (at, byte) in changes {
-        bytes[*at] = *byte;
-    }
-    load_refusal(&bytes)
+    changed_refusal(&image(&two()), changes)
 }
 
 #[test]
@@ -180,11 +176,8 @@ fn five_tiles_are_2() {
 
 #[test]
 fn a_short_record_with_a_hopper_off_the_floor() {
-    let with = |hopper, columns| {
-        let mut bytes = image(&line(3, 2));
-        (bytes[HOPPER], bytes[COLUMNS]) = (hopper, columns);
-        load_refusal(&bytes)
-    };
+    let good = image(&line(3, 2));
+    let with = |hopper, columns| changed_refusal(&good, &[(HOPPER, hopper), (COLUMNS, columns)]);
     for hopper in [3, 63, 64, 130, 255] {
         assert_eq!(with(hopper, 3), 2, "{hopper}");
         assert_eq!(with(hopper, 9), 1, "{hopper}");

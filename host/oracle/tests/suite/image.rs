@@ -123,11 +123,7 @@ fn sample() -> Vec<u8> {
 }
 
 fn changed(changes: &[(usize, u8)]) -> u8 {
-    let mut bytes = sample();
-    for (at, byte) in changes {
-        bytes[*at] = *byte;
-    }
-    load_refusal(&bytes)
+    changed_refusal(&sample(), changes)
 }
 
 #[test]

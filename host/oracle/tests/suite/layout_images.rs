@@ -42,11 +42,7 @@ fn older_images_have_no_layouts() {
 }
 
 fn changed(changes: &[(usize, u8)]) -> u8 {
-    let mut bytes = image(&two());
-    for (at, byte) in changes {
-        bytes[*at] = *byte;
-    }
-    load_refusal(&bytes)
+    changed_refusal(&image(&two()), changes)
 }
 
 #[test]
@@ -175,11 +171,7 @@ fn a_layout_lacks_no_hopper() {
     let good = image(&floor);
     let set = 32 + 20 + 12;
     assert_eq!(good[set], 0b11_1111);
-    let with = |byte| {
-        let mut bytes = good.clone();
-        bytes[set] = byte;
-        load_refusal(&bytes)
-    };
+    let with = |byte| changed_refusal(&good, &[(set, byte)]);
     assert_eq!(with(0b01_0010), 0);
     assert_eq!(with(0b01_0000), 12);
     assert_eq!(with(0b00_0010), 12);
