@@ -213,8 +213,9 @@ ceromby_reading ceromby_read(ceromby_floor floor, uint32_t tile);
    the counters, each in a record of 16 bytes (else 11); a ninth is 10. Older images have none.
 
    Zero bytes, the image file of a new controller, load the standard floor, fresh: W 4, H 4, hopper 10, fill tile 4, U 1,000,
-   l 250, r 50, v 200. So ceromby_load(bytes, 0) gives that floor to a caller that doesn't know the figures. One to three
-   bytes are 9. */
+   l 250, r 50, v 200. So ceromby_load(bytes, 0) gives that floor to a caller that doesn't know the figures (bytes: any
+   array, not NULL). One to three bytes are 9. Load only after a read that succeeded and reached the file's end: one that
+   failed gives 0 bytes too. */
 ceromby_answer ceromby_load(const uint8_t *bytes, size_t length);
 
 /* Writes an image and leaves the bytes after it. Refused by 30, 13.

@@ -88,7 +88,7 @@ static void tiles(uint64_t set) {
 }
 
 /* A new controller has an empty file: zero bytes load the standard floor, fresh. */
-static void wake_up(void) {
+static void start_blank(void) {
     static uint8_t image[CEROMBY_LONGEST_IMAGE];
     ceromby_answer answer = ceromby_load(image, 0);
     ceromby_settings settings = answer.floor.settings;
@@ -173,6 +173,6 @@ int main(void) {
     store(stop(deliver(answer.floor)));
     stand(settings);
     clean_nets(ceromby_fresh(settings).floor);
-    wake_up();
+    start_blank();
     return 0;
 }
