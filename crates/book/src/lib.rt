@@ -1,5 +1,6 @@
 // Book, a call on a floor. It takes any bytes, and its contract determines the whole answer on all of them.
 ghost use mathlib.Core.Path.{_≡_};
+ghost use Rattle.floor.specs.Well.{wellFormed};
 ghost use Rattle.floor.specs.Calls.{bookAnswer};
 use booking::book_refusal;
 use booking::with_booking;
@@ -11,11 +12,11 @@ use floor::Members;
 use members::insert;
 use soundness::well_formed;
 
-// Books a canister on a fill tile. The floor is copied once and changed in place, and has one way out: each further way costs another copy.
-pub fn book(floor: Floor, tile: u32, canister: Canister) -> Answer
+// A booking where it is known already whether the floor is well formed. The floor is copied once and changed in place, and has one way out: each further way costs another copy.
+pub fn book_checked(floor: Floor, tile: u32, canister: Canister, well: bool) -> Answer
+    requires { ⌜ well ≡ wellFormed floor ⌝ }
     ensures { λ r. ⌜ r ≡ bookAnswer floor tile canister ⌝ }
 {
-    let well = well_formed(floor);
     let mut changed = floor;
     let mut number: u8 = 30;
     if well {
@@ -46,4 +47,12 @@ pub fn book(floor: Floor, tile: u32, canister: Canister) -> Answer
         refusal: number,
         floor: changed,
     }
+}
+
+// Books a canister on a fill tile.
+pub fn book(floor: Floor, tile: u32, canister: Canister) -> Answer
+    ensures { λ r. ⌜ r ≡ bookAnswer floor tile canister ⌝ }
+{
+    let well = well_formed(floor);
+    book_checked(floor, tile, canister, well)
 }

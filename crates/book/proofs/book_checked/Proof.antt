@@ -12,15 +12,14 @@ use Rattle.book.proofs.Answers.{malformed, formed, answer-refused, answ
 use Rattle.book.proofs.Tests.{book-fits}
 use Rattle.book.proofs.Booking.{withPlaces, Put, put-none, put-turn, Read, own-few, book-number, book-accepted, book-ready, booked-pack}
 use borrow.Author.Needs.{needs}
-use Rattle.book.proofs.book.Statement.{statement}
-use Rattle.book.proofs.book.Tie as tie
-use Rattle.book.proofs.book.Reads as reads
-use Rattle.book.proofs.book.Lts as lts
+use Rattle.book.proofs.book_checked.Statement.{statement}
+use Rattle.book.proofs.book_checked.Tie as tie
+use Rattle.book.proofs.book_checked.Reads as reads
+use Rattle.book.proofs.book_checked.Lts as lts
 use Rattle.booking.proofs.book_refusal.Reads as book-refusal-reads
 use Rattle.booking.proofs.with_booking.Reads as with-booking-reads
 use Rattle.booking.proofs.with_count.Reads as with-count-reads
 use Rattle.members.proofs.insert.Reads as insert-reads
-use Rattle.soundness.proofs.well_formed.Reads as well-formed-reads
 
 abbrev Inv-loop : tie.InvT-loop
 Inv-loop tile canister well changed number t s counters old items₀ k₀ items k = (k ≤ 16) × Read changed tile k items
@@ -34,9 +33,6 @@ Inv-loop2 tile canister well changed₀ number t counters old more places j₀ c
 abbrev μ-loop2 : tie.MeasureT-loop2
 μ-loop2 tile canister well changed₀ number t counters old more places j₀ changed j = 16 - j
 
-well-formed-requires : tie.Need-well-formed-requires Inv-loop μ-loop Inv-loop2 μ-loop2
-well-formed-requires c κs = search needs
-
 cast-t : tie.Need-cast-t Inv-loop μ-loop Inv-loop2 μ-loop2
 cast-t c = search needs
 
@@ -44,11 +40,11 @@ mul-old : tie.Need-mul-old Inv-loop μ-loop Inv-loop2 μ-loop2
 mul-old c = search needs
 
 element-copy-out-old : tie.Need-element-copy-out-old Inv-loop μ-loop Inv-loop2 μ-loop2
-element-copy-out-old c = let g = c .before .before .before .before .args in
-    omega (arith, tiles-length g.floor _ (c .before .before .before .before .good .0))
+element-copy-out-old c = let g = c .before .before .before .args in
+    omega (arith, tiles-length g.floor _ (c .before .before .before .good .0))
 
 loop-holds : tie.Need-loop-holds Inv-loop μ-loop Inv-loop2 μ-loop2
-loop-holds c = (omega arith, (length-replicate 16 (c .before .before .before .before .before .args .canister), λ i h. absurd (omega arith)))
+loop-holds c = (omega arith, (length-replicate 16 (c .before .before .before .before .args .canister), λ i h. absurd (omega arith)))
 
 mul-items : tie.Need-mul-items Inv-loop μ-loop Inv-loop2 μ-loop2
 mul-items c = search needs
@@ -60,8 +56,8 @@ mul-items-2 : tie.Need-mul-items-2 Inv-loop μ-loop Inv-loop2 μ-loop2
 mul-items-2 c = search needs
 
 element-copy-out-items : tie.Need-element-copy-out-items Inv-loop μ-loop Inv-loop2 μ-loop2
-element-copy-out-items c = let g = c .before .before .before .before .before .before .before .args in
-    omega (arith, canisters-length g.floor _ (c .before .before .before .before .before .before .before .good .0))
+element-copy-out-items c = let g = c .before .before .before .before .before .before .args in
+    omega (arith, canisters-length g.floor _ (c .before .before .before .before .before .before .good .0))
 
 mul-items-3 : tie.Need-mul-items-3 Inv-loop μ-loop Inv-loop2 μ-loop2
 mul-items-3 c = search needs
@@ -76,7 +72,7 @@ loop-less : tie.Need-loop-less Inv-loop μ-loop Inv-loop2 μ-loop2
 loop-less c = search needs
 
 loop-again : tie.Need-loop-again Inv-loop μ-loop Inv-loop2 μ-loop2
-loop-again c = let g = c .before .before .before .before .before .before .before .before .args in
+loop-again c = let g = c .before .before .before .before .before .before .before .args in
     let l = c .before .before .loop in (
       omega arith,
       (
@@ -86,13 +82,13 @@ loop-again c = let g = c .before .before .before .before .before .before .before
     )
 
 book-refusal-requires : tie.Need-book-refusal-requires Inv-loop μ-loop Inv-loop2 μ-loop2
-book-refusal-requires c κs = let g = c .before .before .before .before .before .before .before .args in
-    let w = sym (c .before .before .before .before .before .before .well-formed .ensures) ∙ c .before .before .before .before .before .if1 .taken in
+book-refusal-requires c κs = let g = c .before .before .before .before .before .before .args in
+    let w = sym (c .before .before .before .before .before .before .pre) ∙ c .before .before .before .before .before .if1 .taken in
     (well-few g.floor w, omega (arith, well-measured g.floor w .short), λ on. own-few g.floor g.tile w on)
 
 insert-requires : tie.Need-insert-requires Inv-loop μ-loop Inv-loop2 μ-loop2
-insert-requires c κs = let g = c .before .before .before .before .before .before .before .before .before .args in
-    let w = sym (c .before .before .before .before .before .before .before .before .well-formed .ensures) ∙ c .before .before .before .before .before .before .before .if1 .taken in
+insert-requires c κs = let g = c .before .before .before .before .before .before .before .before .args in
+    let w = sym (c .before .before .before .before .before .before .before .before .pre) ∙ c .before .before .before .before .before .before .before .if1 .taken in
     let l = c .before .before .before .loop in
     let e : l .k ≡ 16 = omega arith in
     let p = rw e at (l .inv .1) in
@@ -101,9 +97,9 @@ insert-requires c κs = let g = c .before .before .before .before .before .befor
     book-ready g.floor g.tile w g.canister (l .items) p h
 
 loop2-holds : tie.Need-loop2-holds Inv-loop μ-loop Inv-loop2 μ-loop2
-loop2-holds c = let g = c .before .before .before .before .before .before .before .before .before .before .before .args in
+loop2-holds c = let g = c .before .before .before .before .before .before .before .before .before .before .args in
     let m = c .before .insert in
-    (omega arith, items-length (m .result) _ (m .ok), put-none (g.tile % 64) (m .result .items) (g.floor .canisters) (canisters-length g.floor _ (c .before .before .before .before .before .before .before .before .before .before .before .good .0)), refl)
+    (omega arith, items-length (m .result) _ (m .ok), put-none (g.tile % 64) (m .result .items) (g.floor .canisters) (canisters-length g.floor _ (c .before .before .before .before .before .before .before .before .before .before .good .0)), refl)
 
 mul-changed : tie.Need-mul-changed Inv-loop μ-loop Inv-loop2 μ-loop2
 mul-changed c = search needs
@@ -131,7 +127,7 @@ loop2-less : tie.Need-loop2-less Inv-loop μ-loop Inv-loop2 μ-loop2
 loop2-less c = search needs
 
 loop2-again : tie.Need-loop2-again Inv-loop μ-loop Inv-loop2 μ-loop2
-loop2-again c = let g = c .before .before .before .before .before .before .before .before .before .before .before .before .before .before .args in
+loop2-again c = let g = c .before .before .before .before .before .before .before .before .before .before .before .before .before .args in
     let l = c .before .before .loop2 in
     let m = c .before .before .before .before .insert in (
       omega arith,
@@ -147,14 +143,14 @@ mul-t46 : tie.Need-mul-t46 Inv-loop μ-loop Inv-loop2 μ-loop2
 mul-t46 c = search needs
 
 element-set-from-changed-2 : tie.Need-element-set-from-changed-2 Inv-loop μ-loop Inv-loop2 μ-loop2
-element-set-from-changed-2 c = let g = c .before .before .before .before .before .before .before .before .before .before .before .before .before .before .args in
+element-set-from-changed-2 c = let g = c .before .before .before .before .before .before .before .before .before .before .before .before .before .args in
     let l = c .before .before .loop2 in
     let t = ap (λ (x : Floor). length (x .tiles)) (l .inv .3) in
-    omega (arith, t, tiles-length g.floor _ (c .before .before .before .before .before .before .before .before .before .before .before .before .before .before .good .0))
+    omega (arith, t, tiles-length g.floor _ (c .before .before .before .before .before .before .before .before .before .before .before .before .before .good .0))
 
 with-booking-requires : tie.Need-with-booking-requires Inv-loop μ-loop Inv-loop2 μ-loop2
-with-booking-requires c κs = let g = c .before .before .before .before .before .before .before .before .before .before .before .before .before .before .args in
-    let w = sym (c .before .before .before .before .before .before .before .before .before .before .before .before .before .well-formed .ensures) ∙ c .before .before .before .before .before .before .before .before .before .before .before .before .if1 .taken in
+with-booking-requires c κs = let g = c .before .before .before .before .before .before .before .before .before .before .before .before .before .args in
+    let w = sym (c .before .before .before .before .before .before .before .before .before .before .before .before .before .pre) ∙ c .before .before .before .before .before .before .before .before .before .before .before .before .if1 .taken in
     let l = c .before .before .before .before .before .before .before .before .loop in
     let e : l .k ≡ 16 = omega arith in
     let p = rw e at (l .inv .1) in
@@ -164,8 +160,8 @@ with-booking-requires c κs = let g = c .before .before .before .before .before 
 
 returns : tie.Need-returns Inv-loop μ-loop Inv-loop2 μ-loop2
 unfolding bookAnswer
-returns c = let g = c .before .before .before .before .before .before .before .before .before .before .before .before .before .before .before .args in
-    let w = sym (c .before .before .before .before .before .before .before .before .before .before .before .before .before .before .well-formed .ensures) ∙ c .before .before .before .before .before .before .before .before .before .before .before .before .before .if1 .taken in
+returns c = let g = c .before .before .before .before .before .before .before .before .before .before .before .before .before .before .args in
+    let w = sym (c .before .before .before .before .before .before .before .before .before .before .before .before .before .before .pre) ∙ c .before .before .before .before .before .before .before .before .before .before .before .before .before .if1 .taken in
     let l = c .before .before .before .before .before .before .before .before .before .loop in
     let e : l .k ≡ 16 = omega arith in
     let p = rw e at (l .inv .1) in
@@ -180,8 +176,8 @@ returns c = let g = c .before .before .before .before .before .before .before .b
 
 returns-2 : tie.Need-returns-2 Inv-loop μ-loop Inv-loop2 μ-loop2
 unfolding bookAnswer
-returns-2 c = let g = c .before .before .before .before .before .before .before .before .before .args in
-    let w = sym (c .before .before .before .before .before .before .before .before .well-formed .ensures) ∙ c .before .before .before .before .before .before .before .if1 .taken in
+returns-2 c = let g = c .before .before .before .before .before .before .before .before .args in
+    let w = sym (c .before .before .before .before .before .before .before .before .pre) ∙ c .before .before .before .before .before .before .before .if1 .taken in
     let l = c .before .before .before .loop in
     let e : l .k ≡ 16 = omega arith in
     let p = rw e at (l .inv .1) in
@@ -190,19 +186,18 @@ returns-2 c = let g = c .before .before .before .before .before .before .before 
 
 returns-3 : tie.Need-returns-3 Inv-loop μ-loop Inv-loop2 μ-loop2
 unfolding bookAnswer
-returns-3 c = let g = c .before .before .args in
-    let w = sym (c .before .well-formed .ensures) ∙ c .if1 .left in
+returns-3 c = let g = c .before .args in
+    let w = sym (c .before .pre) ∙ c .if1 .left in
     answer-refused g.floor (bookTests (view g.floor) g.tile g.canister) (booked (view g.floor) g.tile g.canister) 30 (malformed g.floor (bookTests (view g.floor) g.tile g.canister) w) (omega arith)
 
-pub book-spec : {M : Type 1} → statement M
-book-spec =
+pub book-checked-spec : {M : Type 1} → statement M
+book-checked-spec =
     tie.close
     (tie.spec
     Inv-loop
     μ-loop
     Inv-loop2
     μ-loop2
-    well-formed-requires
     cast-t
     mul-old
     element-copy-out-old
