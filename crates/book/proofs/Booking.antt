@@ -9,7 +9,7 @@ use native.Mathlib.Decide.{ℕ-discrete}
 use lib.ListN.{length, getD, set, take, length-set}
 use lib.Seq.{getD-set-same, getD-set-other}
 use Rattle.laws.specs.Define.{refusal}
-use Rattle.laws.specs.Tables.{Upto}
+use Rattle.laws.specs.Filled.{Upto}
 use Rattle.floor.specs.declared.Canister.{Canister}
 use Rattle.floor.specs.declared.Counters.{Counters}
 use Rattle.floor.specs.declared.Tile.{Tile}
@@ -17,16 +17,14 @@ use Rattle.floor.specs.declared.Floor.{Floor}
 use Rattle.floor.specs.declared.Members.{Members}
 use Rattle.floor.specs.Settings.{total}
 use Rattle.floor.specs.Model.{TileState, tileOf, membersOf, withMembers}
-use Rattle.floor.specs.Memory.{zeroCanister, headOf, view, head, pack, refilled}
+use Rattle.floor.specs.Memory.{zeroCanister, headOf, view, head, pack, withCount, refilled}
 use Rattle.floor.specs.Well.{wellFormed}
 use Rattle.floor.specs.Move.{insert}
-use Rattle.floor.specs.Calls.{bookTests, booked}
-use Rattle.floor.proofs.Pack.{pack-put, well-sound, well-fits, well-few}
+use Rattle.floor.specs.Calls.{bookingTests, bookTests, withBooking, booked}
+use Rattle.floor.proofs.Pack.{pack-put, well-sound, well-fits, well-few, below-64, head-view, place-view}
 use Rattle.floor.proofs.Capacity.{sound-small}
 use Rattle.members.specs.Held.{Places, Holds}
 use Rattle.members.proofs.Laws.{holds-list}
-use Rattle.booking.specs.Booking.{bookingTests, withCount, withBooking}
-use Rattle.changes.proofs.Laws.{below-64, head-view, place-view}
 use Rattle.book.proofs.Tests.{book-same, book-on, book-room}
 
 -- ---- the loop that writes sixteen places
@@ -126,7 +124,7 @@ module _ (f : Floor) (t : ℕ) (w : wellFormed f ≡ true) where
           ∙ ap (λ (x : Tile). floor (set (f .tiles) (t % 64) x)) eh
           ∙ ap (λ (j : ℕ). floor (set (f .tiles) j (withCount read-head (more .count)))) (same-tile on)
           ∙ ap (λ (x : Tile). floor (set (f .tiles) t (withCount x (more .count)))) (own-head on)
-          ∙ ap (λ (n : ℕ). floor (set (f .tiles) t (record { running = old .running; distance = old .distance; next = record { code = old .next }; token = record { code = old .token }; count = n }))) (q .0)
+          ∙ ap (λ (n : ℕ). floor (set (f .tiles) t (withCount (head old) n))) (q .0)
           ∙ pack-put f (well-few f w) (well-fits f w) anew t (withMembers old (insert c (old .members))) (now .canisters) on (put .0)
           (λ i k j. put .1 .0 i k (j ∙ sym (same-tile on)) (omega arith) ∙ q .1 (i % 16) (omega arith)) (λ i k j. put .1 .1 i k (λ e. j (e ∙ same-tile on)))
         where

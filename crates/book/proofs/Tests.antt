@@ -9,19 +9,18 @@ use lib.ListN.{length}
 use borrow.Author.Tests.{le-leb, leb-false, not-false}
 use Rattle.laws.specs.Define.{allOf, refusal}
 use Rattle.laws.specs.Every.{All}
-use Rattle.laws.specs.Tests.{refusal-none}
+use Rattle.laws.proofs.Tests.{refusal-none}
 use Rattle.floor.specs.declared.Canister.{Canister}
 use Rattle.floor.specs.declared.Floor.{Floor}
 use Rattle.floor.specs.Settings.{total, spacing}
 use Rattle.floor.specs.Model.{tileOf, membersOf}
 use Rattle.floor.specs.Memory.{view}
 use Rattle.floor.specs.Well.{apart, wellFormed}
-use Rattle.floor.specs.Calls.{bookTests}
+use Rattle.floor.specs.Calls.{bookingTests, bookTests}
 use Rattle.floor.proofs.Sound.{Inside}
 use Rattle.floor.proofs.Well.{inside-fact}
 use Rattle.floor.proofs.Pack.{well-sound}
 use Rattle.floor.proofs.Capacity.{full-refused, sound-small}
-use Rattle.booking.specs.Booking.{bookingTests}
 
 module _ (f : Floor) (t : ℕ) (c : Canister) where
   -- they are the floor's tests, where the tile has what the code read

@@ -11,7 +11,7 @@ use Rattle.floor.specs.declared.Canister.{Canister}
 use Rattle.floor.specs.declared.Settings.{Settings}
 use Rattle.floor.specs.Settings.{total, spacing, span}
 use Rattle.floor.specs.Well.{inside, apart}
-use Rattle.booking.specs.Booking.{bookingTests}
+use Rattle.floor.specs.Calls.{bookingTests}
 
 -- whether a canister lies within, by the test that the code made
 pub within-no : (s : Settings) (c : Canister) → (leb (c .a) (span s) && leb (c .b) (span s)) ≡ false → inside s c ≡ false

@@ -1,11 +1,11 @@
 -- The answers of fresh and of reading, refused and accepted, and of a refused round, as the definitions give them.
-use mathlib.Core.Path.{_≡_, sym, ap, _∙_}
+use mathlib.Core.Path.{_≡_, sym, ap}
 use mathlib.Core.Logic.{_≢_}
-use mathlib.Core.Bool.{true, false}
+use mathlib.Core.Bool.{false}
 use mathlib.Core.List.{List, []}
 use Prim.Native.Nat.{ℕ}
 use lib.ListN.{getD}
-use borrow.Author.Tests.{eq-eqb, ne-eqb}
+use borrow.Author.Tests.{ne-eqb}
 use Rattle.laws.specs.Define.{tab}
 use Rattle.floor.specs.declared.Canister.{Canister}
 use Rattle.floor.specs.declared.Settings.{Settings}
@@ -15,12 +15,12 @@ use Rattle.floor.specs.declared.Answer.{Answer}
 use Rattle.floor.specs.declared.Reading.{Reading}
 use Rattle.floor.specs.declared.Report.{Report}
 use Rattle.floor.specs.declared.Rounded.{Rounded}
-use Rattle.floor.specs.Settings.{settingsRefusal, settingsPass}
+use Rattle.floor.specs.Settings.{settingsRefusal}
 use Rattle.floor.specs.Model.{tileOf, membersOf}
 use Rattle.floor.specs.Memory.{zeroCanister, zeroFloor, view, head, pack}
 use Rattle.floor.specs.Well.{wellFormed}
 use Rattle.floor.specs.Calls.{refusalOf, freshFloor, freshAnswer, readTests, readAnswer, zeroReport, roundAnswer}
-use Rattle.book.proofs.Answers.{malformed}
+use Rattle.floor.proofs.Answers.{malformed}
 use Rattle.calls.specs.Refused.{unreadWith}
 
 -- ---- fresh
@@ -31,10 +31,6 @@ fresh-refused s z n e p q = rw (sym e, ne-eqb n 0 p, q)
 pub fresh-accepted : (s : Settings) (g : Floor) → settingsRefusal s ≡ 0 → g ≡ pack (freshFloor s) → _≡_ {A = Answer} (record { refusal = 0; floor = g }) (freshAnswer s)
 unfolding freshAnswer
 fresh-accepted s g e p = rw (e, p)
-
-pub fresh-pass : (s : Settings) (n : ℕ) → n ≡ settingsRefusal s → n ≡ 0 → settingsPass s ≡ true
-unfolding settingsPass
-fresh-pass s n e z = eq-eqb _ 0 (sym e ∙ z)
 
 -- ---- reading
 pub read-refused : (f : Floor) (t n : ℕ) (r : Reading) → refusalOf f (readTests (view f) t) ≡ n → n ≢ 0 → r ≡ unreadWith n → r ≡ readAnswer f t

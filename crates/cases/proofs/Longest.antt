@@ -10,8 +10,8 @@ use lib.ListN.{length, replicate}
 use borrow.Author.Tests.{ltb-true}
 use Rattle.laws.specs.Define.{tab, cat, allOf, anyOf, pairsOf, allBelow, sum, bit, bitsBelow, refusal}
 use Rattle.laws.specs.Every.{All, Pairs}
-use Rattle.laws.specs.Tests.{and-left, and-right, and-true, r-ne, r-pairs}
-use Rattle.laws.specs.Lists.{all-imp}
+use Rattle.laws.proofs.Tests.{and-left, and-right, and-true, r-ne, r-pairs}
+use Rattle.laws.proofs.Lists.{all-imp}
 use Rattle.floor.specs.declared.Canister.{Canister}
 use Rattle.floor.specs.declared.Settings.{Settings}
 use Rattle.floor.specs.declared.Layout.{Layout}

@@ -11,13 +11,14 @@ use borrow.Author.Tests.{lt-ltb, le-ltb, le-leb, ltb-true, ltb-false, eqb-true, 
 use lib.ListN.{length, take, drop, getD, length-drop}
 use lib.Seq.{drop-drop}
 use Rattle.laws.specs.Define.{bitsBelow, refusal}
-use Rattle.laws.specs.Tests.{by-test, or-left, or-right, r-and, r-ne}
-use Rattle.laws.specs.SetBits.{bits-within}
+use Rattle.laws.proofs.Tests.{by-test, or-left, or-right, r-and, r-ne}
+use Rattle.laws.proofs.SetBits.{bits-within}
 use Rattle.wire.specs.Bytes.{le, field, width}
 use Rattle.wire.specs.Fields.{le-one, field-in}
 use Rattle.floor.specs.declared.Settings.{Settings}
 use Rattle.floor.specs.Settings.{total, hoppersOf, sizeTests, setTests, measureTests, settingsTests, settingsRefusal}
-use Rattle.settings.specs.Groups.{sizesWrong, few-tiles}
+use Rattle.settings.specs.Groups.{sizesWrong}
+use Rattle.settings.proofs.Groups.{sizes-first, few-tiles}
 use Rattle.image.specs.Image.{lowest, oneTile, hopperCount, byteWrong, settingsWidths, tileWidths, lengthIn, settingsIn, settingsFaults, countersFaults, tileFaults, layoutFaults, endFaults, ownFaults, recordFault}
 
 -- ---- the values
@@ -71,10 +72,6 @@ three-tests : {a b c : Bool} {z : ℕ} → a ≡ true → z ≡ 0 → b ≡ c �
 unfolding refusal
 three-tests p q r l = rw (p, q, r)
 
-pick-or : {A : Type 0} (a b : Bool) (x y : A) → cond a x (cond b x y) ≡ cond (a || b) x y
-pick-or true b x y = refl
-pick-or false b x y = refl
-
 -- the two lengths of record 1
 pub lengths-out : (n : ℕ) → (not (eqb n 20) && not (eqb n 28)) ≡ true → (n ≢ 20) × (n ≢ 28)
 lengths-out n h = r-and (r-ne n 20) (r-ne n 28) .0 h
@@ -92,11 +89,6 @@ room-20 at n k h (inl e) = omega arith
 room-20 at n k h (inr e) = omega arith
 
 -- ---- kind 1
--- the tests after 11 by their groups
-sizes-first : (s : Settings) (l : List (Bool × ℕ)) → refusal (sizeTests s l) ≡ cond (sizesWrong s) 1 (refusal l)
-unfolding refusal sizesWrong
-sizes-first s l = simp (pick-or)
-
 pick-same : {A : Type 0} (b : Bool) (x : A) → cond b x x ≡ x
 pick-same true x = refl
 pick-same false x = refl

@@ -9,7 +9,7 @@ use native.Mathlib.Omega.{arith}
 use borrow.Author.Tests.{not-true}
 use Rattle.laws.specs.Define.{keep}
 use Rattle.laws.specs.Every.{All, Pairs}
-use Rattle.laws.specs.Lists.{all-of, all-imp, all-map, all-both, all-keep, pairs-map, pairs-keep, keep-split, map-append, map-perm, map-map, map-cong, perm-of}
+use Rattle.laws.proofs.Lists.{all-of, all-imp, all-map, all-both, all-keep, pairs-map, pairs-keep, keep-split, map-append, map-perm, map-map, map-cong, perm-of}
 use Rattle.floor.specs.declared.Canister.{Canister}
 use Rattle.floor.specs.declared.Settings.{Settings}
 use Rattle.floor.specs.Sides.{sides, opposite}

@@ -13,9 +13,9 @@ use lib.Seq.{getD-set-same, getD-set-other}
 use borrow.Author.Tests.{leb-false, eq-eqb, ne-eqb, not-false}
 use Rattle.laws.specs.Define.{cat, allOf, sum, bit}
 use Rattle.laws.specs.Every.{All, Pairs}
-use Rattle.laws.specs.Tests.{by-test, not-both, r-all}
-use Rattle.laws.specs.Lists.{all-perm, all-imp, all-unmap, pairs-perm, cat-perm, cat-append, cat-nil, cat-one, cat-all, swap-append, map-perm, perm-of, perm-chain, length-perm, all-append, all-cross, pairs-append}
-use Rattle.laws.specs.SetBits.{bits-each}
+use Rattle.laws.proofs.Tests.{by-test, not-both, r-all}
+use Rattle.laws.proofs.Lists.{all-perm, all-imp, all-unmap, pairs-perm, cat-perm, cat-append, cat-nil, cat-one, cat-all, swap-append, map-perm, perm-of, perm-chain, length-perm, all-append, all-cross, pairs-append}
+use Rattle.laws.proofs.SetBits.{bits-each}
 use Rattle.floor.specs.declared.Canister.{Canister}
 use Rattle.floor.specs.declared.Settings.{Settings}
 use Rattle.floor.specs.declared.Counters.{Counters}
@@ -23,7 +23,7 @@ use Rattle.floor.specs.Settings.{total, spacing, isHopper, hoppersOf}
 use Rattle.floor.specs.Model.{TileState, Model, noTile, tileOf, runs, runsOf, membersOf, numbers, numbersOn, withTile, withCounters, withMembers}
 use Rattle.floor.specs.Well.{inside, apart}
 use Rattle.floor.specs.Move.{insert}
-use Rattle.floor.specs.Calls.{bookTests, booked, stopTests, stopped, repairTests, repaired, afterRound}
+use Rattle.floor.specs.Calls.{bookTests, withBooking, booked, stopTests, stopped, repairTests, repaired, afterRound}
 use Rattle.floor.proofs.Sound.{Measured, Inside, Apart, Faces, Sound}
 use Rattle.floor.proofs.Well.{inside-fact, apart-fact}
 use Rattle.floor.proofs.Geometry.{apart-sym}
@@ -227,7 +227,7 @@ book-keeps m S t c T fit =
     let i = inside-fact (m .settings) c .0 (not-false (inside (m .settings) c) (T .1 .1 .1 .0)) in
     let far = r-all (apart (spacing (m .settings)) c) (Apart (spacing (m .settings)) c) (apart-fact (spacing (m .settings)) c) (membersOf m t) .0 (not-false (allOf (apart (spacing (m .settings)) c) (membersOf m t)) (T .1 .1 .1 .1 .1 .1 .0)) in
     let x = withMembers (tileOf m t) (insert c (membersOf m t)) in
-    let k : Counters = record { last = c .number; booked = m .counters .booked + 1; delivered = m .counters .delivered } in
+    let k = withBooking (m .counters) (c .number) in
     let p = put-numbers m S t on x k (c .number ∷ []) (List·Permᴰ·trans (map-perm (λ c. c .number) (insert-perm c (membersOf m t))) (swap-append (c .number ∷ []) (numbers (membersOf m t)))) in
     let q = List·Permᴰ·trans (swap-append (c .number ∷ []) (numbersOn m)) (Permᴰ·symm p) in
     record {
@@ -303,7 +303,7 @@ keeps-join l m n came gone came′ gone′ K J = record {
 pub book-runs : (m : Model) → Sound m → (t : ℕ) (c : Canister) → Accepted (bookTests m t c) → (u : ℕ) → runsOf (booked m t c) u ≡ runsOf m u
 unfolding bookTests booked
 book-runs m S t c T u =
-    put-runs m S t (leb-false (total (m .settings)) t (T .0)) (withMembers (tileOf m t) (insert c (membersOf m t))) (record { last = c .number; booked = m .counters .booked + 1; delivered = m .counters .delivered }) u
+    put-runs m S t (leb-false (total (m .settings)) t (T .0)) (withMembers (tileOf m t) (insert c (membersOf m t))) (withBooking (m .counters) (c .number)) u
     ∙ same (ℕ-discrete t u)
   where
     same : Dec (t ≡ u) → cond (eqb t u) (runsOf m t) (runsOf m u) ≡ runsOf m u

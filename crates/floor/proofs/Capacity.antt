@@ -12,8 +12,8 @@ use lib.ListN.{length, length-map}
 use borrow.Author.Tests.{eqb-true, eqb-false, ne-eqb, not-true}
 use Rattle.laws.specs.Define.{allOf, keep}
 use Rattle.laws.specs.Every.{All, Pairs}
-use Rattle.laws.specs.Tests.{r-all}
-use Rattle.laws.specs.Lists.{all-imp, all-keep, pairs-keep, all-map, pairs-map}
+use Rattle.laws.proofs.Tests.{r-all}
+use Rattle.laws.proofs.Lists.{all-imp, all-keep, keep-all, pairs-keep, all-map, pairs-map}
 use Rattle.floor.specs.declared.Canister.{Canister}
 use Rattle.floor.specs.declared.Settings.{Settings}
 use Rattle.floor.specs.Settings.{spacing, span}
@@ -26,11 +26,6 @@ use Rattle.floor.proofs.Rows.{sound-named}
 use Rattle.floor.proofs.Pack.{view-pack, fits-pack, well-of}
 
 -- ---- the pigeonhole: different numbers below n are at most n
-keep-all : (p : ℕ → Bool) (l : List ℕ) → All (λ x. p x ≡ true) l → keep p l ≡ l
-unfolding keep
-keep-all p [] h = refl
-keep-all p (x ∷ l) h = rw (h .0) (ap (λ r. x ∷ r) (keep-all p l (h .1)))
-
 drop-one : (n : ℕ) (l : List ℕ) → Pairs (λ x y. x ≢ y) l → length l ≤ suc (length (keep (λ x. not (eqb x n)) l))
 unfolding keep
 drop-one n [] h = omega arith

@@ -9,8 +9,8 @@ use native.Mathlib.Nat.{mul-le-mul-left}
 use native.Mathlib.Decide.{decLe}
 use lib.ListN.{length, length-append}
 use Rattle.laws.specs.Define.{cat, sum}
-use Rattle.laws.specs.Tests.{same-test}
-use Rattle.laws.specs.Lists.{sum-append, sum-const}
+use Rattle.laws.proofs.Tests.{same-test}
+use Rattle.laws.proofs.Lists.{sum-append, sum-const}
 use Rattle.floor.specs.declared.Canister.{Canister}
 use Rattle.floor.specs.declared.Settings.{Settings}
 use Rattle.floor.specs.Sides.{sides}

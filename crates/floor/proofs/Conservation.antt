@@ -12,8 +12,8 @@ use lib.ListN.{length}
 use borrow.Author.Tests.{eq-eqb, ne-eqb}
 use Rattle.laws.specs.Define.{cat, join}
 use Rattle.laws.specs.Every.{Pairs}
-use Rattle.laws.specs.Lists.{cat-perm, cat-append, cat-swap, cat-empty, cat-one, swap-append, map-append, map-perm, perm-of, cat-pairs, pairs-perm, pairs-unmap}
-use Rattle.laws.specs.SetBits.{cat-bits, cat-places}
+use Rattle.laws.proofs.Lists.{cat-perm, cat-append, cat-swap, cat-empty, cat-one, swap-append, map-append, map-perm, perm-of, cat-pairs, pairs-perm, pairs-unmap}
+use Rattle.laws.proofs.SetBits.{cat-bits, cat-places}
 use Rattle.floor.specs.declared.Canister.{Canister}
 use Rattle.floor.specs.declared.Settings.{Settings}
 use Rattle.floor.specs.Settings.{total, isHopper, hoppersOf}

@@ -6,7 +6,7 @@ use Prim.Native.Nat.{ℕ, zero, suc, _/_, _≤_, _<_}
 use native.Mathlib.Omega.{arith}
 use lib.ListN.{length, getD, length-map}
 use Rattle.laws.specs.Every.{All, Pairs}
-use Rattle.laws.specs.Lists.{all-of, all-map, all-both, pairs-map}
+use Rattle.laws.proofs.Lists.{all-get, all-of, all-map, all-both, pairs-map}
 use Rattle.floor.specs.declared.Canister.{Canister}
 use Rattle.floor.specs.declared.Settings.{Settings}
 use Rattle.floor.specs.Sides.{sides}
@@ -18,12 +18,6 @@ use Rattle.floor.proofs.Geometry.{room, across, across-le, Along, apart
 use Rattle.floor.proofs.Fields.{comes, went, delivered-are}
 use Rattle.floor.proofs.Passing.{Taking, idle-or}
 use Rattle.floor.proofs.Safety.{comes-inside, comes-apart, comes-rising, comes-room}
-
--- what holds of every element, and of what is read beyond them
-all-get : {A : Type 0} (P : A → Type 0) (l : List A) (z : A) → P z → All P l → (k : ℕ) → P (getD l k z)
-all-get P [] z p h k = p
-all-get P (x ∷ l) z p h zero = h .0
-all-get P (x ∷ l) z p h (suc k) = all-get P l z p (h .1) k
 
 -- ---- along one border of a tile there is place for four
 module _ (s : Settings) (g : Measured s) {k : ℕ} (mk : List·Memᴰ k sides) where

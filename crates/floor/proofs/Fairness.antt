@@ -12,8 +12,8 @@ use lib.Seq.{getD-set-same}
 use borrow.Author.Tests.{eqb-true, leb-false}
 use Rattle.laws.specs.Define.{tab, keep, bit}
 use Rattle.laws.specs.Every.{All}
-use Rattle.laws.specs.Tables.{tab-at, tab-off}
-use Rattle.laws.specs.Tests.{by-test}
+use Rattle.laws.proofs.Tables.{tab-at, tab-off}
+use Rattle.laws.proofs.Tests.{by-test}
 use Rattle.floor.specs.declared.Settings.{Settings}
 use Rattle.floor.specs.declared.Signal.{Signal}
 use Rattle.floor.specs.declared.Floor.{Floor}

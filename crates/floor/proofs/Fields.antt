@@ -8,8 +8,8 @@ use native.Mathlib.Decide.{decLe}
 use lib.ListN.{length, getD, length-map, List·getD-eq-default}
 use lib.Dec.{eqb}
 use Rattle.laws.specs.Define.{tab}
-use Rattle.laws.specs.Tests.{not-both}
-use Rattle.laws.specs.Tables.{tab-length, tab-at, tab-off}
+use Rattle.laws.proofs.Tests.{not-both}
+use Rattle.laws.proofs.Tables.{tab-length, tab-at, tab-off}
 use Rattle.floor.specs.declared.Canister.{Canister}
 use Rattle.floor.specs.declared.Settings.{Settings}
 use Rattle.floor.specs.Settings.{total, isHopper, hoppersOf}

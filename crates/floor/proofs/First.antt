@@ -12,8 +12,8 @@ use lib.Pow.{pow-mono}
 use borrow.Author.Tests.{eq-eqb, ne-eqb, lt-leb}
 use Rattle.laws.specs.Define.{refusal, allOf, pairsOf, sum, bit}
 use Rattle.laws.specs.Every.{All}
-use Rattle.laws.specs.Tables.{tab-length, tab-at, tab-off}
-use Rattle.laws.specs.Lists.{all-both, all-imp, all-unmap, cat-all, cat-empty}
+use Rattle.laws.proofs.Tables.{tab-length, tab-at, tab-off}
+use Rattle.laws.proofs.Lists.{all-get, all-both, all-imp, all-unmap, cat-all, cat-empty}
 use Rattle.floor.specs.declared.Canister.{Canister}
 use Rattle.floor.specs.declared.Settings.{Settings}
 use Rattle.floor.specs.declared.Tile.{Tile}
@@ -83,10 +83,6 @@ fresh-well s e =
     let M : Measured s = settings-fact s .0 (eq-eqb _ 0 e) in
     rw (eq-eqb _ 0 e) (sound-well (freshFloor s) (fresh-sound s M))
 
-pub refused-fresh : (s : Settings) → settingsRefusal s ≢ 0 → freshAnswer s .floor ≡ zeroFloor
-unfolding freshAnswer
-refused-fresh s n = rw (ne-eqb (settingsRefusal s) 0 n)
-
 pub zero-malformed : wellFormed zeroFloor ≡ false
 unfolding wellFormed sound stateSound view zeroFloor settingsPass settingsRefusal settingsTests refusal
 zero-malformed = refl
@@ -123,11 +119,6 @@ unfolding sum
 part-le [] k = omega arith
 part-le (x ∷ l) zero = omega arith
 part-le (x ∷ l) (suc k) = omega (arith, part-le l k)
-
-all-get : {A : Type 0} (P : A → Type 0) (l : List A) (z : A) → P z → All P l → (k : ℕ) → P (getD l k z)
-all-get P [] z p h k = p
-all-get P (x ∷ l) z p h zero = h .0
-all-get P (x ∷ l) z p h (suc k) = all-get P l z p (h .1) k
 
 module _ (f : Floor) (w : wellFormed f ≡ true) where
   abbrev C : ℕ

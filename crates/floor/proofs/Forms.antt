@@ -8,7 +8,7 @@ use lib.Dec.{eqb}
 use borrow.Author.Tests.{not-false}
 use Rattle.laws.specs.Define.{refusal}
 use Rattle.laws.specs.Every.{All}
-use Rattle.laws.specs.Tests.{refusal-none, refusal-all-false, test-none}
+use Rattle.laws.proofs.Tests.{refusal-none, refusal-all-false, test-none}
 use Rattle.floor.specs.declared.Canister.{Canister}
 use Rattle.floor.specs.declared.Floor.{Floor}
 use Rattle.floor.specs.Layouts.{setOf}

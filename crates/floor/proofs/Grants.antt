@@ -8,8 +8,8 @@ use native.Mathlib.Omega.{arith}
 use lib.Dec.{ltb, eqb}
 use borrow.Author.Tests.{lt-ltb, eqb-true}
 use Rattle.laws.specs.Define.{anyOf, firstOf}
-use Rattle.laws.specs.Tests.{by-test, not-both, and-right}
-use Rattle.laws.specs.Search.{any-mem, first-mem, first-none}
+use Rattle.laws.proofs.Tests.{by-test, not-both, and-right}
+use Rattle.laws.proofs.Search.{any-mem, first-mem, first-none}
 use Rattle.floor.specs.declared.Canister.{Canister}
 use Rattle.floor.specs.declared.Settings.{Settings}
 use Rattle.floor.specs.declared.Signal.{Signal}

@@ -10,7 +10,7 @@ use lib.ListN.{length, take, replicate}
 use borrow.Author.Tests.{leb-true, eqb-false}
 use Rattle.laws.specs.Define.{allOf}
 use Rattle.laws.specs.Every.{All}
-use Rattle.laws.specs.Tests.{and-left, and-right}
+use Rattle.laws.proofs.Tests.{and-left, and-right}
 use Rattle.floor.specs.declared.Canister.{Canister}
 use Rattle.floor.specs.declared.Settings.{Settings}
 use Rattle.floor.specs.declared.Floor.{Floor}

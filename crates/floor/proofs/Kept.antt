@@ -9,10 +9,10 @@ use native.Mathlib.Decide.{decLe}
 use lib.ListN.{length, getD, length-append, List·getD-eq-default}
 use Rattle.laws.specs.Define.{cat, sum}
 use Rattle.laws.specs.Every.{All, Pairs}
-use Rattle.laws.specs.Tests.{by-test}
-use Rattle.laws.specs.Tables.{tab-length, filled}
-use Rattle.laws.specs.SetBits.{cat-length, sum-tab-add}
-use Rattle.laws.specs.Lists.{all-perm, all-left, pairs-perm, pairs-left, length-perm}
+use Rattle.laws.proofs.Tests.{by-test}
+use Rattle.laws.proofs.Tables.{tab-length, filled}
+use Rattle.laws.proofs.SetBits.{cat-length, sum-tab-add}
+use Rattle.laws.proofs.Lists.{all-perm, all-left, pairs-perm, pairs-left, length-perm}
 use Rattle.floor.specs.Settings.{total, spacing, isHopper, hoppersOf}
 use Rattle.floor.specs.Grid.{neighbour}
 use Rattle.floor.specs.Model.{TileState, Model, runsOf, distanceOf, nextOf, membersOf, numbersOn}

@@ -13,10 +13,10 @@ use lib.ListN.{length}
 use borrow.Author.Tests.{eqb-true, eqb-false, ne-eqb, leb-true, leb-false, le-leb, lt-ltb, le-ltb, ltb-true, ltb-false, not-false}
 use Rattle.laws.specs.Define.{allOf, anyOf, keep, bit, bitsBelow}
 use Rattle.laws.specs.Every.{All, Pairs}
-use Rattle.laws.specs.Tests.{by-test, same-test, and-yes, and-left, and-right, and-true, r-pairs, r-lt}
-use Rattle.laws.specs.Lists.{all-imp, all-keep, pairs-keep, all-true, true-all, cat-nil}
-use Rattle.laws.specs.Bits.{with-bit}
-use Rattle.laws.specs.SetBits.{bits-all, bits-each, bit-below}
+use Rattle.laws.proofs.Tests.{by-test, same-test, and-yes, and-no, and-left, and-right, and-true, r-pairs, r-lt}
+use Rattle.laws.proofs.Lists.{all-imp, all-keep, pairs-keep, all-true, true-all, cat-nil}
+use Rattle.laws.proofs.Bits.{with-bit}
+use Rattle.laws.proofs.SetBits.{bits-all, bits-each, bit-below}
 use Rattle.floor.specs.declared.Settings.{Settings}
 use Rattle.floor.specs.declared.Layout.{Layout}
 use Rattle.floor.specs.Settings.{total, isHopper, hoppersOf}
@@ -42,10 +42,6 @@ below-lt p (suc n) = go (p n) (below-lt p n)
 zero-bit : (k : ℕ) → bit 0 k ≡ false
 unfolding bit
 zero-bit k = rw zero-div
-
-both-no : (b : Bool) → (b && false) ≡ false
-both-no true = refl
-both-no false = refl
 
 -- bit k of it
 pub below-bit : (p : ℕ → Bool) (n k : ℕ) → bit (setBelow p n) k ≡ (ltb k n && p k)
@@ -76,7 +72,7 @@ below-bit p (suc n) k = go (by-test (p n)) (below-bit p n k)
         rw q (ap (λ (x : ℕ). bit x k) e ∙ with-bit S n k ∙ ap (λ (b : Bool). eqb k n || b) ih ∙ ap (λ (b : Bool). b || (ltb k n && p k)) (sym (and-yes (eqb k n))) ∙ at true q (by-test (eqb k n)))
     go (inr q) ih =
         let e : 0 + S ≡ S = omega arith in
-        rw q (ap (λ (x : ℕ). bit x k) e ∙ ih ∙ ap (λ (b : Bool). b || (ltb k n && p k)) (sym (both-no (eqb k n))) ∙ at false q (by-test (eqb k n)))
+        rw q (ap (λ (x : ℕ). bit x k) e ∙ ih ∙ ap (λ (b : Bool). b || (ltb k n && p k)) (sym (and-no (eqb k n))) ∙ at false q (by-test (eqb k n)))
 
 -- ---- sound layouts
 abbrev pub Rises : List Layout → Type 0
@@ -122,10 +118,10 @@ forget-laid s name l L =
     }
 
 -- keeping: what holds of the new one and of the old ones holds of all
-keep-all : (P : Layout → Type 0) (x : Layout) (l : List Layout) → P x → All P l → All P (keepIn x l)
+kept-all : (P : Layout → Type 0) (x : Layout) (l : List Layout) → P x → All P l → All P (keepIn x l)
 unfolding keepIn
-keep-all P x [] h k = (h, tt)
-keep-all P x (y ∷ l) h k = go (eqb (x .name) (y .name)) (ltb (x .name) (y .name)) (keep-all P x l h (k .1))
+kept-all P x [] h k = (h, tt)
+kept-all P x (y ∷ l) h k = go (eqb (x .name) (y .name)) (ltb (x .name) (y .name)) (kept-all P x l h (k .1))
   where
     go : (a b : Bool) → All P (keepIn x l) → All P (cond a (x ∷ l) (cond b (x ∷ y ∷ l) (y ∷ keepIn x l)))
     go true b ih = (h, k .1)
@@ -144,7 +140,7 @@ keep-rises x (y ∷ l) h = go (by-test (eqb (x .name) (y .name))) (by-test (ltb 
         → Rises (cond (eqb (x .name) (y .name)) (x ∷ l) (cond (ltb (x .name) (y .name)) (x ∷ y ∷ l) (y ∷ keepIn x l)))
     go (inl e) b ih = rw e (above (x .name) (omega (arith, eqb-true (x .name) (y .name) e)), h .1)
     go (inr e) (inl k) ih = rw (e, k) ((ltb-true (x .name) (y .name) k, above (x .name) (omega (arith, ltb-true (x .name) (y .name) k))), h)
-    go (inr e) (inr k) ih = rw (e, k) (keep-all (λ w. y .name < w .name) x l (omega (arith, ltb-false (x .name) (y .name) k, eqb-false (x .name) (y .name) e)) (h .0), ih)
+    go (inr e) (inr k) ih = rw (e, k) (kept-all (λ w. y .name < w .name) x l (omega (arith, ltb-false (x .name) (y .name) k, eqb-false (x .name) (y .name) e)) (h .0), ih)
 
 -- at most one more, none where the name is held
 not-held : (l : List Layout) (name : ℕ) → All (λ w. name < w .name) l → held l name ≡ false
@@ -178,7 +174,7 @@ keep-length-le x (y ∷ l) h = go (by-test (eqb (x .name) (y .name))) (by-test (
 pub keep-laid : (s : Settings) (x : Layout) (l : List Layout) → Laid s l → layoutOk s x ≡ true → (leb 8 (length l) && not (held l (x .name))) ≡ false → Laid s (keepIn x l)
 keep-laid s x l L ok h = record {
   eight = go (by-test (held l (x .name))) (keep-length-le x l (L .rise));
-  each = keep-all (λ y. layoutOk s y ≡ true) x l ok (L .each);
+  each = kept-all (λ y. layoutOk s y ≡ true) x l ok (L .each);
   rise = keep-rises x l (L .rise);
 }
   where

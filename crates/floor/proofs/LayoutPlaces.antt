@@ -1,19 +1,19 @@
 -- The eight places of layouts, each tested with the name in the place after it: for a loop over them.
 use mathlib.Core.Path.{_≡_, refl, ap}
 use mathlib.Core.Logic.{_⊎_, inl, inr, _↔_}
-use mathlib.Core.Bool.{Bool, true, false, cond, _&&_, _||_}
+use mathlib.Core.Bool.{Bool, true, false, cond, _&&_}
 use mathlib.Core.List.{List, [], _∷_}
-use Prim.Native.Nat.{ℕ, zero, suc, _≤_, _<_}
+use Prim.Native.Nat.{ℕ, zero, suc, _<_}
 use native.Mathlib.Omega.{arith}
 use native.Mathlib.Decide.{decLe}
-use lib.Dec.{ltb, eqb}
+use lib.Dec.{eqb}
 use lib.ListN.{length, getD, drop, List·getD-eq-default}
 use borrow.Author.Tests.{eqb-true, eqb-false, eq-eqb}
 use Rattle.laws.specs.Define.{allOf, allBelow}
 use Rattle.laws.specs.Every.{All}
-use Rattle.laws.specs.Lists.{all-imp}
-use Rattle.laws.specs.Tables.{all-at, below-at, below-of}
-use Rattle.laws.specs.Tests.{by-test, same-test, and-left, and-right, and-true, r-and, r-or, r-eq, r-lt}
+use Rattle.laws.proofs.Lists.{all-imp}
+use Rattle.laws.proofs.Tables.{all-at, below-at, below-of}
+use Rattle.laws.proofs.Tests.{by-test, same-test, and-left, and-right, and-true, r-and, r-or, r-eq, r-lt}
 use Rattle.floor.specs.declared.Settings.{Settings}
 use Rattle.floor.specs.declared.Layout.{Layout}
 use Rattle.floor.specs.declared.Floor.{Floor}

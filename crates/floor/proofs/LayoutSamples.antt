@@ -10,7 +10,7 @@ use Rattle.floor.specs.declared.Floor.{Floor}
 use Rattle.floor.specs.Layouts.{nameNumber}
 use Rattle.floor.specs.Memory.{zeroFloor, zeroLayout, layoutPlaces, relaid}
 use Rattle.floor.specs.Calls.{freshAnswer, keepAnswer, forgetAnswer, recallAnswer, roundAnswer}
-use Rattle.floor.specs.Demand3.{Call, keep as keeping, forget as forgetting, recall as recalling}
+use Rattle.floor.specs.Demand3.{keep as keeping, forget as forgetting, recall as recalling}
 use Rattle.floor.proofs.Calling.{got, several, settings, named, refused, holds}
 use Rattle.floor.proofs.Made.{Made, begun, fresh, book, stop, repair, keep, forget, recall, rounds, Seen, laid, whole, counted, answered, answers, laying, given, Rows, hold, holdBy, by-values}
 

@@ -5,6 +5,7 @@ pub mod Sound
 pub mod Well
 pub mod Rows
 pub mod Pack
+pub mod Answers
 pub mod Capacity
 pub mod First
 pub mod Locality

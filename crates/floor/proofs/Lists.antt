@@ -2,7 +2,7 @@
 use mathlib.Core.Path.{_≡_, refl, sym, ap, _∙_, subst, fun-ext}
 use mathlib.Core.Logic.{_≢_}
 use mathlib.Core.Bool.{Bool, true, false, cond, not, _&&_, true≢false, false≢true}
-use mathlib.Core.List.{List, [], _∷_}
+use mathlib.Core.List.{List, [], _∷_, _++_}
 use Prim.Native.Nat.{ℕ, zero, suc, _+_, _≤_, _<_}
 use native.Mathlib.Omega.{arith}
 use native.Mathlib.Decide.{decLe}
@@ -11,8 +11,8 @@ use lib.ListN.{length, getD, take, List·getD-eq-default}
 use borrow.Author.Tests.{eqb-true, eqb-false, ne-eqb, lt-ltb, not-true, not-false}
 use Rattle.laws.specs.Define.{tab, allBelow, bit, refusal}
 use Rattle.laws.specs.Every.{All}
-use Rattle.laws.specs.Tests.{refusal-none, test-none}
-use Rattle.laws.specs.Tables.{tab-at, tab-off, below-at}
+use Rattle.laws.proofs.Tests.{refusal-none, test-none}
+use Rattle.laws.proofs.Tables.{tab-at, tab-off, below-at}
 use Rattle.floor.specs.declared.Delivery.{Delivery}
 use Rattle.floor.specs.declared.Layout.{Layout}
 use Rattle.floor.specs.declared.Floor.{Floor}
@@ -37,6 +37,12 @@ use Rattle.floor.proofs.Clearing.{rounds}
 use Rattle.floor.proofs.Calls.{Keeps, none, Accepted, book-keeps, stop-keeps, repair-keeps, round-keeps, same-floor, keeps-join, book-runs, stop-runs, repair-runs}
 use Rattle.floor.proofs.Laying.{keep-keeps, forget-keeps}
 use Rattle.floor.proofs.Stages.{recall-keeps, recall-runs, recall-none}
+
+-- one list of calls after another
+pub after-both : (f : Floor) (cs ds : List Call) → floorAfter f (cs ++ ds) ≡ floorAfter (floorAfter f cs) ds
+unfolding floorAfter
+after-both f [] ds = refl
+after-both f (c ∷ cs) ds = after-both (outcome f c .floor) cs ds
 
 -- from f to g, with the numbers that came and went
 abbrev pub KeepsWell : Floor → Floor → List ℕ → (ℕ → List ℕ) → Type 0

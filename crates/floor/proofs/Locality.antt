@@ -1,21 +1,21 @@
 -- Each tile decides from its four neighbours: two floors with equal settings that agree on a tile and on its neighbours give that tile the same outcome of each step.
 use mathlib.Core.Path.{_≡_, refl, sym, ap, _∙_}
-use mathlib.Core.Bool.{Bool, true, false, cond, not, _&&_}
-use mathlib.Core.List.{List, [], _∷_}
-use Prim.Native.Nat.{ℕ, _+_, _<_}
+use mathlib.Core.Bool.{Bool, true, false, cond, _&&_}
+use mathlib.Core.List.{List}
+use Prim.Native.Nat.{ℕ, _<_}
 use lib.Dec.{ltb, eqb}
 use lib.ListN.{length}
 use Rattle.laws.specs.Define.{refusal}
-use Rattle.laws.specs.Tables.{tab-at}
+use Rattle.laws.proofs.Tables.{tab-at}
 use Rattle.floor.specs.declared.Canister.{Canister}
 use Rattle.floor.specs.declared.Settings.{Settings}
 use Rattle.floor.specs.declared.Signal.{Signal}
-use Rattle.floor.specs.Sides.{chosen, following}
+use Rattle.floor.specs.Sides.{chosen}
 use Rattle.floor.specs.Settings.{total}
 use Rattle.floor.specs.Grid.{neighbour, around}
 use Rattle.floor.specs.Model.{TileState, Model, noTile, tileOf, runs, distanceOf, withMembers}
 use Rattle.floor.specs.Route.{routeTile, route}
-use Rattle.floor.specs.Signal.{missing, signalWith, signalBy, signalTile, shownNext, shownOf, signalOf}
+use Rattle.floor.specs.Signal.{missing, granting, waiting, signalWith, signalBy, signalTile, shownNext, shownOf, signalOf}
 use Rattle.floor.specs.Move.{wayOf, staying, membersNext, arriving, arrivals, moveTile}
 use Rattle.floor.specs.Reasons.{reasonTests, aheadOf, reasonOf, missingOf}
 
@@ -78,7 +78,7 @@ by-turn s true token l p = go (ltb 0 k && eqb (missing s k l) 0)
     k = chosen p token
 
     given : Bool → Signal
-    given b = cond b (record { token = following p k; grant = k; turn = k; missing = missing s k l }) (record { token = k; grant = 0; turn = k; missing = missing s k l })
+    given b = cond b (granting p k (missing s k l)) (waiting k (missing s k l))
 
     go : (b : Bool) → given b .missing ≡ missing s (given b .turn) l
     go true = refl
@@ -95,7 +95,7 @@ module _ (m n : Model) (t : ℕ) (same : m .settings ≡ n .settings) (own : til
 
   -- from the turn a and the millimetres b of the tile ahead
   reasonBy : Settings → TileState → ℕ → ℕ → ℕ
-  reasonBy s x a b = cond (ltb t (total s)) (refusal (reasonTests x (record { token = 0; grant = 0; turn = a; missing = b }))) 0
+  reasonBy s x a b = cond (ltb t (total s)) (refusal (reasonTests x (waiting a b))) 0
 
   module _ (next : tileOf m facing ≡ tileOf n facing) (turn : signalOf m facing .turn ≡ signalOf n facing .turn) where
     lacks : signalOf m facing .missing ≡ signalOf n facing .missing

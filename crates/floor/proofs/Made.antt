@@ -7,7 +7,7 @@ use lib.Dec.{eqb}
 use lib.ListN.{getD, take}
 use Rattle.laws.specs.Define.{tab, allOf, sum, join, refusal}
 use Rattle.laws.specs.Every.{All}
-use Rattle.laws.specs.Tests.{and-left, and-right, and-true}
+use Rattle.laws.proofs.Tests.{and-left, and-right, and-true}
 use Rattle.floor.specs.declared.Settings.{Settings}
 use Rattle.floor.specs.declared.Layout.{Layout}
 use Rattle.floor.specs.declared.Floor.{Floor}

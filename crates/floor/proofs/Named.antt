@@ -11,9 +11,9 @@ use lib.ListN.{length, getD, replicate, List·getD-eq-default}
 use borrow.Author.Tests.{eqb-true, eqb-false, eq-eqb, ne-eqb, lt-ltb, le-ltb, ltb-true, not-true, not-false}
 use Rattle.laws.specs.Define.{tab, anyOf, allBelow, keep, bit}
 use Rattle.laws.specs.Every.{All}
-use Rattle.laws.specs.Lists.{all-imp}
-use Rattle.laws.specs.Tests.{by-test, test-none}
-use Rattle.laws.specs.Tables.{tab-length, tab-at, tab-off, below-at, below-of}
+use Rattle.laws.proofs.Lists.{all-imp}
+use Rattle.laws.proofs.Tests.{by-test, test-none}
+use Rattle.laws.proofs.Tables.{tab-length, tab-at, tab-off, below-at, below-of}
 use Rattle.floor.specs.declared.Settings.{Settings}
 use Rattle.floor.specs.declared.Tile.{Tile}
 use Rattle.floor.specs.declared.Layout.{Layout}

@@ -1,18 +1,15 @@
 -- A name's eight bytes and its number: each tells the other, and names rise as their numbers do.
 use mathlib.Core.Path.{_≡_, refl, sym, ap, _∙_}
 use mathlib.Core.Logic.{_⊎_, inl, inr, _↔_}
-use mathlib.Core.Bool.{_&&_}
 use mathlib.Core.List.{List, [], _∷_}
 use Prim.Native.Nat.{ℕ, zero, suc, _+_, _*_, _/_, _%_, _^_, _≤_, _<_}
 use native.Mathlib.Omega.{arith}
 use native.Mathlib.Nat.{mul-assoc, mul-le-mul-right, one-le-pow, mul-add-div-right, add-mul-mod-self-right, div-eq-of-lt, mod-eq-of-lt, add-zero, suc-mul}
 use native.Mathlib.Decide.{decLe, ℕ-discrete}
-use lib.Dec.{ltb}
 use lib.ListN.{length}
 use lib.Pow.{pow-add}
-use borrow.Author.Tests.{lt-ltb}
 use Rattle.laws.specs.Every.{All}
-use Rattle.floor.specs.Layouts.{nameNumber, letters, spelled, nameOk}
+use Rattle.floor.specs.Layouts.{nameNumber, letters}
 use Rattle.floor.specs.Named.{Before, Spelling}
 
 -- the weight of the byte before k others
@@ -95,14 +92,6 @@ rises (x ∷ l) (y ∷ k) h g e = let ih = rises l k (h .1) (g .1) (omega arith)
     out : nameNumber l < nameNumber k ↔ Before l k → (x < y) ⊎ ((x ≡ y) × Before l k) → x * P + nameNumber l < y * weight (length k) + nameNumber k
     out ih (inl a) = omega (arith, scaled, low, above x y a)
     out ih (inr b) = let s : x * P ≡ y * P = ap (λ (n : ℕ). n * P) (b .0) in omega (arith, scaled, ih .1 (b .1))
-
--- for the eight bytes that a call is given
-pub name-bytes : (l : List ℕ) → All (λ x. x < 256) l → length l ≡ 8 → nameOk (nameNumber l) ≡ (ltb 0 (nameNumber l) && spelled l)
-unfolding nameOk
-name-bytes l h e =
-    let low : nameNumber l < 2 ^ 64 = omega (arith, number-fits l h, ap weight e) in
-    let back : letters 8 (nameNumber l) ≡ l = ap (λ (k : ℕ). letters k (nameNumber l)) (sym e) ∙ letters-back l h in
-    rw (lt-ltb (nameNumber l) (2 ^ 64) low, back)
 
 pub spelling : Spelling
 spelling = record { bytes = letters-back; rising = rises }

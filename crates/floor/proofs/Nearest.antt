@@ -8,10 +8,10 @@ use native.Mathlib.Omega.{arith}
 use native.Mathlib.Decide.{decLe}
 use lib.Dec.{ltb, eqb}
 use borrow.Author.Tests.{ltb-true, ltb-false, lt-ltb, le-ltb, eqb-true, eq-eqb}
-use Rattle.laws.specs.Tables.{tab-length}
+use Rattle.laws.proofs.Tables.{tab-length}
 use Rattle.laws.specs.Every.{All}
-use Rattle.laws.specs.Lists.{all-imp}
-use Rattle.laws.specs.SetBits.{bits-some}
+use Rattle.laws.proofs.Lists.{all-imp}
+use Rattle.laws.proofs.SetBits.{bits-some}
 use Rattle.floor.specs.declared.Settings.{Settings}
 use Rattle.floor.specs.declared.Heading.{Heading}
 use Rattle.floor.specs.Sides.{bySide, sides}

@@ -11,8 +11,9 @@ use lib.ListN.{length, getD, set, take, drop, length-take, length-drop, length-s
 use lib.Seq.{ext-getD, getD-take, getD-drop, getD-set-same, getD-set-other, length-take-le}
 use borrow.Author.Tests.{leb-true, lt-ltb, le-ltb, le-leb}
 use Rattle.laws.specs.Define.{tab, allOf}
-use Rattle.laws.specs.Tests.{and-left, and-right, and-true}
-use Rattle.laws.specs.Tables.{tab-length, tab-at, tab-off, filled}
+use Rattle.laws.proofs.Tests.{and-left, and-right, and-true}
+use Rattle.laws.proofs.Lists.{get-same}
+use Rattle.laws.proofs.Tables.{tab-length, tab-at, tab-off, filled}
 use Rattle.floor.specs.declared.Canister.{Canister}
 use Rattle.floor.specs.declared.Settings.{Settings}
 use Rattle.floor.specs.declared.Counters.{Counters}
@@ -20,19 +21,13 @@ use Rattle.floor.specs.declared.Tile.{Tile}
 use Rattle.floor.specs.declared.Layout.{Layout}
 use Rattle.floor.specs.declared.Floor.{Floor}
 use Rattle.floor.specs.Settings.{total, settingsPass}
-use Rattle.floor.specs.Model.{TileState, Model, noTile, tileOf, membersOf, withTiles, withTile, withCounters}
-use Rattle.floor.specs.Memory.{zeroTile, zeroCanister, headOf, stateOf, view, unused, head, rows, build, pack, isZeroCanister, isZeroTile, block, headFits, tileFits, stateFits, fits, layoutsFit, usedLayouts, layoutPlaces, retiled, refilled}
+use Rattle.floor.specs.Model.{TileState, Model, noTile, tileOf, membersOf, withTiles, withTile, withCounters, withLayouts}
+use Rattle.floor.specs.Memory.{zeroTile, zeroCanister, headOf, stateOf, view, unused, head, rows, build, pack, isZeroCanister, isZeroTile, block, headFits, tileFits, stateFits, fits, layoutsFit, usedLayouts, layoutPlaces, refilled, retiled, relaid}
 use Rattle.floor.specs.Layouts.{layoutsSound}
 use Rattle.floor.specs.Well.{stateSound, sound, stateWell, layoutsWell, wellFormed}
 use Rattle.floor.proofs.Sound.{Measured, Sound}
 use Rattle.floor.proofs.Well.{settings-fact, sound-fact}
-use Rattle.floor.proofs.Rows.{rows-length, placeAt, rows-place, rows-filled, zero-tile, rest-zero, rest-of, fits-tiles, fits-canisters, tiles-fit-at, fits-of, fits-layouts, layouts-back, Placed, used-places, layouts-fit, sound-named}
-
--- what a list is read as outside it doesn't matter inside
-get-same : {A : Type 0} (l : List A) (t : ℕ) (x y : A) → t < length l → getD l t x ≡ getD l t y
-get-same [] t x y h = absurd (omega arith)
-get-same (z ∷ l) zero x y h = refl
-get-same (z ∷ l) (suc t) x y h = get-same l t x y (omega arith)
+use Rattle.floor.proofs.Rows.{rows-length, placeAt, rows-place, rows-filled, zero-tile, view-at, rest-zero, rest-of, fits-tiles, fits-canisters, tiles-fit-at, fits-of, fits-layouts, layouts-back, Placed, used-places, layouts-fit, sound-named}
 
 -- ---- a value that memory has room for, packed
 module _ (m : Model) (len : length (m .tiles) ≡ total (m .settings)) (few : total (m .settings) ≤ 64)
@@ -73,7 +68,7 @@ module _ (m : Model) (len : length (m .tiles) ≡ total (m .settings)) (few : to
 
   pub view-pack : view (pack m) ≡ m
   unfolding view pack build
-  view-pack = ap (λ (ls : List Layout). record { settings = m .settings; counters = m .counters; tiles = tab (total (m .settings)) (stateOf (pack m)); layouts = ls }) (used-places 8 (m .layouts) (laid .0) (laid .1))
+  view-pack = ap (withLayouts (withTiles m (tab (total (m .settings)) (stateOf (pack m))))) (used-places 8 (m .layouts) (laid .0) (laid .1))
       ∙ ap (λ (ts : List TileState). withTiles m ts) (sym (filled (total (m .settings)) (stateOf (pack m)) unused (m .tiles) len (λ t h. sym (state-packed t h))))
 
   pub fits-pack : fits (pack m) ≡ true
@@ -249,7 +244,7 @@ pub pack-refilled : (f : Floor) → fits f ≡ true → (c : Counters) (x : ℕ 
     → _≡_ {A = Floor} (refilled f c ts cs) (pack (withCounters (withTiles (view f) (tab (total (f .settings)) x)) c))
 unfolding view
 pack-refilled f ok c x ts cs lt lc on off used free =
-    ap (λ (ls : List Layout). record { settings = f .settings; counters = c; tiles = ts; canisters = cs; layouts = ls }) (sym (layouts-back (f .layouts) (fits-layouts f ok)))
+    ap (relaid (refilled f c ts cs)) (sym (layouts-back (f .layouts) (fits-layouts f ok)))
     ∙ pack-tab (f .settings) c x ts cs (usedLayouts (f .layouts)) lt lc on off used free
 
 -- the same where the canisters stay too
@@ -310,3 +305,19 @@ well-parts f = exchange (stateSound (view f)) (layoutsSound (f .settings) (usedL
     exchange true true false d = refl
     exchange true false false d = refl
     exchange false b c d = refl
+
+-- ---- a tile of a well-formed floor, as it stands in memory
+module _ (f : Floor) (t : ℕ) (w : wellFormed f ≡ true) (on : t < total (f .settings)) where
+  pub below-64 : t < 64
+  below-64 = omega (arith, well-few f w)
+
+  pub head-view : headOf f t ≡ head (tileOf (view f) t)
+  head-view = sym (well-head f t w on) ∙ ap head (sym (view-at f t noTile on))
+
+  pub place-view : (k : ℕ) → k < 16 → getD (f .canisters) (16 * t + k) zeroCanister ≡ getD (membersOf (view f) t) k zeroCanister
+  place-view k h =
+      let q : (16 * t + k) / 16 ≡ t = omega arith in
+      let r : (16 * t + k) % 16 ≡ k = omega arith in
+      let e : shown f t ≡ tileOf (view f) t = tab-at (total (f .settings)) (stateOf f) t unused on ∙ sym (view-at f t noTile on) in
+      place-shown f (well-few f w) (well-fits f w) (16 * t + k) (omega (arith, below-64)) ∙ ap (λ (j : ℕ). getD (shown f j .members) ((16 * t + k) % 16) zeroCanister) q
+      ∙ ap (λ (j : ℕ). getD (shown f t .members) j zeroCanister) r ∙ ap (λ (x : TileState). getD (x .members) k zeroCanister) e

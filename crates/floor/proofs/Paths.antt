@@ -8,8 +8,8 @@ use native.Mathlib.Omega.{arith}
 use native.Mathlib.Decide.{decLe}
 use lib.ListN.{getD}
 use Rattle.laws.specs.Define.{tab, anyOf}
-use Rattle.laws.specs.Tests.{by-test, not-both}
-use Rattle.laws.specs.Tables.{tab-at, tab-off}
+use Rattle.laws.proofs.Tests.{by-test, not-both}
+use Rattle.laws.proofs.Tables.{tab-at, tab-off}
 use Rattle.floor.specs.declared.Settings.{Settings}
 use Rattle.floor.specs.Sides.{sides, opposite}
 use Rattle.floor.specs.Settings.{total, isHopper}

@@ -11,8 +11,8 @@ use lib.Dec.{ltb}
 use lib.ListN.{length, length-append, length-map}
 use borrow.Author.Tests.{ltb-true, lt-ltb, le-ltb, not-true}
 use Rattle.laws.specs.Define.{cat, keep, sum}
-use Rattle.laws.specs.Tests.{by-test, not-both}
-use Rattle.laws.specs.Lists.{all-imp, all-keep, keep-split, sum-append, sum-perm, sum-cat-le, sum-cat-lt, sum-map-lt, sum-const, sum-find, sum-part, sum-scale, sum-mono, map-perm, map-append, map-map, length-perm}
+use Rattle.laws.proofs.Tests.{by-test, not-both}
+use Rattle.laws.proofs.Lists.{all-imp, all-keep, keep-split, sum-append, sum-perm, sum-cat-le, sum-cat-lt, sum-map-lt, sum-const, sum-find, sum-part, sum-scale, sum-mono, map-perm, map-append, map-map, length-perm}
 use Rattle.floor.specs.declared.Canister.{Canister}
 use Rattle.floor.specs.declared.Settings.{Settings}
 use Rattle.floor.specs.Sides.{opposite}

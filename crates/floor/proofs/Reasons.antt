@@ -10,16 +10,16 @@ use lib.ListN.{length}
 use borrow.Author.Tests.{lt-ltb, ltb-true, ltb-false, eqb-true, eqb-false, eq-eqb, not-true, not-false}
 use Rattle.laws.specs.Define.{refusal}
 use Rattle.laws.specs.Every.{All}
-use Rattle.laws.specs.Tests.{by-test, not-both, and-right, and-true}
+use Rattle.laws.proofs.Tests.{by-test, not-both, and-right, and-true}
 use Rattle.floor.specs.declared.Canister.{Canister}
 use Rattle.floor.specs.declared.Settings.{Settings}
 use Rattle.floor.specs.declared.Signal.{Signal}
-use Rattle.floor.specs.Sides.{opposite, chosen, following}
+use Rattle.floor.specs.Sides.{opposite, chosen}
 use Rattle.floor.specs.Settings.{spacing}
 use Rattle.floor.specs.Grid.{neighbour}
 use Rattle.floor.specs.Model.{Model, tileOf, runs, runsOf, nextOf, tokenOf, membersOf}
 use Rattle.floor.specs.Route.{route}
-use Rattle.floor.specs.Signal.{lack, missing, signalWith, signalBy, signalOf, grantOf}
+use Rattle.floor.specs.Signal.{lack, missing, granting, waiting, signalWith, signalBy, signalOf, grantOf}
 use Rattle.floor.specs.Reasons.{reasonTests, aheadOf}
 use Rattle.floor.specs.Fairness.{wants, turnOf}
 use Rattle.floor.proofs.Sound.{Measured, Inside, Sound}
@@ -70,7 +70,7 @@ told s true token l p = go (ltb 0 k && eqb (missing s k l) 0) refl
     k = chosen p token
 
     go : (b : Bool) → (ltb 0 k && eqb (missing s k l) 0) ≡ b
-        → Told s true token l p (cond b (record { token = following p k; grant = k; turn = k; missing = missing s k l }) (record { token = k; grant = 0; turn = k; missing = missing s k l }))
+        → Told s true token l p (cond b (granting p k (missing s k l)) (waiting k (missing s k l)))
     go true e = record {
       granted-turn = λ h. (refl, eqb-true (missing s k l) 0 (and-right (ltb 0 k) (eqb (missing s k l) 0) e));
       with-gap = λ r h z. refl;

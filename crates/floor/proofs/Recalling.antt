@@ -9,7 +9,7 @@ use native.Mathlib.Decide.{decLe, ℕ-discrete}
 use lib.Dec.{ltb, eqb}
 use borrow.Author.Tests.{eq-eqb, ne-eqb, lt-ltb, le-ltb}
 use Rattle.laws.specs.Define.{bit, refusal}
-use Rattle.laws.specs.Tests.{by-test, and-yes, refusal-all-false}
+use Rattle.laws.proofs.Tests.{by-test, and-yes, and-no, refusal-all-false}
 use Rattle.floor.specs.declared.Floor.{Floor}
 use Rattle.floor.specs.Settings.{total}
 use Rattle.floor.specs.Layouts.{setOf}
@@ -26,14 +26,9 @@ use Rattle.floor.proofs.First.{pack-view-well}
 use Rattle.floor.proofs.Calls.{Accepted}
 use Rattle.floor.proofs.Laying.{Covers}
 use Rattle.floor.proofs.Stages.{stage, stage-none, stage-all, stop-meets, repair-meets, by-tile, stage-keeps, held-set}
-use Rattle.floor.proofs.Lists.{passed}
+use Rattle.floor.proofs.Lists.{after-both, passed}
 
 -- lists of accepted calls, one after another
-made-more : (f : Floor) (cs ds : List Call) → floorAfter f (cs ++ ds) ≡ floorAfter (floorAfter f cs) ds
-unfolding floorAfter
-made-more f [] ds = refl
-made-more f (c ∷ cs) ds = made-more (outcome f c .floor) cs ds
-
 accepted-more : (f : Floor) (cs ds : List Call) → AllAccepted f cs → AllAccepted (floorAfter f cs) ds → AllAccepted f (cs ++ ds)
 unfolding floorAfter
 accepted-more f [] ds h k = k
@@ -68,7 +63,7 @@ none g = (refl, tt)
 
 then-made : (g h k : Floor) (cs ds : List Call) → Made g cs h → Made h ds k → Made g (cs ++ ds) k
 unfolding Made
-then-made g h k cs ds p q = (made-more g cs ds ∙ ap (λ (x : Floor). floorAfter x ds) (p .0) ∙ q .0, accepted-more g cs ds (p .1) (subst (λ (x : Floor). AllAccepted x ds) (sym (p .0)) (q .1)))
+then-made g h k cs ds p q = (after-both g cs ds ∙ ap (λ (x : Floor). floorAfter x ds) (p .0) ∙ q .0, accepted-more g cs ds (p .1) (subst (λ (x : Floor). AllAccepted x ds) (sym (p .0)) (q .1)))
 
 module _ (f : Floor) (w : wellFormed f ≡ true) (set : ℕ) (hop : Covers (view f .settings) set) where
   abbrev m : Model
@@ -120,10 +115,6 @@ press b r u = cond b (cond r [] (repair u ∷ [])) (cond r (stop u ∷ []) [])
 
 abbrev makes : Bool → Bool → Bool
 makes b r = cond b (not r) r
-
-and-no : (a : Bool) → (a && false) ≡ false
-and-no true = refl
-and-no false = refl
 
 press-rest : (g : Floor) (b r : Bool) (u : ℕ) (cs : List Call) → AllAccepted g (press b r u ++ cs) → AllAccepted (floorAfter g (press b r u)) cs
 unfolding floorAfter

@@ -7,7 +7,7 @@ use native.Mathlib.Decide.{decLe}
 use lib.ListN.{length, getD, drop, replicate, List·getD-eq-default}
 use Rattle.laws.specs.Define.{tab, cat}
 use Rattle.laws.specs.Every.{All, Pairs}
-use Rattle.laws.specs.Tables.{tab-length}
+use Rattle.laws.proofs.Tables.{tab-length}
 use Rattle.floor.specs.declared.Report.{Report}
 use Rattle.floor.specs.declared.Settings.{Settings}
 use Rattle.floor.specs.Settings.{hoppersOf}
@@ -22,7 +22,7 @@ use Rattle.floor.proofs.Fields.{went, delivered-length}
 use Rattle.floor.proofs.Deliveries.{delivered-few, delivered-rising}
 use Rattle.floor.proofs.Calls.{round-keeps}
 use Rattle.floor.proofs.Lists.{round-report, report-at, listed-all}
-use Rattle.laws.specs.Lists.{all-perm, cat-all}
+use Rattle.laws.proofs.Lists.{all-perm, cat-all}
 
 -- zeros after the numbers
 tail : (l : List ℕ) → length l ≤ 4 → drop (length l) (tab 4 (λ k. getD l k 0)) ≡ replicate (4 - length l) 0

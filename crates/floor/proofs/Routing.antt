@@ -7,9 +7,9 @@ use Prim.Native.Nat.{ℕ, zero, suc, _-_, _≤_, _<_}
 use native.Mathlib.Omega.{arith}
 use native.Mathlib.Decide.{decLe}
 use Rattle.laws.specs.Define.{anyOf}
-use Rattle.laws.specs.Tests.{by-test, not-both, and-left, and-right, and-true, or-case, or-left, or-right}
-use Rattle.laws.specs.Search.{any-mem, any-find, any-sub}
-use Rattle.laws.specs.Count.{count, count-same, count-all, count-pos}
+use Rattle.laws.proofs.Tests.{by-test, not-both, and-left, and-right, and-true, or-case, or-left, or-right}
+use Rattle.laws.proofs.Search.{any-mem, any-find, any-sub}
+use Rattle.laws.proofs.Count.{count, count-same, count-all, count-pos}
 use Rattle.floor.specs.Sides.{sides}
 use Rattle.floor.proofs.Grid.{side-pos}
 

@@ -1,13 +1,12 @@
 -- Safety: after a move the canisters of a tile lie within it and keep their spacing.
 use mathlib.Core.Path.{_≡_, sym, ap, _∙_, subst}
 use mathlib.Core.Logic.{_⊎_, inl, inr, _≢_}
-use mathlib.Core.Bool.{true}
 use mathlib.Core.List.{List, [], _++_, List·Memᴰ}
 use Prim.Native.Nat.{ℕ, _≤_}
 use native.Mathlib.Omega.{arith}
 use native.Mathlib.Decide.{ℕ-discrete}
 use Rattle.laws.specs.Every.{All, Pairs}
-use Rattle.laws.specs.Lists.{all-append, all-both, all-cross, pairs-append}
+use Rattle.laws.proofs.Lists.{all-append, all-both, all-cross, pairs-append}
 use Rattle.floor.specs.declared.Canister.{Canister}
 use Rattle.floor.specs.Sides.{sides, opposite}
 use Rattle.floor.specs.Settings.{spacing}

@@ -9,8 +9,8 @@ use native.Mathlib.Decide.{decLe}
 use lib.ListN.{length, getD, List·getD-eq-default}
 use Rattle.laws.specs.Define.{cat}
 use Rattle.laws.specs.Every.{All, Pairs}
-use Rattle.laws.specs.Lists.{all-mem, all-of, mem-map, mem-keep, mem-perm, mem-cat, pairs-perm, pairs-between, cat-between}
-use Rattle.laws.specs.SetBits.{bits-place}
+use Rattle.laws.proofs.Lists.{all-mem, all-of, mem-map, mem-keep, mem-perm, mem-cat, pairs-perm, pairs-between, cat-between}
+use Rattle.laws.proofs.SetBits.{bits-place}
 use Rattle.floor.specs.declared.Canister.{Canister}
 use Rattle.floor.specs.declared.Settings.{Settings}
 use Rattle.floor.specs.Sides.{sides}

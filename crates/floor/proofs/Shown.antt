@@ -8,7 +8,7 @@ use lib.Dec.{eqb}
 use lib.ListN.{getD, replicate}
 use Rattle.laws.specs.Define.{tab, refusal}
 use Rattle.laws.specs.Every.{All}
-use Rattle.laws.specs.Tests.{and-left}
+use Rattle.laws.proofs.Tests.{and-left}
 use Rattle.floor.specs.declared.Layout.{Layout}
 use Rattle.floor.specs.declared.Floor.{Floor}
 use Rattle.floor.specs.declared.Reading.{Reading}

@@ -9,8 +9,8 @@ use lib.Bits.{bitOr, bitAnd}
 use lib.Count.{trailingZeros}
 use borrow.Author.Tests.{eqb-true, eq-eqb, ne-eqb, ltb-true}
 use Rattle.laws.specs.Define.{allBelow, firstOf, bit}
-use Rattle.laws.specs.Tables.{below-at}
-use Rattle.laws.specs.Tests.{and-left, and-right}
+use Rattle.laws.proofs.Tables.{below-at}
+use Rattle.laws.proofs.Tests.{and-left, and-right}
 use Rattle.floor.specs.Sides.{bySide, after, following, inSet}
 
 -- an entry of a table over sides up to 4 and sets below 16

@@ -11,8 +11,8 @@ use lib.ListN.{length, getD, set, length-set, List·getD-eq-default}
 use lib.Seq.{getD-set-same, getD-set-other}
 use borrow.Author.Tests.{lt-leb, lt-ltb, le-ltb, ltb-true, ltb-false, not-false}
 use Rattle.laws.specs.Define.{tab, bit}
-use Rattle.laws.specs.Tests.{by-test, not-both, same-test}
-use Rattle.laws.specs.Tables.{tab-length, tab-at, tab-off, filled}
+use Rattle.laws.proofs.Tests.{by-test, not-both, same-test}
+use Rattle.laws.proofs.Tables.{tab-length, tab-at, tab-off, filled}
 use Rattle.floor.specs.Settings.{total, isHopper}
 use Rattle.floor.specs.Layouts.{held, setOf}
 use Rattle.floor.specs.Model.{TileState, Model, noTile, tileOf, runs, runsOf, distanceOf, withTiles, withTile}
@@ -43,10 +43,6 @@ module _ (m : Model) (S : Sound m) (chosen : ℕ) (hop : Covers (m .settings) ch
   pub stage-all : stage C ≡ recalled m chosen
   unfolding stage mid recalled
   stage-all = sym (tiles-are C (tab C (λ t. recallTile chosen t (tileOf m t))) (tab-length C (λ t. recallTile chosen t (tileOf m t))) (λ t h. rw (lt-ltb t C h) (tab-at C (λ t. recallTile chosen t (tileOf m t)) t noTile h)))
-
-  stage-length : (n : ℕ) → length (stage n .tiles) ≡ C
-  unfolding stage
-  stage-length n = tab-length C (mid n)
 
   stage-at : (n t : ℕ) → t < C → tileOf (stage n) t ≡ mid n t
   unfolding stage

@@ -11,9 +11,9 @@ use lib.ListN.{length, getD}
 use borrow.Author.Tests.{lt-ltb, le-ltb, ltb-true, ltb-false, eqb-true, eqb-false, ne-eqb, not-true, not-false}
 use Rattle.laws.specs.Define.{tab}
 use Rattle.laws.specs.Every.{All}
-use Rattle.laws.specs.Tests.{not-both}
-use Rattle.laws.specs.Tables.{tab-at, tab-off}
-use Rattle.laws.specs.Lists.{all-mem, all-of, all-imp}
+use Rattle.laws.proofs.Tests.{not-both}
+use Rattle.laws.proofs.Tables.{tab-at, tab-off}
+use Rattle.laws.proofs.Lists.{all-mem, all-of, all-imp, no-length}
 use Rattle.floor.specs.declared.Canister.{Canister}
 use Rattle.floor.specs.declared.Settings.{Settings}
 use Rattle.floor.specs.declared.Floor.{Floor}
@@ -31,7 +31,7 @@ use Rattle.floor.specs.Calls.{afterRound, reportOf, roundAnswer}
 use Rattle.floor.specs.Reports.{listedAt}
 use Rattle.floor.specs.Demand3.{round, outcome}
 use Rattle.floor.specs.Fairness.{turnOf}
-use Rattle.floor.specs.Standing.{ahead, Shifts, Shifted, Stood, Fits, Standing, reasonAt, missingAt, WhyStood, HasGap, GapTest}
+use Rattle.floor.specs.Standing.{Shifts, Shifted, Stood, Fits, Standing, reasonAt, missingAt, WhyStood, HasGap, GapTest}
 use Rattle.floor.proofs.Sound.{Sound}
 use Rattle.floor.proofs.Grid.{each-side, opposite-sum}
 use Rattle.floor.proofs.Tables.{run-on}
@@ -42,11 +42,7 @@ use Rattle.floor.proofs.Lists.{round-report, round-reported, view-round
 use Rattle.floor.proofs.Reasons.{Which, signal-most, turn-at, missing-at, k, u, y, reason, fits, empty-first, ahead-runs, reason-moves, moves-reason}
 use Rattle.floor.proofs.Shifting.{has, shifts, still-stood, not-both as never-both}
 
--- an empty list, and a member of one that is not
-empty-of : {A : Type 0} (l : List A) → length l ≡ 0 → l ≡ []
-empty-of [] h = refl
-empty-of (x ∷ l) h = absurd (omega arith)
-
+-- a member of a list that is not empty
 some-of : {A : Type 0} (l : List A) → l ≢ [] → (x : A) × List·Memᴰ x l
 some-of [] h = absurd (h refl)
 some-of (x ∷ l) h = (x, List·Memᴰ·head refl)
@@ -110,7 +106,7 @@ module _ (m : Model) (S : Sound m) where
     fits-at : (r : ℕ) → reason m S t ≡ r → Fits m n (went m) t r
     fits-at zero e = absurd (omega (arith, F .some .0))
     fits-at (suc zero) e = not-true (runsOf m t) (F .one e)
-    fits-at (suc (suc zero)) e = empty-of (membersOf m t) (eqb-true (length (membersOf m t)) 0 (F .two e))
+    fits-at (suc (suc zero)) e = no-length (membersOf m t) (eqb-true (length (membersOf m t)) 0 (F .two e))
     fits-at (suc (suc (suc zero))) e = arrow-is t ∙ eqb-true (k m S t) 0 (F .three e)
     fits-at (suc (suc (suc (suc zero)))) e = by-arrow (λ j. turnOf m (neighbour (m .settings) j t) ≢ opposite j) t
         (turn-other t (arrow-pos (omega arith)) (eqb-false (k m S t + y m S t .turn) 5 (not-true (eqb (k m S t + y m S t .turn) 5) (F .four e))))

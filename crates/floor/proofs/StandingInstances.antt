@@ -17,7 +17,7 @@ use Rattle.floor.specs.Calls.{reportOf, roundAnswer}
 use Rattle.floor.specs.Reports.{listedAt}
 use Rattle.floor.specs.Demand3.{round, outcome}
 use Rattle.floor.specs.Fairness.{wants, turnOf}
-use Rattle.floor.specs.Standing.{ahead, Shifts, Shifted, Stood, Standing, stayed, landed, delivered, reasonAt, missingAt}
+use Rattle.floor.specs.Standing.{ahead, Shifts, Stood, Standing, stayed, landed, delivered, reasonAt, missingAt}
 use Rattle.floor.proofs.Calling.{several, holds}
 use Rattle.floor.proofs.Shown.{Shows, valueBy, shows-call, shows-report}
 use Rattle.floor.proofs.Made.{Made, begun, fresh, book as put, rounds as run, floorOf, made, made-shows, holdBy}

@@ -6,8 +6,8 @@ use native.Mathlib.Omega.{arith}
 use native.Mathlib.Decide.{decLe}
 use lib.ListN.{length, getD, List·getD-eq-default}
 use Rattle.laws.specs.Define.{tab}
-use Rattle.laws.specs.Tests.{not-both}
-use Rattle.laws.specs.Tables.{tab-at, tab-off}
+use Rattle.laws.proofs.Tests.{not-both}
+use Rattle.laws.proofs.Tables.{tab-at, tab-off}
 use Rattle.floor.specs.Settings.{total}
 use Rattle.floor.specs.Model.{TileState, Model, noTile, tileOf, runs, runsOf}
 

@@ -8,8 +8,8 @@ use native.Mathlib.Omega.{arith}
 use lib.Dec.{eqb}
 use Rattle.laws.specs.Define.{allOf, pairsOf}
 use Rattle.laws.specs.Every.{All, Pairs}
-use Rattle.laws.specs.Tests.{r-ne, r-all, r-pairs}
-use Rattle.laws.specs.Lists.{all-cross, pairs-append, pairs-perm}
+use Rattle.laws.proofs.Tests.{r-ne, r-all, r-pairs}
+use Rattle.laws.proofs.Lists.{all-cross, pairs-append, pairs-perm}
 use Rattle.floor.specs.declared.Settings.{Settings}
 use Rattle.floor.specs.declared.Floor.{Floor}
 use Rattle.floor.specs.Settings.{spacing}

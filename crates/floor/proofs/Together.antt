@@ -11,8 +11,8 @@ use lib.ListN.{set}
 use lib.Seq.{getD-set-same, getD-set-other, set-comm, set-set, set-getD}
 use borrow.Author.Tests.{leb-false, le-leb, lt-leb, eq-eqb, not-false}
 use Rattle.laws.specs.Define.{allOf, refusal}
-use Rattle.laws.specs.Lists.{all-perm, all-true, true-all}
-use Rattle.laws.specs.Tests.{by-test, not-both}
+use Rattle.laws.proofs.Lists.{all-perm, all-true, true-all}
+use Rattle.laws.proofs.Tests.{by-test, not-both}
 use Rattle.floor.specs.declared.Canister.{Canister}
 use Rattle.floor.specs.declared.Floor.{Floor}
 use Rattle.floor.specs.declared.Report.{Report}
@@ -21,16 +21,16 @@ use Rattle.floor.specs.Model.{TileState, Model, noTile, tileOf, runs, ru
 use Rattle.floor.specs.Memory.{view, build, pack}
 use Rattle.floor.specs.Well.{apart, wellFormed}
 use Rattle.floor.specs.Move.{insert}
-use Rattle.floor.specs.Calls.{answer, bookTests, booked, bookAnswer, stopTests, stopped, stopAnswer, repairTests, repaired, repairAnswer, zeroReport}
+use Rattle.floor.specs.Calls.{answer, bookTests, withBooking, booked, bookAnswer, stopTests, stopped, stopAnswer, repairTests, repaired, repairAnswer, zeroReport}
 use Rattle.floor.specs.Demand3.{Call, book, outcome, floorAfter}
-use Rattle.floor.specs.Together.{Presses, stops, repairs, Exchangeable, presses, booking, EitherOrder, reportTo, said, saidIn, Exchanged, BothBooked, TwoPhones, Together}
+use Rattle.floor.specs.Together.{Presses, stops, repairs, Exchangeable, presses, booking, EitherOrder, reportTo, said, saidIn, Exchanged, BothBooked, Together}
 use Rattle.floor.proofs.Sound.{Sound}
 use Rattle.floor.proofs.Pack.{well-sound}
 use Rattle.floor.proofs.First.{pack-view-well}
 use Rattle.floor.proofs.Calls.{Accepted, stop-keeps, book-runs}
 use Rattle.floor.proofs.Insertion.{insert-perm}
 use Rattle.floor.proofs.Tables.{run-on}
-use Rattle.floor.proofs.Lists.{passed}
+use Rattle.floor.proofs.Lists.{after-both, passed}
 use Rattle.floor.proofs.Forms.{Form, numberBy, floorBy, Answers, floor-bad, number-well, accepted, by-form, Went, went, Beside, number-first, number-second, floor-same, pressTests, pressTile, pressed, pressForm, press-answers, book-pos, bookForm, book-answers}
 
 -- ---- calls on different tiles are beside each other
@@ -73,7 +73,7 @@ module _ (t u : ℕ) (n : t ≢ u) where
   book-beside b h q = record {
     tests-first = λ m. book-tests b m (pressTile q (tileOf m u));
     tests-second = λ m. press-tests q m (booked m t b) refl (second-tile m (withMembers (tileOf m t) (insert b (membersOf m t))));
-    changes = λ m. ap (λ (l : List TileState). withCounters (withTiles m l) (record { last = b .number; booked = m .counters .booked + 1; delivered = m .counters .delivered }))
+    changes = λ m. ap (λ (l : List TileState). withCounters (withTiles m l) (withBooking (m .counters) (b .number)))
         (tiles-swap (λ x. withMembers x (insert b (x .members))) (pressTile q) m);
   }
 
@@ -104,11 +104,6 @@ said-first (booking n h q) f = refl
 said-second : {c e : Call} → Exchangeable c e → (f : Floor) → said f e ≡ (outcome f e .refusal, zeroReport)
 said-second (presses n p q) f = said-press q f
 said-second (booking n h q) f = said-press q f
-
-after-both : (f : Floor) (before cs : List Call) → floorAfter f (before ++ cs) ≡ floorAfter (floorAfter f before) cs
-unfolding floorAfter
-after-both f [] cs = refl
-after-both f (c ∷ before) cs = after-both (outcome f c .floor) before cs
 
 said-both : (f : Floor) (before cs : List Call) → saidIn f (before ++ cs) ≡ saidIn f before ++ saidIn (floorAfter f before) cs
 unfolding floorAfter saidIn

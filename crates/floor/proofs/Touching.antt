@@ -9,7 +9,7 @@ use lib.ListN.{getD, List·getD-eq-default}
 use lib.Seq.{getD-set-same, getD-set-other}
 use borrow.Author.Tests.{leb-false}
 use Rattle.laws.specs.Define.{tab, bit}
-use Rattle.laws.specs.Tables.{tab-at, tab-off}
+use Rattle.laws.proofs.Tables.{tab-at, tab-off}
 use Rattle.floor.specs.declared.Canister.{Canister}
 use Rattle.floor.specs.declared.Floor.{Floor}
 use Rattle.floor.specs.Settings.{total}

@@ -8,7 +8,7 @@ use lib.ListN.{getD}
 use borrow.Author.Tests.{ltb-true, not-true}
 use Rattle.laws.specs.Define.{allOf, allBelow, bit}
 use Rattle.laws.specs.Every.{All}
-use Rattle.laws.specs.Tests.{and-left, and-right}
+use Rattle.laws.proofs.Tests.{and-left, and-right}
 use Rattle.floor.specs.declared.Floor.{Floor}
 use Rattle.floor.specs.declared.Report.{Report}
 use Rattle.floor.specs.Settings.{total}

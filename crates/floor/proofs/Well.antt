@@ -10,17 +10,18 @@ use native.Mathlib.Decide.{decLe}
 use lib.Dec.{eqb}
 use lib.ListN.{length, getD, drop, length-drop, List·getD-eq-default}
 use lib.Seq.{getD-drop}
-use borrow.Author.Tests.{ltb-false, leb-false, eqb-true, eqb-false, le-ltb, lt-leb, eq-eqb}
+use borrow.Author.Tests.{ltb-false, leb-false, eqb-true, eqb-false, le-ltb, lt-leb, eq-eqb, ne-eqb}
 use Rattle.laws.specs.Define.{allOf, sum, bit}
 use Rattle.laws.specs.Every.{All, Pairs}
-use Rattle.laws.specs.Tests.{not-both, and-left, and-right, and-true, r-le, r-lt, r-eq, r-ne, r-and, r-or, r-all, r-pairs, r-below, refusal-none, refusal-all-false}
-use Rattle.laws.specs.Tables.{all-at, all-from-each}
-use Rattle.laws.specs.Lists.{all-mem, all-imp, all-both}
-use Rattle.laws.specs.SetBits.{bit-off, any-none, none-any}
+use Rattle.laws.proofs.Tests.{not-both, and-left, and-right, and-true, r-le, r-lt, r-eq, r-ne, r-and, r-or, r-all, r-pairs, r-below, refusal-none, refusal-all-false}
+use Rattle.laws.proofs.Tables.{all-at, all-from-each}
+use Rattle.laws.proofs.Lists.{all-mem, all-imp, all-both, no-length}
+use Rattle.laws.proofs.Search.{any-none, none-any}
+use Rattle.laws.proofs.SetBits.{bit-off}
 use Rattle.floor.specs.declared.Canister.{Canister}
 use Rattle.floor.specs.declared.Settings.{Settings}
 use Rattle.floor.specs.Sides.{sides}
-use Rattle.floor.specs.Settings.{total, spacing, span, isHopper, hoppersOf, settingsTests, settingsRefusal, settingsPass}
+use Rattle.floor.specs.Settings.{total, spacing, span, isHopper, hoppersOf, settingsTests, settingsRefusal, settingsPass, Ranged}
 use Rattle.floor.specs.Model.{TileState, Model, noTile, tileOf, runs, numbersOn}
 use Rattle.floor.specs.Memory.{head}
 use Rattle.floor.specs.Layouts.{layoutsSound}
@@ -56,6 +57,18 @@ settings-fact s = (λ h. into (refusal-none (settingsTests s) (omega arith) (eqb
 
     out : Measured s → All {A = Bool × ℕ} (λ x. x .0 ≡ false) (settingsTests s)
     out m = (le-ltb _ _ (m .columns-pos), (le-ltb _ _ (m .columns-few), (le-ltb _ _ (m .rows-pos), (le-ltb _ _ (m .rows-few), (le-ltb _ _ (m .two), (lt-leb _ _ (m .hoppers-on), (le-ltb _ _ (m .hoppers-some), (le-ltb _ _ (m .hoppers-few), (none-any (bit (s .sources)) (hoppersOf s) (m .no-source), (lt-leb _ _ (m .sources-on), (le-ltb _ _ (m .wide), (le-ltb _ _ (m .narrow), (le-ltb _ _ (m .moving), (lt-leb _ _ (m .slow), (lt-leb _ _ (m .short), (le-ltb _ _ (m .dense), tt))))))))))))))))
+
+-- by the number that they are refused by
+pub pass-of : (s : Settings) (r : ℕ) → r ≡ settingsRefusal s → r ≡ 0 → settingsPass s ≡ true
+unfolding settingsPass
+pass-of s r e z = eq-eqb (settingsRefusal s) 0 (sym e ∙ z)
+
+pub pass-not : (s : Settings) (r : ℕ) → r ≡ settingsRefusal s → (r ≡ 0 → ⊥) → settingsPass s ≡ false
+unfolding settingsPass
+pass-not s r e z = ne-eqb (settingsRefusal s) 0 (λ q. z (e ∙ q))
+
+pub ranged : (s : Settings) → settingsPass s ≡ true → Ranged s
+ranged s h = let m = settings-fact s .0 h in (m .rows-pos, m .rows-few, m .few)
 
 -- ---- places and sides
 pub inside-fact : (s : Settings) (c : Canister) → inside s c ≡ true ↔ Inside s c
@@ -96,10 +109,6 @@ abbrev pub SoundTile : Settings → ℕ → TileState → Type 0
 SoundTile s t x =
     (SoundHead s t x × (Faces s t (x .next) × Faces s t (x .token)))
     × (All (Inside s) (x .members) × Pairs (λ c e. (c .number < e .number) × Apart (spacing s) c e) (x .members))
-
-no-length : {A : Type 0} (l : List A) → length l ≡ 0 → l ≡ []
-no-length [] e = refl
-no-length (x ∷ l) e = absurd (omega arith)
 
 module _ (s : Settings) (M : Measured s) (t : ℕ) (x : TileState) where
   hopper-part : hopperSound (head x) ≡ true ↔ ((x .running ≡ 1) × ((x .distance ≡ 0) × ((x .next ≡ 0) × (length (x .members) ≡ 0))))

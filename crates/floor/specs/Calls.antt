@@ -7,6 +7,7 @@ use lib.ListN.{length, getD, replicate}
 use Rattle.laws.specs.Define.{tab, allOf, bit, refusal}
 use Rattle.floor.specs.declared.Canister.{Canister}
 use Rattle.floor.specs.declared.Settings.{Settings}
+use Rattle.floor.specs.declared.Counters.{Counters}
 use Rattle.floor.specs.declared.Layout.{Layout}
 use Rattle.floor.specs.declared.Floor.{Floor}
 use Rattle.floor.specs.declared.Delivery.{Delivery}
@@ -17,7 +18,7 @@ use Rattle.floor.specs.declared.Reading.{Reading}
 use Rattle.floor.specs.Settings.{total, spacing, isHopper, settingsRefusal}
 use Rattle.floor.specs.Layouts.{nameOk, setBelow, held, setOf, keepIn, forgetIn}
 use Rattle.floor.specs.Model.{TileState, Model, tileOf, runs, runsOf, membersOf, withTiles, withTile, withCounters, withLayouts, withMembers}
-use Rattle.floor.specs.Memory.{zeroTile, zeroCanister, zeroFloor, view, head, pack}
+use Rattle.floor.specs.Memory.{zeroCounters, zeroTile, zeroCanister, zeroFloor, view, head, pack}
 use Rattle.floor.specs.Well.{inside, apart, wellFormed}
 use Rattle.floor.specs.Route.{route}
 use Rattle.floor.specs.Signal.{signal, grantOf}
@@ -28,7 +29,7 @@ use Rattle.floor.specs.Reasons.{reasonOf, missingOf}
 unfoldable pub refusalOf : Floor → List (Bool × ℕ) → ℕ
 refusalOf f tests = refusal ((not (wellFormed f), 30) ∷ tests)
 
--- "A refusal gives its number … the same floor"; accepted: number 0, and the floor m
+-- "A refusal gives its number … the same floor"; accepted: number 0, and the floor m. Each call below reads its floor as a value, m = view f, and says what the value becomes; `pack` lays that out in memory, so that what the change leaves out stays as it was, and unused places are zero
 unfoldable pub answer : Floor → List (Bool × ℕ) → Model → Answer
 answer f tests m = let n = refusalOf f tests in record { refusal = n; floor = cond (eqb n 0) (pack m) f }
 
@@ -38,25 +39,30 @@ unfoldable pub freshTile : Settings → ℕ → TileState
 freshTile s t = record { running = 1; distance = cond (isHopper s t) 0 255; next = 0; token = 0; members = [] }
 
 unfoldable pub freshFloor : Settings → Model
-freshFloor s = record { settings = s; counters = record { last = 0; booked = 0; delivered = replicate 4 0 }; tiles = tab (total s) (freshTile s); layouts = [] }
+freshFloor s = record { settings = s; counters = zeroCounters; tiles = tab (total s) (freshTile s); layouts = [] }
 
 -- "Fresh: 1, 2, 3." "A refused … fresh floor gives the all-zero floor."
 unfoldable pub freshAnswer : Settings → Answer
 freshAnswer s = let n = settingsRefusal s in record { refusal = n; floor = cond (eqb n 0) (pack (freshFloor s)) zeroFloor }
 
 -- ---- booking
--- "Order for booking: 30, 4, 5, 6, 7, 31, 33, 34."
+-- "Order for booking: 30, 4, 5, 6, 7, 31, 33, 34.", after 30: by the settings, the last number, and whether the tile runs and what canisters l it has
+unfoldable pub bookingTests : Settings → ℕ → ℕ → Canister → ℕ → List Canister → List (Bool × ℕ)
+bookingTests s last t c running l =
+    (leb (total s) t, 4) ∷ (not (bit (s .sources) t), 5) ∷ (eqb (c .number) 0, 6) ∷ (not (inside s c), 7)
+    ∷ (not (eqb running 1), 31) ∷ (leb (c .number) last, 33) ∷ (not (allOf (apart (spacing s) c) l), 34) ∷ []
+
+-- on a floor; where this is unfolded, `bookingTests` is too
 unfoldable pub bookTests : Model → ℕ → Canister → List (Bool × ℕ)
-bookTests m t c =
-    (leb (total (m .settings)) t, 4) ∷ (not (bit (m .settings .sources) t), 5) ∷ (eqb (c .number) 0, 6)
-    ∷ (not (inside (m .settings) c), 7) ∷ (not (runsOf m t), 31) ∷ (leb (c .number) (m .counters .last), 33)
-    ∷ (not (allOf (apart (spacing (m .settings)) c) (membersOf m t)), 34) ∷ []
+unfolding bookingTests
+bookTests m t c = bookingTests (m .settings) (m .counters .last) t c (tileOf m t .running) (membersOf m t)
 
 -- "Booking adds the canister, sets last to its number and adds one to booked."
+abbrev pub withBooking : Counters → ℕ → Counters
+withBooking c n = record { last = n; booked = c .booked + 1; delivered = c .delivered }
+
 unfoldable pub booked : Model → ℕ → Canister → Model
-booked m t c =
-    withCounters (withTile m t (withMembers (tileOf m t) (insert c (membersOf m t))))
-    (record { last = c .number; booked = m .counters .booked + 1; delivered = m .counters .delivered })
+booked m t c = withCounters (withTile m t (withMembers (tileOf m t) (insert c (membersOf m t)))) (withBooking (m .counters) (c .number))
 
 unfoldable pub bookAnswer : Floor → ℕ → Canister → Answer
 bookAnswer f t c = let m = view f in answer f (bookTests m t c) (booked m t c)
@@ -132,7 +138,7 @@ delivered m = let r = route m in let s = signal r in deliveredBy s (grantOf r)
 unfoldable pub deliveryOf : List ℕ → Delivery
 deliveryOf l = record { numbers = tab 4 (λ k. getD l k 0); count = length l }
 
--- "The report gives every tile's grant and the delivered numbers"; "Deliveries are listed for each hopper, at most four apiece"; and why each tile stood
+-- "The report gives every tile's grant and the delivered numbers"; "Deliveries are listed for each hopper, at most four apiece"; and why each tile stood. A tile from C on has 0 in each list: what is read there is `noTile`, which grants nothing, and `reasonOf` says 0 where no tile is
 unfoldable pub reportOf : Model → Report
 reportOf m = let ds = delivered m in record { grants = tab 64 (grantOf (route m)); reasons = tab 64 (reasonOf (route m)); missing = tab 64 (missingOf (route m)); deliveries = tab 4 (λ k. deliveryOf (getD ds k [])) }
 

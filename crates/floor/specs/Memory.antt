@@ -14,6 +14,9 @@ use Rattle.floor.specs.declared.Floor.{Floor}
 use Rattle.floor.specs.Settings.{total}
 use Rattle.floor.specs.Model.{TileState, Model}
 
+abbrev pub zeroCounters : Counters
+zeroCounters = record { last = 0; booked = 0; delivered = replicate 4 0 }
+
 abbrev pub zeroTile : Tile
 zeroTile = record { running = 0; distance = 0; next = record { code = 0 }; token = record { code = 0 }; count = 0 }
 
@@ -29,7 +32,7 @@ zeroFloor =
     let s : Settings = record { columns = 0; rows = 0; hoppers = 0; sources = 0; width = 0; length = 0; gap = 0; travel = 0 } in
     record {
       settings = s;
-      counters = record { last = 0; booked = 0; delivered = replicate 4 0 };
+      counters = zeroCounters;
       tiles = replicate 64 zeroTile;
       canisters = replicate 1024 zeroCanister;
       layouts = replicate 8 zeroLayout;
@@ -129,7 +132,17 @@ layoutsFit l = eqb (length l) 8 && allOf isZeroLayout (drop (length (usedLayouts
 unfoldable pub fits : Floor → Bool
 fits f = stateFits f && layoutsFit (f .layouts)
 
--- ---- the memory of a floor with other counters, tiles and canisters; with other tiles; with other layouts
+-- ---- a tile in memory with another count; stopped; repaired
+abbrev pub withCount : Tile → ℕ → Tile
+withCount h n = record { running = h .running; distance = h .distance; next = h .next; token = h .token; count = n }
+
+abbrev pub stoppedHead : Tile → Tile
+stoppedHead h = record { running = 0; distance = 255; next = record { code = 0 }; token = record { code = 0 }; count = h .count }
+
+abbrev pub repairedHead : Tile → Tile
+repairedHead h = record { running = 1; distance = h .distance; next = h .next; token = h .token; count = h .count }
+
+-- ---- the memory of a floor with other counters, tiles and canisters; with other tiles; with other layouts; with other settings
 abbrev pub refilled : Floor → Counters → List Tile → List Canister → Floor
 refilled f c ts cs = record { settings = f .settings; counters = c; tiles = ts; canisters = cs; layouts = f .layouts }
 
@@ -138,3 +151,6 @@ retiled f ts = refilled f (f .counters) ts (f .canisters)
 
 abbrev pub relaid : Floor → List Layout → Floor
 relaid f ls = record { settings = f .settings; counters = f .counters; tiles = f .tiles; canisters = f .canisters; layouts = ls }
+
+abbrev pub refitted : Floor → Settings → Floor
+refitted f s = record { settings = s; counters = f .counters; tiles = f .tiles; canisters = f .canisters; layouts = f .layouts }

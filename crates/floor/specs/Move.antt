@@ -13,7 +13,7 @@ use Rattle.floor.specs.Settings.{total, span, isHopper, hoppersOf}
 use Rattle.floor.specs.Grid.{neighbour}
 use Rattle.floor.specs.Model.{TileState, Model, tileOf, nextOf, membersOf, withTiles, withCounters, withMembers, numbers}
 
--- "A tile whose arrow leads to a tile that granted it": the side along which it moves, none where it stands still; `ahead` is the grant of the tile that the arrow leads to, and opposite sides add up to five
+-- "A tile whose arrow leads to a tile that granted it": the side along which it moves, none where it stands still; `ahead` is the grant of the tile that the arrow leads to, and opposite sides add up to five: grant and arrow then face each other
 unfoldable pub wayOf : ℕ → ℕ → ℕ
 wayOf next ahead = cond (ltb 0 next && eqb (next + ahead) 5) next 0
 
@@ -48,7 +48,7 @@ unfoldable pub insertEach : List Canister → List Canister → List Canister
 insertEach [] l = l
 insertEach (c ∷ cs) l = insertEach cs (insert c l)
 
--- what a tile that grants a side takes in from the neighbour there
+-- what a tile that grants a side takes in from the neighbour there: `next` is the neighbour's arrow, and the grant ahead of it is this tile's own; where the two don't face each other the way is none, and along none nothing leaves
 abbrev pub arriving : Settings → ℕ → ℕ → List Canister → List Canister
 arriving s grant next members = leaving s (wayOf next grant) members
 
@@ -70,9 +70,12 @@ moveTile m g t =
 unfoldable pub deliveredBy : Model → (ℕ → ℕ) → List (List ℕ)
 deliveredBy m g = map (λ h. numbers (arrivals m g h)) (hoppersOf (m .settings))
 
+abbrev pub withDelivered : Counters → List ℕ → Counters
+withDelivered c l = record { last = c .last; booked = c .booked; delivered = l }
+
 -- "the delivered counter rises by one" for each, "and counted for each"
 unfoldable pub raised : Counters → List (List ℕ) → Counters
-raised c ds = record { last = c .last; booked = c .booked; delivered = tab 4 (λ k. getD (c .delivered) k 0 + length (getD ds k [])) }
+raised c ds = withDelivered c (tab 4 (λ k. getD (c .delivered) k 0 + length (getD ds k [])))
 
 -- "for all tiles together"
 unfoldable pub move : Model → (ℕ → ℕ) → Model

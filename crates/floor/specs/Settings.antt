@@ -1,7 +1,7 @@
 -- The settings of a floor, and the refusals 1 to 3 of settings.
 use mathlib.Core.Bool.{Bool}
 use mathlib.Core.List.{List, [], _∷_}
-use Prim.Native.Nat.{ℕ, _+_, _-_, _*_, _/_, _^_}
+use Prim.Native.Nat.{ℕ, _+_, _-_, _*_, _/_, _^_, _≤_}
 use lib.Dec.{leb, ltb, eqb}
 use lib.ListN.{length}
 use Rattle.laws.specs.Define.{bit, bitsBelow, anyOf, refusal}
@@ -53,3 +53,7 @@ settingsRefusal s = refusal (settingsTests s)
 -- "the settings pass 1 to 3"
 unfoldable pub settingsPass : Settings → Bool
 settingsPass s = eqb (settingsRefusal s) 0
+
+-- what a pass over the tiles in memory asks of the settings; settings that pass have it
+abbrev pub Ranged : Settings → Type 0
+Ranged s = (1 ≤ s .rows) × (s .rows ≤ 8) × (total s ≤ 64)

@@ -28,7 +28,7 @@ after k = bySide (1 ∷ 2 ∷ 3 ∷ 4 ∷ []) (2 ∷ 3 ∷ 4 ∷ 1 ∷ []) (3 �
 unfoldable pub following : (ℕ → Bool) → ℕ → ℕ
 following p k = firstOf p (after k)
 
--- "the turn, if none, becomes the first wanting side in order from west; if it no longer wants, the first side that wants, strictly after it"
+-- "the turn, if none, becomes the first wanting side in order from west; if it no longer wants, the first side that wants, strictly after it"; none (0) never wants, so a turn that is none goes to `following`, which then begins at west, and the answer is none where no side wants
 unfoldable pub chosen : (ℕ → Bool) → ℕ → ℕ
 chosen p k = cond (p k) k (following p k)
 

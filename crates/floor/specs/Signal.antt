@@ -30,15 +30,23 @@ unfoldable pub missing : Settings → ℕ → List Canister → ℕ
 missing s k [] = 0
 missing s k (c ∷ l) = max (lack s k c) (missing s k l)
 
--- k the turn just chosen. "None wants: turn none, no grant." "With the gap the tile grants that side, and its turn passes to the first wanting side strictly after it, coming round to itself if it is alone. Without, no grant, and the turn stays."
+-- n millimetres missing. "With the gap the tile grants that side, and its turn passes to the first wanting side strictly after it, coming round to itself if it is alone."
+abbrev pub granting : (ℕ → Bool) → ℕ → ℕ → Signal
+granting p k n = record { token = following p k; grant = k; turn = k; missing = n }
+
+-- "Without, no grant, and the turn stays."
+abbrev pub waiting : ℕ → ℕ → Signal
+waiting k n = record { token = k; grant = 0; turn = k; missing = n }
+
+-- k the turn just chosen. "None wants: turn none, no grant."
 unfoldable pub signalWith : Settings → List Canister → (ℕ → Bool) → ℕ → Signal
 signalWith s l p k =
     let n = missing s k l in
-    cond (ltb 0 k && eqb n 0) (record { token = following p k; grant = k; turn = k; missing = n }) (record { token = k; grant = 0; turn = k; missing = n })
+    cond (ltb 0 k && eqb n 0) (granting p k n) (waiting k n)
 
 -- one tile's, from what its neighbours show; a stopped tile keeps its turn and grants nothing
 unfoldable pub signalBy : Settings → Bool → ℕ → List Canister → (ℕ → Bool) → Signal
-signalBy s running token l p = cond running (signalWith s l p (chosen p token)) (record { token = token; grant = 0; turn = token; missing = 0 })
+signalBy s running token l p = cond running (signalWith s l p (chosen p token)) (waiting token 0)
 
 unfoldable pub signalTile : Settings → TileState → ℕ → ℕ → ℕ → ℕ → Signal
 signalTile s x west south north east = signalBy s (runs x) (x .token) (x .members) (requests west south north east)

@@ -53,6 +53,7 @@ inOrder s x y = ltb (x .number) (y .number) && apart (spacing s) x y
 unfoldable pub membersSound : Settings → List Canister → Bool
 membersSound s l = allOf (inside s) l && pairsOf (inOrder s) l
 
+-- the clauses on running, distance, arrow, turn and count are said once, of a tile in memory; a tile of the value is judged by the head that it has in memory
 unfoldable pub tileSound : Settings → ℕ → TileState → Bool
 tileSound s t x = headSound s t (head x) && membersSound s (x .members)
 

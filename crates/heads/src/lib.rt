@@ -1,10 +1,10 @@
 // Whether a tile in memory is as it must be, without its canisters.
 ghost use mathlib.Core.Path.{_≡_};
 ghost use Prim.Native.Nat.{_<_};
-ghost use Rattle.floor.specs.Settings.{total};
+ghost use Rattle.floor.specs.Settings.{total, Ranged};
 ghost use Rattle.floor.specs.Memory.{isZeroTile, headFits};
 ghost use Rattle.floor.specs.Well.{hopperSound, runningSound, stoppedSound, faces, headSound};
-ghost use Rattle.heads.specs.Head.{Sized, stateSound};
+ghost use Rattle.heads.specs.Head.{stateSound};
 use floor::Settings;
 use floor::Side;
 use floor::Tile;
@@ -45,7 +45,7 @@ pub fn stopped_ok(h: Tile) -> bool
 
 // Whether a side is none or faces a tile of the floor.
 pub fn faces_ok(s: Settings, t: usize, side: Side) -> bool
-    requires { ⌜ Sized s × (t < total s) ⌝ }
+    requires { ⌜ Ranged s × (t < total s) ⌝ }
     ensures { λ r. ⌜ r ≡ faces s t (side .code) ⌝ }
 {
     let all = tiles_of(s);
@@ -68,7 +68,7 @@ pub fn state_ok(s: Settings, t: usize, h: Tile) -> bool
 
 // A tile without its canisters.
 pub fn head_ok(s: Settings, t: usize, h: Tile) -> bool
-    requires { ⌜ Sized s × (t < total s) ⌝ }
+    requires { ⌜ Ranged s × (t < total s) ⌝ }
     ensures { λ r. ⌜ r ≡ headSound s t h ⌝ }
 {
     let state = state_ok(s, t, h);

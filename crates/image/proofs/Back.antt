@@ -10,7 +10,7 @@ use borrow.Author.Tests.{le-ltb, lt-ltb, lt-leb, ltb-true, eq-eqb}
 use lib.ListN.{length, getD, take, drop, length-append, length-take}
 use lib.Seq.{drop-at}
 use Rattle.laws.specs.Define.{tab, refusal}
-use Rattle.laws.specs.Tables.{tab-at, tab-off, filled}
+use Rattle.laws.proofs.Tables.{tab-at, tab-off, filled}
 use Rattle.laws.specs.Every.{All}
 use Rattle.wire.specs.Bytes.{fieldsOf, bytesOf, field, Fit, row-length, fields-bytes}
 use Rattle.floor.specs.declared.Canister.{Canister}

@@ -12,8 +12,8 @@ use lib.ListN.{length, getD, replicate}
 use borrow.Author.Tests.{eqb-true, ltb-true}
 use Rattle.laws.specs.Define.{tab}
 use Rattle.laws.specs.Every.{All}
-use Rattle.laws.specs.Tests.{and-left, and-right}
-use Rattle.laws.specs.Lists.{all-imp, all-both, all-unmap, cat-all}
+use Rattle.laws.proofs.Tests.{and-left, and-right}
+use Rattle.laws.proofs.Lists.{all-imp, all-both, all-unmap, cat-all}
 use Rattle.wire.specs.Bytes.{Fit}
 use Rattle.floor.specs.Settings.{total, isHopper, settingsPass, settingsRefusal}
 use Rattle.floor.specs.Layouts.{nameOk, layoutOk}

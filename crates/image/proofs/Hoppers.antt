@@ -12,11 +12,11 @@ use lib.Bits.{or-zero-l}
 use lib.ListN.{length, getD}
 use borrow.Author.Tests.{eq-eqb, ne-eqb, lt-ltb, le-ltb, ltb-false}
 use Rattle.laws.specs.Define.{sum, bit, bitsBelow, refusal}
-use Rattle.laws.specs.Tests.{refusal-none, refusal-all-false}
+use Rattle.laws.proofs.Tests.{refusal-none, refusal-all-false}
 use Rattle.laws.specs.Every.{All}
-use Rattle.laws.specs.Lists.{map-append, sum-append}
-use Rattle.laws.specs.Bits.{with-bit}
-use Rattle.laws.specs.SetBits.{bit-off, bits-all, bits-within}
+use Rattle.laws.proofs.Lists.{map-append, sum-append}
+use Rattle.laws.proofs.Bits.{with-bit}
+use Rattle.laws.proofs.SetBits.{bit-off, bits-all, bits-within}
 use Rattle.floor.specs.declared.Settings.{Settings}
 use Rattle.floor.specs.Settings.{total, hoppersOf, sizeTests, setTests, measureTests, settingsTests, settingsRefusal, settingsPass}
 use Rattle.floor.proofs.Sound.{Measured}

@@ -15,7 +15,7 @@ use lib.Seq.{take-at, drop-at, take-add, length-take-le}
 use borrow.Author.Tests.{le-leb, eq-eqb}
 use Rattle.laws.specs.Define.{refusal}
 use Rattle.laws.specs.Every.{All}
-use Rattle.laws.specs.Tests.{by-test, and-true, test-none}
+use Rattle.laws.proofs.Tests.{by-test, and-true, test-none}
 use Rattle.wire.specs.Bytes.{le, bytes, Bytes, le-bytes, bytes-le, bytes-drop}
 use Rattle.floor.specs.declared.Layout.{Layout}
 use Rattle.floor.specs.Layouts.{nameNumber, letters}

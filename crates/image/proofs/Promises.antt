@@ -11,7 +11,7 @@ use borrow.Author.Tests.{eqb-true, eq-eqb, ne-eqb, le-ltb, lt-ltb, not-true, not
 use lib.ListN.{length, take, drop, length-append}
 use lib.Seq.{take-append-seam, length-take-le}
 use Rattle.laws.specs.Define.{bit, bitsBelow, anyOf, refusal}
-use Rattle.laws.specs.Tests.{by-test, not-both, and-left, and-right, test-none}
+use Rattle.laws.proofs.Tests.{by-test, not-both, and-left, and-right, test-none}
 use Rattle.wire.specs.Bytes.{Bytes}
 use Rattle.wire.specs.Put.{put}
 use Rattle.floor.specs.declared.Floor.{Floor}

@@ -8,8 +8,8 @@ use native.Mathlib.Omega.{arith}
 use lib.Dec.{ltb}
 use lib.ListN.{length, drop, getD}
 use borrow.Author.Tests.{ltb-true, lt-ltb}
-use Rattle.laws.specs.Lists.{all-imp, all-true, true-all}
-use Rattle.laws.specs.Tests.{and-yes, and-right}
+use Rattle.laws.proofs.Lists.{all-imp, all-true, true-all}
+use Rattle.laws.proofs.Tests.{and-yes, and-right}
 use Rattle.wire.specs.Bytes.{field}
 use Rattle.floor.specs.Settings.{total}
 use Rattle.floor.specs.Layouts.{layoutsSound}

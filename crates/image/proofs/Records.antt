@@ -10,7 +10,7 @@ use borrow.Author.Tests.{ltb-false, eqb-true, eqb-false, lt-ltb, le-ltb, eq-eqb}
 use lib.ListN.{length, take, drop, length-append, length-drop, take-append-drop}
 use lib.Seq.{drop-at, drop-drop, length-take-le, take-append-add}
 use Rattle.laws.specs.Define.{refusal}
-use Rattle.laws.specs.Tests.{test-none}
+use Rattle.laws.proofs.Tests.{test-none}
 use Rattle.wire.specs.Bytes.{le, bytes, Bytes, bytes-length, le-bytes, bytes-le, bytes-drop}
 use Rattle.image.specs.Image.{recordOf, lengthIn, kindIn, bodyIn, restIn, ownFaults, recordFault, orElse}
 

@@ -9,7 +9,7 @@ unfoldable pub tab : {A : Type 0} → ℕ → (ℕ → A) → List A
 tab zero g = []
 tab (suc n) g = let x = g 0 in x ∷ tab n (λ k. g (suc k))
 
--- f (n - 1), .., f 1, f 0, joined into one list
+-- f (n - 1), .., f 1, f 0, joined into one list: downward, as the recursion goes; it is used where order does not matter (the numbers on a floor, what all hoppers took)
 unfoldable pub cat : {A : Type 0} → ℕ → (ℕ → List A) → List A
 cat zero f = []
 cat (suc n) f = f n ++ cat n f

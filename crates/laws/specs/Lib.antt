@@ -1,9 +1,3 @@
 pub mod Define
 pub mod Every
-pub mod Tests
-pub mod Tables
-pub mod Lists
-pub mod Search
-pub mod Count
-pub mod SetBits
-pub mod Bits
+pub mod Filled

@@ -5,7 +5,7 @@ use Prim.Native.Nat.{ℕ, _+_, _*_}
 use native.Mathlib.Omega.{arith}
 use lib.Dec.{eqb}
 use borrow.Author.Tests.{eqb-true, eq-eqb}
-use Rattle.laws.specs.Tests.{same-test, and-left, and-right, and-true}
+use Rattle.laws.proofs.Tests.{same-test, and-left, and-right, and-true}
 
 -- eight bytes as one number are 0 where each part is
 pub word-zero : (n a b : ℕ) → eqb (n + a * 4294967296 + b * 281474976710656) 0 ≡ (eqb n 0 && (eqb a 0 && eqb b 0))

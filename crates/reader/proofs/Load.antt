@@ -11,9 +11,9 @@ use borrow.Author.Tests.{lt-ltb, le-ltb, ne-eqb}
 use lib.ListN.{length, drop, getD, List·getD-eq-default}
 use lib.Seq.{drop-drop}
 use Rattle.laws.specs.Define.{tab, allOf, bitsBelow, refusal}
-use Rattle.laws.specs.Tests.{by-test}
-use Rattle.laws.specs.SetBits.{bits-within}
-use Rattle.laws.specs.Tables.{tab-length, tab-at, tab-same}
+use Rattle.laws.proofs.Tests.{by-test}
+use Rattle.laws.proofs.SetBits.{bits-within}
+use Rattle.laws.proofs.Tables.{tab-length, tab-at, tab-same}
 use Rattle.wire.specs.Bytes.{le, field}
 use Rattle.floor.specs.declared.Settings.{Settings}
 use Rattle.floor.specs.declared.Counters.{Counters}

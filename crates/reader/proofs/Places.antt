@@ -7,7 +7,8 @@ use native.Mathlib.Decide.{decLe}
 use borrow.Author.Tests.{lt-ltb, le-ltb}
 use lib.ListN.{length, drop, getD, set, replicate, length-replicate, length-set}
 use Rattle.laws.specs.Define.{tab}
-use Rattle.laws.specs.Tables.{Upto, From, filled, upto-turn, rest-turn}
+use Rattle.laws.specs.Filled.{Upto, From}
+use Rattle.laws.proofs.Tables.{filled, upto-turn, rest-turn}
 use Rattle.floor.specs.declared.Canister.{Canister}
 use Rattle.floor.specs.declared.Tile.{Tile}
 use Rattle.floor.specs.declared.Layout.{Layout}

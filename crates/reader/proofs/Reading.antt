@@ -10,7 +10,7 @@ use lib.Dec.{ltb}
 use borrow.Author.Tests.{lt-ltb, le-ltb, ltb-true, ltb-false}
 use lib.ListN.{length, take, drop, getD, replicate}
 use lib.Seq.{drop-drop}
-use Rattle.laws.specs.Tables.{filled}
+use Rattle.laws.proofs.Tables.{filled}
 use Rattle.wire.specs.Bytes.{le, fieldsOf, field}
 use Rattle.wire.specs.Fields.{field-in}
 use Rattle.floor.specs.Layouts.{nameNumber}

@@ -14,7 +14,7 @@ use borrow.Author.Tests.{lt-ltb, le-ltb, ne-eqb}
 use lib.ListN.{length, take, drop, getD, length-append, length-drop}
 use lib.Seq.{getD-take, getD-drop, take-suc, length-take-le}
 use Rattle.laws.specs.Define.{tab, allOf, refusal}
-use Rattle.laws.specs.Tables.{tab-length, tab-at, tab-same, filled}
+use Rattle.laws.proofs.Tables.{tab-length, tab-at, tab-same, filled}
 use Rattle.wire.specs.Bytes.{le}
 use Rattle.floor.specs.declared.Canister.{Canister}
 use Rattle.floor.specs.declared.Settings.{Settings}

@@ -9,7 +9,7 @@ use lib.ListN.{length, take, drop, getD, replicate, length-append, length-drop, 
 use lib.Seq.{length-take-le, take-suc, getD-drop}
 use Rattle.wire.specs.Bytes.{bytes, bytesOf, bytes-length, row-length}
 use Rattle.laws.specs.Define.{tab}
-use Rattle.laws.specs.Tables.{tab-length}
+use Rattle.laws.proofs.Tables.{tab-length}
 use Rattle.wire.specs.Put.{put, put-two, put-three, bytes-one}
 use Rattle.floor.specs.declared.Canister.{Canister}
 use Rattle.floor.specs.declared.Settings.{Settings}

@@ -9,21 +9,18 @@ use lib.Dec.{leb, ltb}
 use lib.ListN.{length, getD, set, replicate, length-set, getD-replicate}
 use lib.Seq.{getD-set-same, getD-set-other}
 use borrow.Author.Tests.{ltb-true, lt-ltb, le-ltb}
-use Rattle.laws.specs.Tables.{Upto, upto-turn, rest-turn, tab-off}
+use Rattle.laws.specs.Filled.{Upto}
+use Rattle.laws.proofs.Tables.{upto-turn, rest-turn, tab-off}
 use Rattle.floor.specs.declared.Settings.{Settings}
 use Rattle.floor.specs.declared.Tile.{Tile}
 use Rattle.floor.specs.declared.Floor.{Floor}
-use Rattle.floor.specs.Settings.{total, settingsPass}
+use Rattle.floor.specs.Settings.{total}
 use Rattle.floor.specs.Grid.{neighbour}
 use Rattle.floor.specs.Model.{TileState, noTile, tileOf}
 use Rattle.floor.specs.Memory.{zeroTile, headOf, stateOf, view, head, fits}
-use Rattle.floor.proofs.Well.{settings-fact}
 use Rattle.floor.proofs.Rows.{view-at}
 use Rattle.floor.proofs.Pack.{head-state}
-use Rattle.route.specs.Routed.{Ranged, Redone, within}
-
-pub ranged : (s : Settings) → settingsPass s ≡ true → Ranged s
-ranged s h = let m = settings-fact s .0 h in (m .rows-pos, m .rows-few, m .few)
+use Rattle.route.specs.Routed.{Redone, within}
 
 -- ---- a neighbour is a tile of the floor, or the number of no tile
 cond-le : (b : Bool) (x y n : ℕ) → (b ≡ true → x ≤ n) → y ≤ n → cond b x y ≤ n

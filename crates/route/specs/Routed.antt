@@ -2,10 +2,10 @@
 use mathlib.Core.Path.{_≡_}
 use mathlib.Core.Bool.{cond}
 use mathlib.Core.List.{List}
-use Prim.Native.Nat.{ℕ, _≤_}
+use Prim.Native.Nat.{ℕ}
 use lib.Dec.{ltb, eqb}
 use lib.ListN.{length, getD}
-use Rattle.laws.specs.Tables.{Upto, From}
+use Rattle.laws.specs.Filled.{Upto, From}
 use Rattle.floor.specs.declared.Settings.{Settings}
 use Rattle.floor.specs.declared.Heading.{Heading}
 use Rattle.floor.specs.declared.Tile.{Tile}
@@ -13,10 +13,6 @@ use Rattle.floor.specs.Settings.{total}
 use Rattle.floor.specs.Grid.{around}
 use Rattle.floor.specs.Memory.{zeroTile}
 use Rattle.floor.specs.Route.{headingOf}
-
--- rows and tiles within their ranges
-abbrev pub Ranged : Settings → Type 0
-Ranged s = (1 ≤ s .rows) × (s .rows ≤ 8) × (total s ≤ 64)
 
 -- the first n of the 64 tiles made anew by g, the others as they were
 abbrev pub Redone : ℕ → (ℕ → Tile) → List Tile → List Tile → Type 0

@@ -2,10 +2,10 @@
 
 ghost use mathlib.Core.Path.{_≡_};
 ghost use Prim.Native.Nat.{_≤_};
-ghost use Rattle.laws.specs.Tables.{Upto};
-ghost use Rattle.floor.specs.Settings.{total};
+ghost use Rattle.laws.specs.Filled.{Upto};
+ghost use Rattle.floor.specs.Settings.{total, Ranged};
 ghost use Rattle.floor.specs.Route as R;
-ghost use Rattle.route.specs.Routed.{Ranged, Redone, within, distanceIn, routedTile, routedAt};
+ghost use Rattle.route.specs.Routed.{Redone, within, distanceIn, routedTile, routedAt};
 use floor::Heading;
 use floor::Settings;
 use floor::Side;

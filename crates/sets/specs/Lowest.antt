@@ -10,7 +10,7 @@ use lib.Pow.{shr-shr}
 use lib.ListN.{getD}
 use lib.Count.{under, trailingZeros}
 use Rattle.laws.specs.Define.{bit, bitsBelow}
-use Rattle.laws.specs.Lists.{map-append}
+use Rattle.laws.proofs.Lists.{map-append}
 
 half-bit : (x k : ℕ) → bit x (suc k) ≡ bit (x / 2) k
 unfolding bit

@@ -1,89 +1,24 @@
--- The tests of the settings in three groups, one for each refusal, and what settings that pass a group are like.
-use mathlib.Core.Path.{_≡_, refl, sym}
-use mathlib.Core.Bool.{Bool, true, false, cond, not, _||_, true≢false}
-use Prim.Native.Nat.{ℕ, _-_, _/_, _^_, _≤_, _<_}
-use native.Mathlib.Omega.{arith}
-use native.Mathlib.Nat.{mul-le-mul}
-use lib.Dec.{leb, ltb}
-use lib.ListN.{length}
-use borrow.Author.Tests.{leb-false, ltb-true, ltb-false, le-leb, lt-leb}
-use Rattle.laws.specs.Define.{anyOf, bit, bitsBelow, refusal}
-use Rattle.laws.specs.SetBits.{bits-within}
+-- The tests of settings in groups, one for each refusal: whether some test of the group holds.
+use mathlib.Core.Bool.{Bool}
+use mathlib.Core.List.{List, []}
+use Prim.Native.Nat.{ℕ}
+use lib.ListN.{take}
+use Rattle.laws.specs.Define.{anyOf}
 use Rattle.floor.specs.declared.Settings.{Settings}
-use Rattle.floor.specs.Settings.{total, spacing, span, hoppersOf, settingsTests, settingsRefusal}
+use Rattle.floor.specs.Settings.{sizeTests, setTests, measureTests}
+
+abbrev pub wrong : List (Bool × ℕ) → Bool
+wrong tests = anyOf (λ x. x .0) tests
 
 unfoldable pub sizesWrong : Settings → Bool
-sizesWrong s = ltb (s .columns) 1 || (ltb 8 (s .columns) || (ltb (s .rows) 1 || (ltb 8 (s .rows) || ltb (total s) 2)))
+sizesWrong s = wrong (sizeTests s [])
 
 unfoldable pub setsWrong : Settings → Bool
-setsWrong s =
-    leb (2 ^ total s) (s .hoppers)
-    || (ltb (length (hoppersOf s)) 1 || (ltb 4 (length (hoppersOf s)) || (anyOf (bit (s .sources)) (hoppersOf s) || leb (2 ^ total s) (s .sources))))
-
-unfoldable pub rulesWrong : Settings → Bool
-rulesWrong s = ltb (s .width) 2 || (ltb 60000 (s .width) || (ltb (s .travel) 1 || (leb (s .length) (s .travel) || leb (s .width) (spacing s))))
+setsWrong s = wrong (setTests s [])
 
 unfoldable pub measuresWrong : Settings → Bool
-measuresWrong s = rulesWrong s || ltb 3 (span s / spacing s)
+measuresWrong s = wrong (measureTests s)
 
--- ---- parts of a test that failed
-pub or-off-left : (a b : Bool) → (a || b) ≡ false → a ≡ false
-or-off-left true b h = absurd (true≢false h)
-or-off-left false b h = refl
-
-pub or-off-right : (a b : Bool) → (a || b) ≡ false → b ≡ false
-or-off-right true b h = absurd (true≢false h)
-or-off-right false b h = h
-
--- ---- the three groups are the list of tests
-pick-or : {A : Type 0} (a b : Bool) (x y : A) → cond a x (cond b x y) ≡ cond (a || b) x y
-pick-or true b x y = refl
-pick-or false b x y = refl
-
-or-assoc : (a b c : Bool) → ((a || b) || c) ≡ (a || (b || c))
-or-assoc true b c = refl
-or-assoc false b c = refl
-
-pub refusal-groups : (s : Settings) → settingsRefusal s ≡ cond (sizesWrong s) 1 (cond (setsWrong s) 2 (cond (measuresWrong s) 3 0))
-unfolding settingsRefusal settingsTests refusal sizesWrong setsWrong measuresWrong rulesWrong
-refusal-groups s = simp (pick-or, or-assoc) refl
-
--- ---- what settings that pass the first group are like
-pub few-tiles : (s : Settings) → sizesWrong s ≡ false → total s ≤ 64
-unfolding sizesWrong
-few-tiles s h =
-    let h1 = or-off-right (ltb (s .columns) 1) (ltb 8 (s .columns) || (ltb (s .rows) 1 || (ltb 8 (s .rows) || ltb (total s) 2))) h in
-    let h2 = or-off-right (ltb 8 (s .columns)) (ltb (s .rows) 1 || (ltb 8 (s .rows) || ltb (total s) 2)) h1 in
-    let h3 = or-off-right (ltb (s .rows) 1) (ltb 8 (s .rows) || ltb (total s) 2) h2 in
-    mul-le-mul (ltb-false 8 (s .columns) (or-off-left (ltb 8 (s .columns)) (ltb (s .rows) 1 || (ltb 8 (s .rows) || ltb (total s) 2)) h1))
-    (ltb-false 8 (s .rows) (or-off-left (ltb 8 (s .rows)) (ltb (total s) 2) h3))
-
--- ---- what the rules say before the division
-pub rules-length : (s : Settings) → rulesWrong s ≡ false → (0 < s .length) × (s .length < s .width)
-unfolding rulesWrong
-rules-length s h =
-    let h1 = or-off-right (ltb (s .width) 2) (ltb 60000 (s .width) || (ltb (s .travel) 1 || (leb (s .length) (s .travel) || leb (s .width) (spacing s)))) h in
-    let h2 = or-off-right (ltb 60000 (s .width)) (ltb (s .travel) 1 || (leb (s .length) (s .travel) || leb (s .width) (spacing s))) h1 in
-    let h3 = or-off-right (ltb (s .travel) 1) (leb (s .length) (s .travel) || leb (s .width) (spacing s)) h2 in
-    let slow : s .travel < s .length = leb-false (s .length) (s .travel) (or-off-left (leb (s .length) (s .travel)) (leb (s .width) (spacing s)) h3) in
-    let short : spacing s < s .width = leb-false (s .width) (spacing s) (or-off-right (leb (s .length) (s .travel)) (leb (s .width) (spacing s)) h3) in
-    (omega arith, omega arith)
-
--- ---- refusal 2, branch by branch
-not-ltb : (m n : ℕ) → not (ltb m n) ≡ leb n m
-not-ltb m n = go (ltb m n) refl
-  where
-    go : (b : Bool) → ltb m n ≡ b → not b ≡ leb n m
-    go true e = sym (lt-leb n m (ltb-true m n e))
-    go false e = sym (le-leb n m (ltb-false m n e))
-
-pub hoppers-off : (s : Settings) → ltb (s .hoppers) (2 ^ total s) ≡ false → true ≡ setsWrong s
-unfolding setsWrong
-hoppers-off s h = rw (le-leb (2 ^ total s) (s .hoppers) (ltb-false (s .hoppers) (2 ^ total s) h))
-
-pub hoppers-on : (s : Settings) {n : ℕ} {own on : Bool} → total s ≤ 64 → ltb (s .hoppers) (2 ^ total s) ≡ true → n ≡ length (bitsBelow (s .hoppers) 64) → own ≡ anyOf (bit (s .sources)) (bitsBelow (s .hoppers) 64)
-    → on ≡ ltb (s .sources) (2 ^ total s) → (ltb n 1 || (ltb 4 n || (own || not on))) ≡ setsWrong s
-unfolding setsWrong hoppersOf
-hoppers-on s few h e p q =
-    let l : s .hoppers < 2 ^ total s = ltb-true (s .hoppers) (2 ^ total s) h in
-    rw (e, p, q, bits-within (s .hoppers) (total s) 64 few l, lt-leb (2 ^ total s) (s .hoppers) l, not-ltb (s .sources) (2 ^ total s))
+-- those of the measures before the division
+unfoldable pub rulesWrong : Settings → Bool
+rulesWrong s = wrong (take 5 (measureTests s))

@@ -1,6 +1,5 @@
 -- What Route leaves of a well-formed floor is read back as it was packed, and Signal may go on from it.
 use mathlib.Core.Path.{_≡_, sym, ap, _∙_}
-use mathlib.Core.Logic.{inl, inr}
 use mathlib.Core.Bool.{true}
 use Prim.Native.Nat.{ℕ, zero, suc, _≤_, _<_}
 use native.Mathlib.Omega.{arith}
@@ -14,24 +13,13 @@ use Rattle.floor.specs.Memory.{headOf, stateOf, view, unused, build, pack, fits
 use Rattle.floor.specs.Well.{wellFormed}
 use Rattle.floor.specs.Route.{route}
 use Rattle.floor.specs.Signal.{signal}
-use Rattle.floor.proofs.Sound.{Faces}
+use Rattle.floor.proofs.Well.{faces-le}
 use Rattle.floor.proofs.Rows.{view-settings, Placed}
 use Rattle.floor.proofs.Pack.{state-packed, view-pack, fits-pack, well-sound, well-few, well-settings, well-placed}
 use Rattle.floor.proofs.Capacity.{sound-small}
 use Rattle.route.proofs.RouteFloor.{route-settings, route-length, route-token, route-members}
 use Rattle.signal.specs.Signalling.{Ready}
 use Rattle.signal.proofs.SignalFloor.{signal-settings, signal-length, signal-members}
-
--- a turn that is none or faces a tile is one of the numbers up to 4
-faces-le : (s : Settings) (t k : ℕ) → Faces s t k → k ≤ 4
-unfolding neighbour
-faces-le s t zero h = omega arith
-faces-le s t (suc zero) h = omega arith
-faces-le s t (suc (suc zero)) h = omega arith
-faces-le s t (suc (suc (suc zero))) h = omega arith
-faces-le s t (suc (suc (suc (suc zero)))) h = omega arith
-faces-le s t (suc (suc (suc (suc (suc k))))) (inl e) = absurd (omega arith)
-faces-le s t (suc (suc (suc (suc (suc k))))) (inr h) = absurd (omega arith)
 
 module _ (f : Floor) (w : wellFormed f ≡ true) where
   abbrev m : Model

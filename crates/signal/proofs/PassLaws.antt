@@ -8,7 +8,7 @@ use lib.Dec.{ltb}
 use borrow.Author.Tests.{lt-ltb, le-ltb}
 use mathlib.Core.Bool.{cond}
 use lib.ListN.{getD, set, take, replicate, length-set, getD-replicate, length-replicate, List·getD-eq-default}
-use Rattle.laws.specs.Tables.{upto-turn, rest-turn}
+use Rattle.laws.proofs.Tables.{upto-turn, rest-turn}
 use Rattle.floor.specs.declared.Canister.{Canister}
 use Rattle.floor.specs.declared.Settings.{Settings}
 use Rattle.floor.specs.declared.Tile.{Tile}

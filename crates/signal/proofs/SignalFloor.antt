@@ -10,7 +10,7 @@ use lib.Seq.{take-take}
 use lib.Dec.{ltb, eqb}
 use borrow.Author.Tests.{lt-ltb, le-ltb}
 use Rattle.laws.specs.Define.{tab, refusal}
-use Rattle.laws.specs.Tables.{tab-length, tab-at, filled}
+use Rattle.laws.proofs.Tables.{tab-length, tab-at, filled}
 use Rattle.floor.specs.declared.Canister.{Canister}
 use Rattle.floor.specs.declared.Tile.{Tile}
 use Rattle.floor.specs.declared.Floor.{Floor}

@@ -10,8 +10,8 @@ use lib.Seq.{take-take, take-all, length-take-le, getD-take, getD-drop}
 use borrow.Author.Tests.{lt-ltb, eqb-true}
 use Rattle.laws.specs.Define.{cat, keep, allOf, pairsOf}
 use Rattle.laws.specs.Every.{All, Pairs}
-use Rattle.laws.specs.Tests.{and-left, and-right}
-use Rattle.laws.specs.Lists.{all-imp, all-map, all-true, keep-append, map-append, perm-of}
+use Rattle.laws.proofs.Tests.{and-left, and-right}
+use Rattle.laws.proofs.Lists.{all-imp, all-map, all-true, keep-all, keep-none, keep-append, map-append, perm-of}
 use Rattle.floor.specs.declared.Canister.{Canister}
 use Rattle.floor.specs.declared.Tile.{Tile}
 use Rattle.floor.specs.declared.Floor.{Floor}
@@ -24,7 +24,7 @@ use Rattle.unique.specs.Differ.{differ, differ-keep, Runs, runs-of}
 use Rattle.unique.specs.Order.{pairs-place}
 use Rattle.soundness.specs.Code.{counted}
 use Rattle.soundness.proofs.Branches.{zero-off, count-fits}
-use Rattle.soundness.proofs.Joins.{keep-all, keep-none, map-take, map-drop, cat-same, cat-rest, cat-length, blocks-perm}
+use Rattle.soundness.proofs.Joins.{map-take, map-drop, cat-same, cat-rest, cat-length, blocks-perm}
 
 -- the places of tile t that are used
 abbrev pub usedOf : Floor → ℕ → List Canister

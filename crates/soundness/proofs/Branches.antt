@@ -9,7 +9,7 @@ use lib.ListN.{take, drop}
 use lib.Dec.{ltb}
 use borrow.Author.Tests.{leb-true, le-leb, lt-leb, lt-ltb, le-ltb}
 use Rattle.laws.specs.Define.{allOf, pairsOf}
-use Rattle.laws.specs.Tests.{and-yes}
+use Rattle.laws.proofs.Tests.{and-yes}
 use Rattle.floor.specs.declared.Canister.{Canister}
 use Rattle.floor.specs.declared.Settings.{Settings}
 use Rattle.floor.specs.declared.Tile.{Tile}

@@ -1,4 +1,4 @@
--- Lists joined over the numbers below n, lists cut into blocks of sixteen, and what a filter keeps.
+-- Lists joined over the numbers below n, and lists cut into blocks of sixteen.
 use mathlib.Core.Path.{_≡_, refl, sym, ap}
 use mathlib.Core.Bool.{Bool, true, false}
 use mathlib.Core.List.{List, [], _∷_, _++_, map, List·Permᴰ, List·Permᴰ·nil, List·Permᴰ·trans, Permᴰ·append-left}
@@ -9,21 +9,10 @@ use lib.ListN.{length, getD, take, drop, length-append}
 use lib.Seq.{take-add}
 use Rattle.laws.specs.Define.{cat, keep}
 use Rattle.laws.specs.Every.{All}
-use Rattle.laws.specs.Lists.{all-append, keep-append, swap-append}
+use Rattle.laws.proofs.Lists.{all-append, keep-append, swap-append}
 use Rattle.floor.specs.declared.Tile.{Tile}
 use Rattle.floor.specs.Memory.{zeroTile}
 use Rattle.soundness.specs.Code.{counted}
-
--- ---- a filter that keeps all, or none
-pub keep-all : {A : Type 0} (p : A → Bool) (l : List A) → All (λ x. p x ≡ true) l → keep p l ≡ l
-unfolding keep
-keep-all p [] h = refl
-keep-all {A} p (x ∷ l) h = rw (h .0) (ap (λ (r : List A). x ∷ r) (keep-all p l (h .1)))
-
-pub keep-none : {A : Type 0} (p : A → Bool) (l : List A) → All (λ x. p x ≡ false) l → keep p l ≡ []
-unfolding keep
-keep-none p [] h = refl
-keep-none p (x ∷ l) h = rw (h .0) (keep-none p l (h .1))
 
 -- ---- parts of a mapped list
 pub map-take : {A B : Type 0} (f : A → B) (n : ℕ) (l : List A) → map f (take n l) ≡ take n (map f l)

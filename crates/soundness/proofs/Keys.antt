@@ -6,7 +6,8 @@ use native.Mathlib.Omega.{arith}
 use native.Mathlib.Decide.{decLe}
 use lib.ListN.{length, getD, set, drop, replicate, length-map, List·getD-map}
 use lib.Seq.{ext-getD, getD-take, getD-drop}
-use Rattle.laws.specs.Tables.{Upto, From, upto-turn, rest-turn}
+use Rattle.laws.specs.Filled.{Upto, From}
+use Rattle.laws.proofs.Tables.{upto-turn, rest-turn}
 use Rattle.floor.specs.declared.Canister.{Canister}
 use Rattle.floor.specs.declared.Floor.{Floor}
 use Rattle.floor.specs.Model.{numbers}

@@ -11,22 +11,21 @@ use lib.ListN.{length}
 use borrow.Author.Tests.{ltb-true, lt-ltb, le-ltb, eq-eqb, ne-eqb}
 use Rattle.laws.specs.Define.{allOf, pairsOf, allBelow}
 use Rattle.laws.specs.Every.{All, Pairs}
-use Rattle.laws.specs.Tests.{same-test, and-left, and-right, and-true, and-yes, r-id, r-and, r-lt, r-pairs}
-use Rattle.laws.specs.Tables.{below-at, below-of}
-use Rattle.laws.specs.Lists.{all-imp, all-both, all-map, all-unmap, all-true, true-all, cat-all}
+use Rattle.laws.proofs.Tests.{same-test, and-left, and-right, and-true, and-yes, r-id, r-and, r-lt, r-pairs}
+use Rattle.laws.proofs.Tables.{below-at, below-of}
+use Rattle.laws.proofs.Lists.{all-imp, all-both, all-map, all-unmap, all-true, true-all, cat-all, no-length}
 use Rattle.floor.specs.declared.Canister.{Canister}
 use Rattle.floor.specs.declared.Settings.{Settings}
 use Rattle.floor.specs.declared.Floor.{Floor}
-use Rattle.floor.specs.Settings.{total, spacing, hoppersOf, settingsRefusal, settingsPass}
+use Rattle.floor.specs.Settings.{total, spacing, hoppersOf, settingsPass, Ranged}
 use Rattle.floor.specs.Model.{tileOf, numbers, numbersOn}
 use Rattle.floor.specs.Memory.{isZeroCanister, headOf, view, block, tileFits}
 use Rattle.floor.specs.Well.{headSound, inside, apart, inOrder, membersSound, tileSound, numbersSound, countersSound, stateSound, stateWell, wellFormed}
-use Rattle.floor.proofs.Well.{settings-fact, pairs-imp}
+use Rattle.floor.proofs.Well.{settings-fact, ranged, pairs-imp}
 use Rattle.floor.proofs.Rows.{state-fits-of, state-fit-at, view-length}
 use Rattle.floor.proofs.Pack.{well-parts}
 use Rattle.floor.proofs.LayoutPlaces.{placeTest, layouts-code}
 use Rattle.unique.specs.Differ.{differ, Runs}
-use Rattle.heads.specs.Head.{Sized}
 use Rattle.places.specs.Place.{memberSound}
 use Rattle.soundness.specs.Tile.{usedSound, tileTest, headTest, placesTest}
 use Rattle.soundness.specs.Code.{tilesTest, counted}
@@ -37,10 +36,6 @@ use Rattle.soundness.proofs.Blocks.{usedOf, Fit, used-off, tile-view, n
 -- a number from 1 to the last booked
 abbrev pub Numbered : ℕ → ℕ → Type 0
 Numbered last n = (ltb 0 n && leb n last) ≡ true
-
-empty-of : (l : List ℕ) → length l ≡ 0 → l ≡ []
-empty-of [] e = refl
-empty-of (x ∷ l) e = absurd (omega arith)
 
 some-fails : (p : ℕ → Bool) (n t : ℕ) → t < n → p t ≡ false → allBelow p n ≡ false
 some-fails p n t l h = go (allBelow p n) refl
@@ -213,22 +208,14 @@ module _ (f : Floor) (lt : length (f .tiles) ≡ 64) (lc : length (f .canisters)
   well-empty p h z =
       let few = few-of-pass p in
       let fit = fit-each f h in
-      let none : numbersOn (view f) ≡ [] = empty-of (numbersOn (view f)) (count-view f lc few fit ∙ z) in
+      let none : numbersOn (view f) ≡ [] = no-length (numbersOn (view f)) (count-view f lc few fit ∙ z) in
       let d : differ (numbers (f .canisters)) ≡ true = differ-view f lc few fit (positive-each f h) ∙ ap (pairsOf (λ x y. not (eqb x y))) none in
       let count = countersSound (length (hoppersOf (f .settings))) (f .counters) (counted (f .tiles) 64) in
       sym (and-yes count) ∙ ap (λ (b : Bool). count && b) (sym d) ∙ well-tiled p h
 
 -- ---- the settings
-pub pass-of : (s : Settings) (r : ℕ) → r ≡ settingsRefusal s → r ≡ 0 → settingsPass s ≡ true
-unfolding settingsPass
-pass-of s r e z = eq-eqb (settingsRefusal s) 0 (sym e ∙ z)
-
-pub pass-not : (s : Settings) (r : ℕ) → r ≡ settingsRefusal s → (r ≡ 0 → ⊥) → settingsPass s ≡ false
-unfolding settingsPass
-pass-not s r e z = ne-eqb (settingsRefusal s) 0 (λ q. z (e ∙ q))
-
-pub pass-sized : (s : Settings) → settingsPass s ≡ true → Sized s × (s .length ≤ s .width)
-pass-sized s h = let m = settings-fact s .0 h in ((m .rows-pos, m .rows-few, m .few), omega (arith, m .short))
+pub pass-sized : (s : Settings) → settingsPass s ≡ true → Ranged s × (s .length ≤ s .width)
+pass-sized s h = let m = settings-fact s .0 h in (ranged s h, omega (arith, m .short))
 
 -- ---- with the layouts
 no-more : (a : Bool) → false ≡ (a && false)

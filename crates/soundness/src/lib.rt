@@ -3,9 +3,8 @@ ghost use mathlib.Core.Path.{_≡_};
 ghost use mathlib.Core.Bool.{true};
 ghost use Prim.Native.Nat.{_≤_, _<_, _^_};
 ghost use lib.ListN.{length};
-ghost use Rattle.floor.specs.Settings.{hoppersOf, settingsPass};
+ghost use Rattle.floor.specs.Settings.{hoppersOf, settingsPass, Ranged};
 ghost use Rattle.floor.specs.Well.{countersSound, stateWell, wellFormed};
-ghost use Rattle.heads.specs.Head.{Sized};
 ghost use Rattle.soundness.specs.Tile.{headTest, placesTest};
 ghost use Rattle.soundness.specs.Code.{counted};
 use chains::numbers_differ;
@@ -33,7 +32,7 @@ const NONE: Canister = Canister {
 
 // A tile without its canisters.
 pub fn head_test(s: Settings, t: usize, h: Tile) -> bool
-    requires { ⌜ Sized s ⌝ }
+    requires { ⌜ Ranged s ⌝ }
     ensures { λ r. ⌜ r ≡ headTest s t h ⌝ }
 {
     let fits = head_fits(s, t, h);

@@ -5,7 +5,7 @@ use Prim.Native.Nat.{ℕ, zero, suc, _<_}
 use native.Mathlib.Omega.{arith}
 use lib.ListN.{length, getD, length-map}
 use Rattle.laws.specs.Define.{tab}
-use Rattle.laws.specs.Tables.{tab-same}
+use Rattle.laws.proofs.Tables.{tab-same}
 use Rattle.floor.specs.declared.Canister.{Canister}
 use Rattle.floor.specs.declared.Delivery.{Delivery}
 use Rattle.floor.specs.declared.Members.{Members}
@@ -28,11 +28,6 @@ listed m l d h e =
     same : tab 4 (λ k. getD (m .items) k zeroCanister .number) ≡ tab 4 (λ k. getD (numbers l) k 0)
     same = tab-same 4 (λ k. getD (m .items) k zeroCanister .number) (λ k. getD (numbers l) k 0) (λ k i. ap (λ (c : Canister). c .number) (h .1 k (omega arith)) ∙ sym (number-at l k))
 
--- within a list, what would be read beyond it does not matter; the walk of the code reads an empty list of numbers there
-pub any-default : {A : Type 0} (l : List A) (k : ℕ) (y z : A) → k < length l → getD l k y ≡ getD l k z
-any-default [] k y z h = absurd (omega arith)
-any-default (x ∷ l) zero y z h = refl
-any-default (x ∷ l) (suc k) y z h = any-default l k y z (omega arith)
-
+-- what the walk of the code reads beyond a list of deliveries
 abbrev pub beyond : Delivery
 beyond = record { numbers = []; count = 0 }

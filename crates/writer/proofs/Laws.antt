@@ -11,8 +11,8 @@ use lib.Seq.{length-take-le, take-suc, drop-cons}
 use lib.Dec.{ltb, eqb}
 use borrow.Author.Tests.{eq-eqb, ne-eqb}
 use Rattle.laws.specs.Define.{tab, bitsBelow}
-use Rattle.laws.specs.SetBits.{bits-within}
-use Rattle.laws.specs.Tables.{tab-same}
+use Rattle.laws.proofs.SetBits.{bits-within}
+use Rattle.laws.proofs.Tables.{tab-same}
 use Rattle.wire.specs.Bytes.{bytes}
 use Rattle.wire.specs.Put.{put, put-two, put-three}
 use Rattle.floor.specs.declared.Canister.{Canister}

@@ -2,13 +2,13 @@ use mathlib.Core.Path.{_≡_, refl, sym, ap, _∙_}
 use Prim.Native.Nat.{_+_, _*_, _%_, _-_, _≤_}
 use native.Mathlib.Omega.{arith}
 use lib.ListN.{length, getD, set, length-set, length-replicate}
-use Rattle.laws.specs.Tables.{upto-turn}
+use Rattle.laws.proofs.Tables.{upto-turn}
 use Rattle.floor.specs.declared.Floor.{Floor}
 use Rattle.floor.specs.Memory.{view, zeroCanister}
 use Rattle.floor.specs.Calls.{bookAnswer, bookTests, booked}
 use Rattle.floor.proofs.Pack.{well-few, well-measured}
 use Rattle.floor.proofs.Sized.{tiles-length, canisters-length, items-length}
-use Rattle.book.proofs.Answers.{malformed, formed, answer-refused, answer-by}
+use Rattle.floor.proofs.Answers.{malformed, formed, answer-refused, answer-by}
 use Rattle.book.proofs.Tests.{book-fits}
 use Rattle.book.proofs.Booking.{withPlaces, Put, put-none, put-turn, Read, own-few, book-number, book-accepted, book-ready, booked-pack}
 use borrow.Author.Needs.{needs}

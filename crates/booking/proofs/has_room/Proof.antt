@@ -3,7 +3,7 @@ use Prim.Native.Nat.{ℕ, _-_, _≤_}
 use native.Mathlib.Omega.{arith}
 use lib.ListN.{length, take}
 use Rattle.laws.specs.Define.{allOf}
-use Rattle.laws.specs.Tables.{all-zero, all-step, ended}
+use Rattle.laws.proofs.Tables.{all-zero, all-step, ended}
 use Rattle.floor.specs.Settings.{spacing}
 use Rattle.floor.specs.Memory.{zeroCanister}
 use Rattle.floor.specs.Well.{apart}

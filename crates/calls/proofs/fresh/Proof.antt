@@ -1,5 +1,6 @@
 use mathlib.Core.Path.{sym, _∙_}
-use Rattle.calls.proofs.Answers.{fresh-refused, fresh-accepted, fresh-pass}
+use Rattle.floor.proofs.Well.{pass-of}
+use Rattle.calls.proofs.Answers.{fresh-refused, fresh-accepted}
 use borrow.Author.Needs.{needs}
 use Rattle.calls.proofs.fresh.Statement.{statement}
 use Rattle.calls.proofs.fresh.Tie as tie
@@ -24,7 +25,7 @@ returns c = let g = c .before .before .before .args in
 fresh-floor-requires : tie.Need-fresh-floor-requires
 fresh-floor-requires c κs = let g = c .before .before .args in
     let n = c .before .settings-refusal in
-    fresh-pass g.settings (n .result) (n .ensures) (c .if1 .left)
+    pass-of g.settings (n .result) (n .ensures) (c .if1 .left)
 
 returns-2 : tie.Need-returns-2
 returns-2 c = let g = c .before .before .before .args in

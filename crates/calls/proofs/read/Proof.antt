@@ -4,7 +4,7 @@ use borrow.Author.Tests.{not-true, not-false}
 use Rattle.floor.specs.Memory.{view}
 use Rattle.floor.specs.Calls.{readTests}
 use Rattle.changes.proofs.Tests.{read-on}
-use Rattle.book.proofs.Answers.{malformed, formed}
+use Rattle.floor.proofs.Answers.{malformed, formed}
 use Rattle.calls.proofs.Answers.{read-refused, read-accepted}
 use borrow.Author.Needs.{needs}
 use Rattle.calls.proofs.read.Statement.{statement}

@@ -4,7 +4,7 @@ use borrow.Author.Tests.{not-true, not-false}
 use Rattle.floor.specs.Model.{tileOf, withTile}
 use Rattle.floor.specs.Memory.{view}
 use Rattle.floor.specs.Calls.{repairAnswer, repairTests, repaired}
-use Rattle.book.proofs.Answers.{malformed, formed, answer-refused, answer-accepted}
+use Rattle.floor.proofs.Answers.{malformed, formed, answer-refused, answer-accepted}
 use borrow.Author.Needs.{needs}
 use Rattle.calls.proofs.repair.Statement.{statement}
 use Rattle.calls.proofs.repair.Tie as tie

@@ -3,11 +3,12 @@ use mathlib.Core.Path.{_≡_, _∙_}
 use Prim.Native.Nat.{_-_, _≤_}
 use native.Mathlib.Omega.{arith}
 use lib.ListN.{length, length-set}
-use Rattle.laws.specs.Tables.{Upto, From, upto-turn, rest-turn}
+use Rattle.laws.specs.Filled.{Upto, From}
+use Rattle.laws.proofs.Tables.{upto-turn, rest-turn}
 use Rattle.floor.specs.Memory.{zeroTile, head}
 use Rattle.floor.specs.Calls.{freshTile}
 use Rattle.floor.proofs.Sized.{tiles-length}
-use Rattle.changes.proofs.Laws.{zero-tiles, fresh-few, fresh-pack}
+use Rattle.changes.proofs.Packed.{zero-tiles, fresh-few, fresh-pack}
 use borrow.Author.Needs.{needs}
 use Rattle.changes.proofs.fresh_floor.Statement.{statement}
 use Rattle.changes.proofs.fresh_floor.Tie as tie

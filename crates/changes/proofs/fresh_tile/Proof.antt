@@ -1,6 +1,6 @@
 use mathlib.Core.Path.{sym, _∙_}
 use Rattle.floor.specs.Settings.{isHopper}
-use Rattle.changes.proofs.Laws.{fresh-hopper, fresh-other}
+use Rattle.changes.proofs.Packed.{fresh-hopper, fresh-other}
 use borrow.Author.Needs.{needs}
 use Rattle.changes.proofs.fresh_tile.Statement.{statement}
 use Rattle.changes.proofs.fresh_tile.Tie as tie

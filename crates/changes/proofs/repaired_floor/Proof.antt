@@ -1,6 +1,7 @@
 use native.Mathlib.Omega.{arith}
 use Rattle.floor.proofs.Sized.{tiles-length}
-use Rattle.changes.proofs.Laws.{below-64, repaired-pack}
+use Rattle.floor.proofs.Pack.{below-64}
+use Rattle.changes.proofs.Packed.{repaired-pack}
 use Rattle.changes.proofs.Tests.{repair-on}
 use borrow.Author.Needs.{needs}
 use Rattle.changes.proofs.repaired_floor.Statement.{statement}

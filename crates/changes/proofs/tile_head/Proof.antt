@@ -1,5 +1,5 @@
 use native.Mathlib.Omega.{arith}
-use Rattle.changes.proofs.Laws.{below-64, head-view}
+use Rattle.floor.proofs.Pack.{below-64, head-view}
 use Rattle.floor.proofs.Sized.{tiles-length}
 use borrow.Author.Needs.{needs}
 use Rattle.changes.proofs.tile_head.Statement.{statement}

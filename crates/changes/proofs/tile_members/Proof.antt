@@ -2,11 +2,12 @@ use mathlib.Core.Path.{_≡_, refl, _∙_}
 use Prim.Native.Nat.{_+_, _*_, _-_, _≤_}
 use native.Mathlib.Omega.{arith}
 use lib.ListN.{length, getD, length-set, length-replicate}
-use Rattle.laws.specs.Tables.{Upto, upto-turn, filled}
+use Rattle.laws.specs.Filled.{Upto}
+use Rattle.laws.proofs.Tables.{upto-turn, filled}
 use Rattle.floor.specs.Model.{membersOf}
 use Rattle.floor.specs.Memory.{zeroCanister, view}
 use Rattle.floor.proofs.Sized.{canisters-length}
-use Rattle.changes.proofs.Laws.{below-64, place-view}
+use Rattle.floor.proofs.Pack.{below-64, place-view}
 use borrow.Author.Needs.{needs}
 use Rattle.changes.proofs.tile_members.Statement.{statement}
 use Rattle.changes.proofs.tile_members.Tie as tie

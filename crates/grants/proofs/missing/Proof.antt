@@ -2,7 +2,7 @@ use Prim.Native.Nat.{ℕ, _≤_, _-_}
 use mathlib.Core.Path.{_≡_, _∙_}
 use native.Mathlib.Omega.{arith}
 use lib.ListN.{length, take}
-use Rattle.laws.specs.Tables.{ended}
+use Rattle.laws.proofs.Tables.{ended}
 use Rattle.grants.proofs.SignalLaws.{missing-zero, missing-step}
 use Rattle.floor.specs.Memory.{zeroCanister}
 use Rattle.floor.specs.Signal as G

@@ -2,7 +2,7 @@ use mathlib.Core.Path.{_∙_}
 use lib.Dec.{leb}
 use Prim.Native.Nat.{_≤_, _<_}
 use borrow.Author.Tests.{lt-ltb, le-ltb}
-use Rattle.laws.specs.Tests.{pick-yes, pick-no}
+use Rattle.laws.proofs.Tests.{pick-yes, pick-no}
 use Rattle.floor.specs.Settings.{total}
 use Rattle.floor.specs.Memory.{isZeroTile, headFits}
 use borrow.Author.Needs.{needs}

@@ -1,7 +1,7 @@
 use mathlib.Core.Path.{sym, _∙_}
 use lib.Dec.{eqb}
 use borrow.Author.Tests.{eq-eqb, ne-eqb}
-use Rattle.laws.specs.Tests.{pick-yes, pick-no}
+use Rattle.laws.proofs.Tests.{pick-yes, pick-no}
 use mathlib.Core.Bool.{cond}
 use Rattle.floor.specs.Settings.{isHopper}
 use Rattle.floor.specs.Well.{hopperSound, runningSound, stoppedSound}

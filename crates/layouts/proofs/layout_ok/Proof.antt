@@ -1,6 +1,6 @@
 use native.Mathlib.Omega.{arith}
 use Rattle.floor.proofs.Well.{settings-fact}
-use Rattle.layouts.proofs.Laws.{layout-code}
+use Rattle.layouts.proofs.Tests.{layout-code}
 use borrow.Author.Needs.{needs}
 use Rattle.layouts.proofs.layout_ok.Statement.{statement}
 use Rattle.layouts.proofs.layout_ok.Tie as tie

@@ -1,12 +1,9 @@
-use mathlib.Core.Path.{_≡_, refl, sym, ap, _∙_}
-use mathlib.Core.Bool.{true, false}
+use mathlib.Core.Path.{_≡_, sym, ap, _∙_}
 use Prim.Native.Nat.{_+_, _-_, _≤_, _<_}
 use native.Mathlib.Omega.{arith}
-use lib.ListN.{length, getD}
 use borrow.Author.Tests.{not-true, not-false}
-use Rattle.floor.specs.Memory.{zeroLayout}
 use Rattle.floor.specs.Well.{nameAt, placeTest}
-use Rattle.layouts.proofs.Laws.{last-name, place-tested, Passed, passed-turn, passed-all, one-fails}
+use Rattle.layouts.proofs.Tests.{last-name, place-tested, Passed, passed-turn, passed-all, one-fails}
 use borrow.Author.Needs.{needs}
 use Rattle.layouts.proofs.layouts_ok.Statement.{statement}
 use Rattle.layouts.proofs.layouts_ok.Tie as tie

@@ -1,5 +1,5 @@
 use Prim.Native.Nat.{_/_, _%_, _^_, _<_}
-use Rattle.layouts.proofs.Laws.{eight-bytes, name-code}
+use Rattle.layouts.proofs.Tests.{eight-bytes, name-code}
 use borrow.Author.Needs.{needs}
 use Rattle.layouts.proofs.name_ok.Statement.{statement}
 use Rattle.layouts.proofs.name_ok.Tie as tie

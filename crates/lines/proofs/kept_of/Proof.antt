@@ -2,7 +2,7 @@ use mathlib.Core.Path.{refl}
 use Prim.Native.Nat.{_-_}
 use lib.ListN.{length}
 use native.Mathlib.Omega.{arith}
-use Rattle.lines.specs.Laws.{kept-whole, kept-word, kept-last}
+use Rattle.lines.proofs.Kept.{kept-whole, kept-word, kept-last}
 use borrow.Author.Needs.{needs}
 use Rattle.lines.proofs.kept_of.Statement.{statement}
 use Rattle.lines.proofs.kept_of.Tie as tie

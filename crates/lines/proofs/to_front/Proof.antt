@@ -1,7 +1,7 @@
 use mathlib.Core.Path.{_≡_}
 use Prim.Native.Nat.{_-_, _≤_}
 use native.Mathlib.Omega.{arith}
-use Rattle.lines.specs.Laws.{Moved, moved-none, moved-one}
+use Rattle.lines.proofs.Kept.{Moved, moved-none, moved-one}
 use borrow.Author.Needs.{needs}
 use Rattle.lines.proofs.to_front.Statement.{statement}
 use Rattle.lines.proofs.to_front.Tie as tie

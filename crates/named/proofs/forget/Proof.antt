@@ -3,9 +3,9 @@ use mathlib.Core.Bool.{true}
 use native.Mathlib.Omega.{arith}
 use Rattle.floor.specs.Layouts.{nameNumber, nameOk}
 use Rattle.floor.specs.Memory.{view, usedLayouts}
-use Rattle.book.proofs.Answers.{malformed, formed, answer-refused, answer-by}
+use Rattle.floor.proofs.Answers.{malformed, formed, answer-refused, answer-by}
 use Rattle.floor.specs.Calls.{heldTests, forgotten, forgetAnswer}
-use Rattle.named.proofs.Laws.{held-named, laid-fit, held-same, forgotten-pack}
+use Rattle.named.proofs.Packed.{held-named, laid-fit, held-same, forgotten-pack}
 use borrow.Author.Needs.{needs}
 use Rattle.named.proofs.forget.Statement.{statement}
 use Rattle.named.proofs.forget.Tie as tie

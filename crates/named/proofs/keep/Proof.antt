@@ -3,10 +3,10 @@ use mathlib.Core.Bool.{true}
 use native.Mathlib.Omega.{arith}
 use Rattle.floor.specs.Layouts.{nameNumber, nameOk}
 use Rattle.floor.specs.Memory.{view, usedLayouts}
-use Rattle.book.proofs.Answers.{malformed, formed, answer-refused, answer-by}
+use Rattle.floor.proofs.Answers.{malformed, formed, answer-refused, answer-by}
 use Rattle.floor.specs.Calls.{keepTests, keptUnder, keepAnswer}
 use Rattle.floor.proofs.Pack.{well-few}
-use Rattle.named.proofs.Laws.{keep-named, laid-fit, keep-same, kept-pack}
+use Rattle.named.proofs.Packed.{keep-named, laid-fit, keep-same, kept-pack}
 use borrow.Author.Needs.{needs}
 use Rattle.named.proofs.keep.Statement.{statement}
 use Rattle.named.proofs.keep.Tie as tie

@@ -3,10 +3,10 @@ use mathlib.Core.Bool.{true}
 use native.Mathlib.Omega.{arith}
 use Rattle.floor.specs.Layouts.{nameNumber, nameOk, setOf}
 use Rattle.floor.specs.Memory.{view, usedLayouts}
-use Rattle.book.proofs.Answers.{malformed, formed, answer-refused, answer-by}
+use Rattle.floor.proofs.Answers.{malformed, formed, answer-refused, answer-by}
 use Rattle.floor.specs.Calls.{heldTests, recalled, recallAnswer}
 use Rattle.floor.proofs.Pack.{well-few}
-use Rattle.named.proofs.Laws.{held-named, laid-fit, held-same, recalled-pack}
+use Rattle.named.proofs.Packed.{held-named, laid-fit, held-same, recalled-pack}
 use borrow.Author.Needs.{needs}
 use Rattle.named.proofs.recall.Statement.{statement}
 use Rattle.named.proofs.recall.Tie as tie

@@ -1,5 +1,5 @@
 use Rattle.parse.specs.Line.{endsBy}
-use Rattle.parse.specs.Laws.{part-none}
+use Rattle.parse.proofs.Line.{part-none}
 use borrow.Author.Needs.{needs}
 use Rattle.parse.proofs.ended.Statement.{statement}
 use Rattle.parse.proofs.ended.Tie as tie

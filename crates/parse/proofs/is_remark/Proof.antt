@@ -1,4 +1,4 @@
-use Rattle.parse.specs.Laws.{remark-none, remark-first}
+use Rattle.parse.proofs.Line.{remark-none, remark-first}
 use borrow.Author.Needs.{needs}
 use Rattle.parse.proofs.is_remark.Statement.{statement}
 use Rattle.parse.proofs.is_remark.Tie as tie

@@ -1,9 +1,10 @@
 use mathlib.Core.Path.{_≡_, refl}
-use Prim.Native.Nat.{ℕ, _+_, _-_, _≤_, _<_}
+use Prim.Native.Nat.{_-_, _≤_}
 use native.Mathlib.Omega.{arith}
 use lib.ListN.{length, getD, length-set}
-use Rattle.laws.specs.Tables.{Upto, From, upto-turn, rest-turn}
-use Rattle.parse.specs.Laws.{name-long, name-start, name-copied}
+use Rattle.laws.specs.Filled.{Upto, From}
+use Rattle.laws.proofs.Tables.{upto-turn, rest-turn}
+use Rattle.parse.proofs.Line.{name-long, name-start, name-copied}
 use borrow.Author.Needs.{needs}
 use Rattle.parse.proofs.letters.Statement.{statement}
 use Rattle.parse.proofs.letters.Tie as tie

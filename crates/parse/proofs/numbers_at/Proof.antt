@@ -3,7 +3,7 @@ use Prim.Native.Nat.{_-_, _≤_}
 use native.Mathlib.Omega.{arith}
 use Rattle.laws.specs.Define.{tab}
 use Rattle.parse.specs.Line.{allNumbers, valueAt, numbersOf}
-use Rattle.parse.specs.Laws.{values-zero, all-zero, all-turn, values-turn}
+use Rattle.parse.proofs.Line.{values-zero, all-zero, all-turn, values-turn}
 use borrow.Author.Needs.{needs}
 use Rattle.parse.proofs.numbers_at.Statement.{statement}
 use Rattle.parse.proofs.numbers_at.Tie as tie

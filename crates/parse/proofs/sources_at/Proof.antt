@@ -1,5 +1,5 @@
-use Rattle.laws.specs.Tests.{not-both}
-use Rattle.parse.specs.Laws.{said-all, said-none, said-tiles}
+use Rattle.laws.proofs.Tests.{not-both}
+use Rattle.parse.proofs.Line.{said-all, said-none, said-tiles}
 use borrow.Author.Needs.{needs}
 use Rattle.parse.proofs.sources_at.Statement.{statement}
 use Rattle.parse.proofs.sources_at.Tie as tie

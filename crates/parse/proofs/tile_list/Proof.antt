@@ -4,7 +4,7 @@ use native.Mathlib.Omega.{arith}
 use lib.ListN.{length}
 use borrow.Author.Tests.{lt-leb}
 use Rattle.parse.specs.Line.{isTile}
-use Rattle.parse.specs.Laws.{Unread, unread-all, tiles-bad, tiles-more, tiles-end}
+use Rattle.parse.proofs.Line.{Unread, unread-all, tiles-bad, tiles-more, tiles-end}
 use borrow.Author.Needs.{needs}
 use Rattle.parse.proofs.tile_list.Statement.{statement}
 use Rattle.parse.proofs.tile_list.Tie as tie

@@ -4,7 +4,7 @@ use Prim.Native.Nat.{ℕ, _-_, _≤_, _<_}
 use native.Mathlib.Omega.{arith}
 use lib.ListN.{length, take, getD}
 use Rattle.laws.specs.Define.{allOf, pairsOf}
-use Rattle.laws.specs.Tables.{pairs-zero, pairs-more, with-zero, with-step, ended}
+use Rattle.laws.proofs.Tables.{pairs-zero, pairs-more, with-zero, with-step, ended}
 use Rattle.floor.specs.Memory.{zeroCanister}
 use Rattle.floor.specs.Well.{inOrder}
 use borrow.Author.Needs.{needs}

@@ -4,7 +4,7 @@ use native.Mathlib.Omega.{arith}
 use lib.ListN.{length, take, drop, length-drop}
 use lib.Seq.{getD-drop, take-all}
 use Rattle.laws.specs.Define.{allOf}
-use Rattle.laws.specs.Tables.{all-zero, all-step}
+use Rattle.laws.proofs.Tables.{all-zero, all-step}
 use Rattle.floor.specs.Memory.{zeroCanister, isZeroCanister}
 use borrow.Author.Needs.{needs}
 use Rattle.places.proofs.rest_ok.Statement.{statement}

@@ -4,7 +4,7 @@ use native.Mathlib.Omega.{arith}
 use lib.Dec.{ltb}
 use lib.ListN.{length, take}
 use Rattle.laws.specs.Define.{allOf}
-use Rattle.laws.specs.Tables.{all-zero, all-step}
+use Rattle.laws.proofs.Tables.{all-zero, all-step}
 use Rattle.floor.specs.Memory.{zeroLayout}
 use borrow.Author.Needs.{needs}
 use Rattle.reader.proofs.all_named.Statement.{statement}

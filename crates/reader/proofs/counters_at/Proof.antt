@@ -2,7 +2,8 @@ use mathlib.Core.Path.{_≡_, refl}
 use Prim.Native.Nat.{ℕ, zero, suc, _+_, _-_, _*_, _≤_}
 use native.Mathlib.Omega.{arith}
 use lib.ListN.{length, getD, drop, replicate, length-set}
-use Rattle.laws.specs.Tables.{Upto, From, upto-turn, rest-turn}
+use Rattle.laws.specs.Filled.{Upto, From}
+use Rattle.laws.proofs.Tables.{upto-turn, rest-turn}
 use Rattle.wire.specs.Bytes.{le}
 use Rattle.reader.proofs.Reading.{counters-code}
 use borrow.Author.Needs.{needs}

@@ -2,7 +2,7 @@ use Prim.Native.Nat.{ℕ, _≤_, _-_}
 use mathlib.Core.Path.{_≡_, refl, ap, _∙_}
 use native.Mathlib.Omega.{arith}
 use lib.ListN.{length, length-set}
-use Rattle.laws.specs.Tables.{Upto}
+use Rattle.laws.specs.Filled.{Upto}
 use Rattle.floor.specs.Settings.{total}
 use Rattle.route.specs.Routed.{within, distanceIn}
 use Rattle.route.proofs.Passes.{within-none, within-turn}

@@ -1,5 +1,5 @@
 use borrow.Author.Tests.{lt-ltb, le-ltb}
-use Rattle.laws.specs.Tests.{pick-yes, pick-no}
+use Rattle.laws.proofs.Tests.{pick-yes, pick-no}
 use Rattle.floor.specs.Route as R
 use Rattle.route.proofs.nearer.Statement.{statement}
 use Rattle.route.proofs.nearer.Tie as tie

@@ -1,7 +1,7 @@
 use Prim.Native.Nat.{_+_}
 use native.Mathlib.Omega.{arith}
 use borrow.Author.Tests.{lt-ltb, le-ltb}
-use Rattle.laws.specs.Tests.{pick-yes, pick-no}
+use Rattle.laws.proofs.Tests.{pick-yes, pick-no}
 use Rattle.floor.specs.Route as R
 use borrow.Author.Needs.{needs}
 use Rattle.route.proofs.onward.Statement.{statement}

@@ -2,7 +2,7 @@ use mathlib.Core.Path.{ap, sym}
 use Prim.Native.Nat.{ℕ, _-_, _^_, _<_}
 use native.Mathlib.Omega.{arith}
 use lib.Pow.{pow-pos}
-use Rattle.laws.specs.Bits.{one-shl}
+use Rattle.laws.proofs.Bits.{one-shl}
 use borrow.Author.Needs.{needs}
 use Rattle.sets.proofs.full.Statement.{statement}
 use Rattle.sets.proofs.full.Tie as tie

@@ -1,4 +1,4 @@
-use Rattle.laws.specs.Bits.{test-bit}
+use Rattle.laws.proofs.Bits.{test-bit}
 use borrow.Author.Needs.{needs}
 use Rattle.sets.proofs.has.Statement.{statement}
 use Rattle.sets.proofs.has.Tie as tie

@@ -1,6 +1,6 @@
 use mathlib.Core.Path.{sym}
 use Prim.Native.Nat.{_^_, _<_}
-use Rattle.laws.specs.SetBits.{bit-off}
+use Rattle.laws.proofs.SetBits.{bit-off}
 use borrow.Author.Needs.{needs}
 use Rattle.sets.proofs.holds.Statement.{statement}
 use Rattle.sets.proofs.holds.Tie as tie

@@ -1,5 +1,5 @@
 use Prim.Native.Nat.{_^_, _<_}
-use Rattle.laws.specs.SetBits.{meets-any}
+use Rattle.laws.proofs.SetBits.{meets-any}
 use borrow.Author.Needs.{needs}
 use Rattle.sets.proofs.meets.Statement.{statement}
 use Rattle.sets.proofs.meets.Tie as tie

@@ -1,4 +1,4 @@
-use Rattle.laws.specs.SetBits.{minus-bit}
+use Rattle.laws.proofs.SetBits.{minus-bit}
 use Rattle.sets.proofs.minus.Statement.{statement}
 use Rattle.sets.proofs.minus.Tie as tie
 use Rattle.sets.proofs.minus.Reads as reads

@@ -1,6 +1,6 @@
 use mathlib.Core.Path.{_∙_}
 use borrow.Author.Tests.{lt-ltb, le-ltb}
-use Rattle.laws.specs.Bits.{one-shl}
+use Rattle.laws.proofs.Bits.{one-shl}
 use borrow.Author.Needs.{needs}
 use Rattle.sets.proofs.single.Statement.{statement}
 use Rattle.sets.proofs.single.Tie as tie

@@ -3,7 +3,7 @@ use Prim.Native.Nat.{_^_, _<_}
 use native.Mathlib.Nat.{mod-eq-of-lt, lt-of-le-of-lt}
 use lib.Dec.{lit<}
 use lib.Count.{ones, ones-le}
-use Rattle.laws.specs.SetBits.{bits-ones}
+use Rattle.laws.proofs.SetBits.{bits-ones}
 use borrow.Author.Needs.{needs}
 use Rattle.sets.proofs.size.Statement.{statement}
 use Rattle.sets.proofs.size.Tie as tie

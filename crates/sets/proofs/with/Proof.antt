@@ -1,4 +1,4 @@
-use Rattle.laws.specs.Bits.{one-shl, with-bit}
+use Rattle.laws.proofs.Bits.{one-shl, with-bit}
 use borrow.Author.Needs.{needs}
 use Rattle.sets.proofs.with.Statement.{statement}
 use Rattle.sets.proofs.with.Tie as tie

@@ -1,7 +1,7 @@
 use mathlib.Core.Path.{sym}
 use Prim.Native.Nat.{_^_, _<_}
 use borrow.Author.Tests.{lt-ltb}
-use Rattle.laws.specs.Bits.{shr-none}
+use Rattle.laws.proofs.Bits.{shr-none}
 use borrow.Author.Needs.{needs}
 use Rattle.sets.proofs.within.Statement.{statement}
 use Rattle.sets.proofs.within.Tie as tie

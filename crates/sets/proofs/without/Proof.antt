@@ -1,5 +1,5 @@
 use mathlib.Core.Path.{sym, _∙_}
-use Rattle.laws.specs.Bits.{one-shl, without-bit, without-none}
+use Rattle.laws.proofs.Bits.{one-shl, without-bit, without-none}
 use borrow.Author.Needs.{needs}
 use Rattle.sets.proofs.without.Statement.{statement}
 use Rattle.sets.proofs.without.Tie as tie

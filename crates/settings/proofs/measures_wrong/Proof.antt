@@ -1,7 +1,8 @@
 use mathlib.Core.Path.{_≡_, sym, _∙_}
 use mathlib.Core.Bool.{true, false}
 use native.Mathlib.Omega.{arith}
-use Rattle.settings.specs.Groups.{rulesWrong, measuresWrong, rules-length}
+use Rattle.settings.specs.Groups.{rulesWrong}
+use Rattle.settings.proofs.Groups.{measures-are, rules-length}
 use borrow.Author.Needs.{needs}
 use Rattle.settings.proofs.measures_wrong.Statement.{statement}
 use Rattle.settings.proofs.measures_wrong.Tie as tie
@@ -13,10 +14,9 @@ rules-wrong-requires : tie.Need-rules-wrong-requires
 rules-wrong-requires c κs = search needs
 
 returns : tie.Need-returns
-unfolding measuresWrong
 returns c =
     let e : rulesWrong (c .before .before .args .s) ≡ true = sym (c .before .rules-wrong .ensures) ∙ c .if1 .taken in
-    rw e
+    rw (sym (measures-are (c .before .before .args .s)), e)
 
 cast-d : tie.Need-cast-d
 cast-d c = search needs
@@ -44,10 +44,9 @@ div-result c =
     omega (arith, rules-length (c .before .before .before .before .before .before .args .s) e)
 
 returns-2 : tie.Need-returns-2
-unfolding measuresWrong
 returns-2 c =
     let e : rulesWrong (c .before .before .before .before .before .before .args .s) ≡ false = sym (c .before .before .before .before .before .rules-wrong .ensures) ∙ c .before .before .before .before .if1 .left in
-    rw e
+    rw (sym (measures-are (c .before .before .before .before .before .before .args .s)), e)
 
 pub measures-wrong-spec : {M : Type 1} → statement M
 measures-wrong-spec =

@@ -1,5 +1,4 @@
-use mathlib.Core.Path.{refl}
-use Rattle.settings.specs.Groups.{rulesWrong}
+use Rattle.settings.proofs.Groups.{rules-are}
 use borrow.Author.Needs.{needs}
 use Rattle.settings.proofs.rules_wrong.Statement.{statement}
 use Rattle.settings.proofs.rules_wrong.Tie as tie
@@ -19,8 +18,7 @@ cast-width : tie.Need-cast-width
 cast-width c = search needs
 
 returns : tie.Need-returns
-unfolding rulesWrong
-returns c = refl
+returns c = rules-are _
 
 pub rules-wrong-spec : {M : Type 1} → statement M
 rules-wrong-spec = tie.close (tie.spec cast-d cast-d-2 add-d cast-width returns)

@@ -2,7 +2,7 @@ use borrow.Author.Tests.{not-true, not-false}
 use mathlib.Core.Path.{sym, _∙_}
 use native.Mathlib.Nat.{lt-of-le-of-lt}
 use lib.Dec.{lit<}
-use Rattle.settings.specs.Groups.{few-tiles, hoppers-off, hoppers-on}
+use Rattle.settings.proofs.Groups.{few-tiles, hoppers-off, hoppers-on}
 use borrow.Author.Needs.{needs}
 use Rattle.settings.proofs.sets_wrong.Statement.{statement}
 use Rattle.settings.proofs.sets_wrong.Tie as tie

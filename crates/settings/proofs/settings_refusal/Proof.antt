@@ -1,6 +1,7 @@
 use mathlib.Core.Path.{_≡_, sym, _∙_}
 use mathlib.Core.Bool.{true, false}
-use Rattle.settings.specs.Groups.{sizesWrong, setsWrong, measuresWrong, refusal-groups}
+use Rattle.settings.specs.Groups.{sizesWrong, setsWrong, measuresWrong}
+use Rattle.settings.proofs.Groups.{refusal-groups}
 use borrow.Author.Needs.{needs}
 use Rattle.settings.proofs.settings_refusal.Statement.{statement}
 use Rattle.settings.proofs.settings_refusal.Tie as tie

@@ -1,4 +1,4 @@
-use Rattle.settings.specs.Groups.{sizesWrong}
+use Rattle.settings.proofs.Groups.{sizes-are}
 use borrow.Author.Needs.{needs}
 use Rattle.settings.proofs.sizes_wrong.Statement.{statement}
 use Rattle.settings.proofs.sizes_wrong.Tie as tie
@@ -10,8 +10,7 @@ tiles-of-requires : tie.Need-tiles-of-requires
 tiles-of-requires c κs = search needs
 
 returns : tie.Need-returns
-unfolding sizesWrong
-returns c = rw (c .tiles-of .ensures)
+returns c = rw (c .tiles-of .ensures) (sizes-are _)
 
 pub sizes-wrong-spec : {M : Type 1} → statement M
 sizes-wrong-spec = tie.close (tie.spec tiles-of-requires returns)

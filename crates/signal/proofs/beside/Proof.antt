@@ -1,6 +1,6 @@
 use borrow.Author.Needs.{needs}
 use borrow.Author.Tests.{eq-eqb, ne-eqb}
-use Rattle.laws.specs.Tests.{pick-yes, pick-no}
+use Rattle.laws.proofs.Tests.{pick-yes, pick-no}
 use Rattle.signal.proofs.beside.Statement.{statement}
 use Rattle.signal.proofs.beside.Tie as tie
 use Rattle.signal.proofs.beside.Reads as reads

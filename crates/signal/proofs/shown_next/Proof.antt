@@ -1,5 +1,5 @@
 use borrow.Author.Tests.{lt-ltb, le-ltb}
-use Rattle.laws.specs.Tests.{pick-yes, pick-no}
+use Rattle.laws.proofs.Tests.{pick-yes, pick-no}
 use Rattle.signal.proofs.shown_next.Statement.{statement}
 use Rattle.signal.proofs.shown_next.Tie as tie
 use Rattle.signal.proofs.shown_next.Reads as reads

@@ -3,11 +3,11 @@ use mathlib.Core.Path.{_≡_, refl, ap, sym, _∙_, subst, fun-ext}
 use native.Mathlib.Omega.{arith}
 use lib.ListN.{length, take, drop, getD, length-set}
 use lib.Seq.{take-all}
-use Rattle.laws.specs.Tables.{copy-turn}
+use Rattle.laws.proofs.Tables.{copy-turn}
 use Rattle.floor.specs.declared.Signal.{Signal}
-use Rattle.floor.specs.Settings.{total}
+use Rattle.floor.specs.Settings.{total, Ranged}
 use Rattle.floor.specs.Memory.{zeroTile, zeroCanister, block}
-use Rattle.route.specs.Routed.{Ranged, Redone}
+use Rattle.route.specs.Routed.{Redone}
 use Rattle.route.proofs.Passes.{shows-near, near-read, redone-none, redone-turn, redone-end}
 use Rattle.signal.specs.Signalling as M
 use Rattle.signal.proofs.PassLaws.{signal-read, granted-none, granted-turn, granted-skip, granted-end, granted-within}

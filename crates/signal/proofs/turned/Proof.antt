@@ -7,7 +7,7 @@ use Rattle.floor.specs.Signal.{signal, grantOf}
 use Rattle.floor.specs.Reasons.{reasonOf, missingOf}
 use Rattle.floor.proofs.Pack.{well-sound, well-settings, well-fits, few-on}
 use Rattle.floor.proofs.Reasons.{signal-lacks}
-use Rattle.route.proofs.Passes.{ranged}
+use Rattle.floor.proofs.Well.{ranged}
 use Rattle.route.proofs.RouteFloor.{route-pack}
 use Rattle.signal.proofs.SignalFloor.{signal-pack, lack-view, reasons-pack}
 use Rattle.signal.proofs.AfterRoute.{signal-asks, after-route}

@@ -2,7 +2,7 @@ use mathlib.Core.Path.{_≡_, refl}
 use Prim.Native.Nat.{_-_, _*_, _≤_}
 use native.Mathlib.Omega.{arith}
 use lib.ListN.{length}
-use Rattle.laws.specs.Tables.{ended}
+use Rattle.laws.proofs.Tables.{ended}
 use Rattle.soundness.specs.Code.{counted}
 use Rattle.soundness.proofs.Counts.{counted-more}
 use borrow.Author.Needs.{needs}

@@ -2,7 +2,7 @@ use Prim.Native.Nat.{_<_, _^_}
 use native.Mathlib.Omega.{arith}
 use lib.ListN.{length}
 use Rattle.laws.specs.Define.{bitsBelow}
-use Rattle.laws.specs.SetBits.{bits-within}
+use Rattle.laws.proofs.SetBits.{bits-within}
 use Rattle.floor.specs.Settings.{total, hoppersOf}
 use Rattle.floor.proofs.Well.{settings-fact}
 use Rattle.soundness.proofs.Counts.{counters-code}

@@ -8,7 +8,8 @@ use lib.ListN.{length, getD, take, length-set}
 use lib.Seq.{take-all}
 use borrow.Author.Tests.{not-true, not-false}
 use Rattle.laws.specs.Define.{allOf, allBelow}
-use Rattle.laws.specs.Tables.{Upto, upto-turn, below-zero, below-step, ended, with-zero, with-step}
+use Rattle.laws.specs.Filled.{Upto}
+use Rattle.laws.proofs.Tables.{upto-turn, below-zero, below-step, ended, with-zero, with-step}
 use Rattle.floor.specs.declared.Canister.{Canister}
 use Rattle.floor.specs.declared.Floor.{Floor}
 use Rattle.floor.specs.Model.{numbers}

@@ -2,8 +2,9 @@ use mathlib.Core.Path.{_≡_, sym, _∙_}
 use mathlib.Core.Bool.{false}
 use borrow.Author.Tests.{not-true, not-false}
 use Rattle.floor.specs.Settings.{settingsPass}
+use Rattle.floor.proofs.Well.{pass-of, pass-not}
 use Rattle.floor.proofs.Sized.{tiles-length, canisters-length, layouts-length}
-use Rattle.soundness.proofs.WellCode.{well-refused, pass-of, pass-not, state-off, layouts-off, layouts-on}
+use Rattle.soundness.proofs.WellCode.{well-refused, state-off, layouts-off, layouts-on}
 use borrow.Author.Needs.{needs}
 use Rattle.soundness.proofs.well_formed.Statement.{statement}
 use Rattle.soundness.proofs.well_formed.Tie as tie

@@ -3,10 +3,12 @@ use mathlib.Core.List.{List}
 use Prim.Native.Nat.{ℕ, _≤_, _-_, _+_}
 use native.Mathlib.Omega.{arith}
 use lib.ListN.{length, getD, length-set}
-use Rattle.laws.specs.Tables.{Upto, upto-turn, filled}
+use Rattle.laws.proofs.Lists.{get-same}
+use Rattle.laws.specs.Filled.{Upto}
+use Rattle.laws.proofs.Tables.{upto-turn, filled}
 use Rattle.floor.specs.declared.Delivery.{Delivery}
 use Rattle.floor.specs.Calls.{noDelivery}
-use Rattle.ways.proofs.Delivered.{any-default, beyond}
+use Rattle.ways.proofs.Delivered.{beyond}
 use Rattle.floor.proofs.Sized.{delivered-length}
 use borrow.Author.Needs.{needs}
 use Rattle.ways.proofs.raise.Statement.{statement}
@@ -42,7 +44,7 @@ add-sums : tie.Need-add-sums Inv-loop μ-loop
 add-sums c =
     let l = c .before .before .before .loop in
     let S = c .before .before .before .before .before in
-    record { fits = rw (ap (λ (x : Delivery). x .count) (any-default (S .args .t2) (l .k) noDelivery beyond (omega arith))) at (S .pre (l .k) (omega arith)) }
+    record { fits = rw (ap (λ (x : Delivery). x .count) (get-same (S .args .t2) (l .k) noDelivery beyond (omega arith))) at (S .pre (l .k) (omega arith)) }
 
 mul-sums-2 : tie.Need-mul-sums-2 Inv-loop μ-loop
 mul-sums-2 c = search needs
@@ -60,7 +62,7 @@ loop-again : tie.Need-loop-again Inv-loop μ-loop
 loop-again c =
     let l = c .before .before .before .loop in
     let g = c .before .before .before .before .before .args in
-    (omega arith, l .inv .1, l .inv .2, simp length-set (l .inv .3), refl, upto-turn (l .k) (λ j. getD (g .c .delivered) j 0 + getD (g .t2) j noDelivery .count) 0 (l .sums) _ (omega arith) (l .inv .5) (ap (λ (x : Delivery). getD (g .c .delivered) (l .k) 0 + x .count) (any-default (g .t2) (l .k) beyond noDelivery (omega arith))))
+    (omega arith, l .inv .1, l .inv .2, simp length-set (l .inv .3), refl, upto-turn (l .k) (λ j. getD (g .c .delivered) j 0 + getD (g .t2) j noDelivery .count) 0 (l .sums) _ (omega arith) (l .inv .5) (ap (λ (x : Delivery). getD (g .c .delivered) (l .k) 0 + x .count) (get-same (g .t2) (l .k) beyond noDelivery (omega arith))))
 
 returns : tie.Need-returns Inv-loop μ-loop
 returns c =

@@ -1,8 +1,8 @@
-use mathlib.Core.Path.{_≡_, refl, sym, ap, _∙_}
-use Prim.Native.Nat.{ℕ, _+_, _-_, _≤_, _<_}
+use mathlib.Core.Path.{_≡_}
+use Prim.Native.Nat.{ℕ, _-_, _≤_, _<_}
 use native.Mathlib.Omega.{arith}
-use lib.ListN.{length, take, drop, getD}
-use Rattle.words.specs.Laws.{between-more}
+use lib.ListN.{length, getD}
+use Rattle.words.proofs.Text.{between-more}
 use borrow.Author.Needs.{needs}
 use Rattle.words.proofs.find.Statement.{statement}
 use Rattle.words.proofs.find.Tie as tie

@@ -1,9 +1,9 @@
-use mathlib.Core.Path.{_≡_, refl, sym, ap, _∙_}
-use Prim.Native.Nat.{ℕ, _+_, _*_, _-_, _≤_, _<_}
+use mathlib.Core.Path.{_≡_, sym, _∙_}
+use Prim.Native.Nat.{_+_, _*_, _-_, _≤_}
 use native.Mathlib.Omega.{arith}
-use lib.ListN.{length, take, drop, getD}
-use Rattle.words.specs.Text.{afterBlanks, afterWord, word, nthWord, numberOf}
-use Rattle.words.specs.Laws.{numberAfter, number-none, number-start, number-turn, number-low, number-high, number-over, number-whole}
+use lib.ListN.{length, drop}
+use Rattle.words.specs.Text.{numberOf}
+use Rattle.words.proofs.Text.{numberAfter, number-none, number-start, number-turn, number-low, number-high, number-over, number-whole}
 use borrow.Author.Needs.{needs}
 use Rattle.words.proofs.number.Statement.{statement}
 use Rattle.words.proofs.number.Tie as tie

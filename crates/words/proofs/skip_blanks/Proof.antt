@@ -1,9 +1,9 @@
-use mathlib.Core.Path.{_≡_, refl, sym, ap, _∙_}
-use Prim.Native.Nat.{ℕ, _+_, _-_, _≤_, _<_}
+use mathlib.Core.Path.{_≡_, _∙_}
+use Prim.Native.Nat.{_-_, _≤_}
 use native.Mathlib.Omega.{arith}
-use lib.ListN.{length, take, drop, getD}
-use Rattle.words.specs.Text.{afterBlanks, afterWord, word, nthWord, numberOf}
-use Rattle.words.specs.Laws.{blanks-turn, blanks-stop, blanks-end}
+use lib.ListN.{length, drop}
+use Rattle.words.specs.Text.{afterBlanks}
+use Rattle.words.proofs.Text.{blanks-turn, blanks-stop, blanks-end}
 use borrow.Author.Needs.{needs}
 use Rattle.words.proofs.skip_blanks.Statement.{statement}
 use Rattle.words.proofs.skip_blanks.Tie as tie

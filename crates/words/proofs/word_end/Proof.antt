@@ -1,9 +1,9 @@
-use mathlib.Core.Path.{_≡_, refl, sym, ap, _∙_}
-use Prim.Native.Nat.{ℕ, _+_, _-_, _≤_, _<_}
+use mathlib.Core.Path.{_≡_, refl, _∙_}
+use Prim.Native.Nat.{_+_, _-_, _≤_}
 use native.Mathlib.Omega.{arith}
-use lib.ListN.{length, take, drop, getD}
-use Rattle.words.specs.Text.{afterBlanks, afterWord, word, nthWord, numberOf}
-use Rattle.words.specs.Laws.{after-turn, after-stop, after-end, word-begin, word-turn, word-stop, word-end, word-whole}
+use lib.ListN.{length, take, drop}
+use Rattle.words.specs.Text.{afterWord, word}
+use Rattle.words.proofs.Text.{after-turn, after-stop, after-end, word-begin, word-turn, word-stop, word-end, word-whole}
 use mathlib.Core.List.{_++_}
 use borrow.Author.Needs.{needs}
 use Rattle.words.proofs.word_end.Statement.{statement}

@@ -1,6 +1,4 @@
-use Prim.Native.Nat.{ℕ, _+_, _*_, _-_, _≤_, _<_}
-use lib.ListN.{length}
-use native.Mathlib.Omega.{arith}
+use Prim.Native.Nat.{_-_, _≤_}
 use borrow.Author.Needs.{needs}
 use Rattle.tally.proofs.floors.rounds.Statement.{statement}
 use Rattle.tally.proofs.floors.rounds.Tie as tie

@@ -1,6 +1,6 @@
 -- A name's eight bytes tested one by one, and a layout's set against the hoppers.
 use mathlib.Core.Path.{_≡_, refl, sym, ap, _∙_, subst}
-use mathlib.Core.Bool.{Bool, true, false, cond, not, _&&_, _||_}
+use mathlib.Core.Bool.{Bool, true, false, not, _&&_, _||_}
 use mathlib.Core.List.{List, [], _∷_}
 use Prim.Native.Nat.{ℕ, suc, _/_, _%_, _^_, _≤_, _<_}
 use native.Mathlib.Omega.{arith}
@@ -10,10 +10,10 @@ use lib.ListN.{getD, length, List·getD-eq-default}
 use borrow.Author.Tests.{lt-ltb}
 use Rattle.laws.specs.Define.{allOf, anyOf, allBelow, bit, bitsBelow}
 use Rattle.laws.specs.Every.{All}
-use Rattle.laws.specs.Lists.{all-imp}
-use Rattle.laws.specs.Tests.{and-yes, not-both}
-use Rattle.laws.specs.Tables.{below-at, below-of}
-use Rattle.laws.specs.SetBits.{bits-all, bits-within}
+use Rattle.laws.proofs.Lists.{all-imp}
+use Rattle.laws.proofs.Tests.{and-yes, not-both}
+use Rattle.laws.proofs.Tables.{below-at, below-of}
+use Rattle.laws.proofs.SetBits.{bits-all, bits-within}
 use Rattle.floor.specs.declared.Settings.{Settings}
 use Rattle.floor.specs.declared.Layout.{Layout}
 use Rattle.floor.specs.Settings.{total, hoppersOf, settingsPass}

@@ -7,10 +7,10 @@ use mathlib.Core.List.{List·Permᴰ, List·Permᴰ·nil, List·Permᴰ·cons, L
 use Prim.Native.Nat.{ℕ, zero, suc, _+_, _*_, _≤_, _<_}
 use native.Mathlib.Omega.{arith}
 use native.Mathlib.Decide.{decLe, ℕ-discrete}
-use lib.ListN.{length}
+use lib.ListN.{length, getD}
 use Rattle.laws.specs.Define.{cat, allOf, keep, sum}
 use Rattle.laws.specs.Every.{All, Pairs}
-use Rattle.laws.specs.Tests.{and-left, and-right, and-true}
+use Rattle.laws.proofs.Tests.{and-left, and-right, and-true}
 
 -- ---- all elements, all pairs
 pub all-mem : {A : Type 0} (P : A → Type 0) {x : A} {l : List A} → List·Memᴰ x l → All P l → P x
@@ -46,6 +46,22 @@ pairs-map P R S f (x ∷ l) g p h = (all-map-two P (R x) (S (f x)) f l (λ y. g 
 pub pairs-append : {A : Type 0} (R : A → A → Type 0) (l k : List A) → Pairs R l → Pairs R k → All (λ x. All (R x) k) l → Pairs R (l ++ k)
 pairs-append R [] k h g c = g
 pairs-append R (x ∷ l) k h g c = (all-append (R x) l k (h .0) (c .0), pairs-append R l k (h .1) g (c .1))
+
+-- what holds of every element, and of what is read beyond them
+pub all-get : {A : Type 0} (P : A → Type 0) (l : List A) (z : A) → P z → All P l → (k : ℕ) → P (getD l k z)
+all-get P [] z p h k = p
+all-get P (x ∷ l) z p h zero = h .0
+all-get P (x ∷ l) z p h (suc k) = all-get P l z p (h .1) k
+
+-- within a list, what would be read beyond it does not matter
+pub get-same : {A : Type 0} (l : List A) (k : ℕ) (y z : A) → k < length l → getD l k y ≡ getD l k z
+get-same [] k y z h = absurd (omega arith)
+get-same (x ∷ l) zero y z h = refl
+get-same (x ∷ l) (suc k) y z h = get-same l k y z (omega arith)
+
+pub no-length : {A : Type 0} (l : List A) → length l ≡ 0 → l ≡ []
+no-length [] e = refl
+no-length (x ∷ l) e = absurd (omega arith)
 
 -- ---- all and pairs under a permutation
 pub all-perm : {A : Type 0} (P : A → Type 0) {l k : List A} → List·Permᴰ l k → All P l → All P k
@@ -101,6 +117,16 @@ pairs-keep R p (x ∷ l) h = go (p x) (pairs-keep R p l (h .1))
     go : (b : Bool) → Pairs R (keep p l) → Pairs R (cond b (x ∷ keep p l) (keep p l))
     go true ih = (all-imp (λ y. R x y × (p y ≡ true)) (R x) (keep p l) (λ y r. r .0) (all-keep (R x) p l (h .0)), ih)
     go false ih = ih
+
+pub keep-all : {A : Type 0} (p : A → Bool) (l : List A) → All (λ x. p x ≡ true) l → keep p l ≡ l
+unfolding keep
+keep-all p [] h = refl
+keep-all {A} p (x ∷ l) h = rw (h .0) (ap (λ (r : List A). x ∷ r) (keep-all p l (h .1)))
+
+pub keep-none : {A : Type 0} (p : A → Bool) (l : List A) → All (λ x. p x ≡ false) l → keep p l ≡ []
+unfolding keep
+keep-none p [] h = refl
+keep-none p (x ∷ l) h = rw (h .0) (keep-none p l (h .1))
 
 pub keep-append : {A : Type 0} (p : A → Bool) (l k : List A) → keep p (l ++ k) ≡ keep p l ++ keep p k
 unfolding keep

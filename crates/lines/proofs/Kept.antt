@@ -1,4 +1,4 @@
--- Laws about what is kept of a line.
+-- What is kept of a line, and bytes moved to the front.
 use mathlib.Core.Path.{_≡_, refl, sym, ap, _∙_}
 use mathlib.Core.Bool.{Bool, true, false, cond}
 use mathlib.Core.List.{List, [], _∷_, _++_}

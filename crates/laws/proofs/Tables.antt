@@ -9,8 +9,9 @@ use native.Mathlib.Decide.{decLe, ℕ-discrete}
 use lib.ListN.{length, getD, set, take, drop, replicate, length-drop, length-append, getD-replicate, List·getD-append, List·getD-eq-default}
 use lib.Seq.{ext-getD, take-suc, take-suc-set, getD-drop, getD-set-same, getD-set-other, getD-append-seam}
 use Rattle.laws.specs.Define.{tab, allOf, pairsOf, allBelow, keep}
-use Rattle.laws.specs.Tests.{and-left, and-right, and-true, and-assoc, and-yes}
-use Rattle.laws.specs.Lists.{map-append, keep-append}
+use Rattle.laws.proofs.Tests.{and-left, and-right, and-true, and-assoc, and-yes}
+use Rattle.laws.proofs.Lists.{map-append, keep-append}
+use Rattle.laws.specs.Filled.{Upto, From, Shows}
 
 -- ---- the table g 0, .., g (n - 1)
 pub tab-length : {A : Type 0} (n : ℕ) (g : ℕ → A) → length (tab n g) ≡ n
@@ -36,20 +37,12 @@ unfolding tab
 tab-same zero g h e = refl
 tab-same (suc n) g h e = rw (e 0 (omega arith)) (ap (λ r. h 0 ∷ r) (tab-same n (λ k. g (suc k)) (λ k. h (suc k)) (λ i l. e (suc i) (omega arith))))
 
--- ---- a loop that fills a list: right below t, whatever stands above
-abbrev pub Upto : {A : Type 0} → ℕ → (ℕ → A) → A → List A → Type 0
-Upto {A} t g z l = (i : ℕ) → i < t → getD l i z ≡ g i
-
 pub upto-turn : {A : Type 0} (t : ℕ) (g : ℕ → A) (z : A) (l : List A) (v : A) → t < length l → Upto t g z l → v ≡ g t → Upto (t + 1) g z (set l t v)
 upto-turn t g z l v h p e i k = go (ℕ-discrete i t)
   where
     go : Dec (i ≡ t) → getD (set l t v) i z ≡ g i
     go (yes q) = rw (q, getD-set-same l t v z h) e
     go (no q) = rw (getD-set-other l t i v z q) (p i (omega arith))
-
--- from t on, the list is g's
-abbrev pub From : {A : Type 0} → ℕ → (ℕ → A) → A → List A → Type 0
-From {A} t g z l = (i : ℕ) → t ≤ i → getD l i z ≡ g i
 
 -- a store leaves what stands above it
 pub rest-turn : {A : Type 0} (t : ℕ) (g : ℕ → A) (z : A) (l : List A) (v : A) → From t g z l → From (t + 1) g z (set l t v)
@@ -164,10 +157,6 @@ module _ {A B : Type 0} (p : A → Bool) (f : A → B) where
   pub keep-out : (l : List A) (k : ℕ) (z : A) → k < length l → p (getD l k z) ≡ false → map f (keep p (take (k + 1) l)) ≡ map f (keep p (take k l))
   unfolding keep
   keep-out l k z h e = keep-snoc l k z h ∙ rw e (append-nil (map f (keep p (take k l))))
-
--- n places show a list: its elements, then z
-abbrev pub Shows : {A : Type 0} → ℕ → A → List A → List A → Type 0
-Shows n z l items = Upto n (λ k. getD l k z) z items
 
 pub shows-none : {A : Type 0} (n : ℕ) (z : A) (l : List A) → l ≡ [] → Shows n z l (replicate n z)
 shows-none n z l e i k = rw e (getD-replicate n i z z k)

@@ -1,57 +1,41 @@
--- The code's arrays and records, read as a floor's value and packed.
-use mathlib.Core.Path.{_≡_, refl, sym, ap, _∙_}
+-- What stop, repair and fresh leave in memory is the changed value, packed.
+use mathlib.Core.Path.{_≡_, refl, ap, _∙_}
 use mathlib.Core.Bool.{true, false}
 use mathlib.Core.List.{List, []}
-use Prim.Native.Nat.{ℕ, zero, suc, _+_, _*_, _/_, _%_, _≤_, _<_}
-use native.Mathlib.Omega.{arith}
+use Prim.Native.Nat.{ℕ, zero, suc, _≤_, _<_}
 use lib.ListN.{length, getD, set, replicate, length-replicate, getD-replicate}
-use Rattle.laws.specs.Tables.{tab-at, Upto, From}
+use Rattle.laws.specs.Filled.{Upto, From}
 use Rattle.floor.specs.declared.Settings.{Settings}
 use Rattle.floor.specs.declared.Tile.{Tile}
 use Rattle.floor.specs.declared.Floor.{Floor}
 use Rattle.floor.specs.Settings.{total, isHopper, settingsPass}
-use Rattle.floor.specs.Model.{TileState, noTile, tileOf, membersOf, withTile}
-use Rattle.floor.specs.Memory.{zeroTile, zeroCanister, zeroFloor, headOf, stateOf, view, unused, head, layoutPlaces, pack, retiled}
+use Rattle.floor.specs.Model.{TileState, noTile, tileOf, withTile}
+use Rattle.floor.specs.Memory.{zeroCounters, zeroTile, zeroCanister, zeroFloor, view, head, layoutPlaces, pack, stoppedHead, repairedHead, retiled, refitted}
 use Rattle.floor.specs.Well.{wellFormed}
 use Rattle.floor.specs.Calls.{freshTile, freshFloor, stopped, repaired}
 use Rattle.floor.proofs.Well.{settings-fact}
 use Rattle.floor.proofs.Rows.{view-at}
-use Rattle.floor.proofs.Pack.{shown, place-shown, pack-head, pack-tab, well-fits, well-few, well-head}
+use Rattle.floor.proofs.Pack.{pack-head, pack-tab, well-fits, well-few}
 
--- ---- a tile of a well-formed floor
+-- ---- one tile anew
 module _ (f : Floor) (t : ℕ) (w : wellFormed f ≡ true) (on : t < total (f .settings)) where
-  pub below-64 : t < 64
-  below-64 = omega (arith, well-few f w)
-
-  pub head-view : headOf f t ≡ head (tileOf (view f) t)
-  head-view = sym (well-head f t w on) ∙ ap head (sym (view-at f t noTile on))
-
-  pub place-view : (k : ℕ) → k < 16 → getD (f .canisters) (16 * t + k) zeroCanister ≡ getD (membersOf (view f) t) k zeroCanister
-  place-view k h =
-      let q : (16 * t + k) / 16 ≡ t = omega arith in
-      let r : (16 * t + k) % 16 ≡ k = omega arith in
-      let e : shown f t ≡ tileOf (view f) t = tab-at (total (f .settings)) (stateOf f) t unused on ∙ sym (view-at f t noTile on) in
-      place-shown f (well-few f w) (well-fits f w) (16 * t + k) (omega (arith, below-64)) ∙ ap (λ (j : ℕ). getD (shown f j .members) ((16 * t + k) % 16) zeroCanister) q
-      ∙ ap (λ (j : ℕ). getD (shown f t .members) j zeroCanister) r ∙ ap (λ (x : TileState). getD (x .members) k zeroCanister) e
-
-  -- ---- one tile anew
   pub stopped-pack : (h : Tile) → h ≡ head (tileOf (view f) t)
-      → _≡_ {A = Floor} (retiled f (set (f .tiles) t (record { running = 0; distance = 255; next = record { code = 0 }; token = record { code = 0 }; count = h .count })))
+      → _≡_ {A = Floor} (retiled f (set (f .tiles) t (stoppedHead h)))
       (pack (withTile (view f) t (stopped (tileOf (view f) t))))
   unfolding stopped head
   stopped-pack h e =
-      ap (λ (n : ℕ). put (record { running = 0; distance = 255; next = record { code = 0 }; token = record { code = 0 }; count = n })) (ap (λ (x : Tile). x .count) e)
+      ap (λ (x : Tile). put (stoppedHead x)) e
       ∙ pack-head f (well-few f w) (well-fits f w) t (stopped (tileOf (view f) t)) on (ap (λ (x : TileState). x .members) (view-at f t noTile on))
     where
       put : Tile → Floor
       put x = retiled f (set (f .tiles) t x)
 
   pub repaired-pack : (h : Tile) → h ≡ head (tileOf (view f) t)
-      → _≡_ {A = Floor} (retiled f (set (f .tiles) t (record { running = 1; distance = h .distance; next = h .next; token = h .token; count = h .count })))
+      → _≡_ {A = Floor} (retiled f (set (f .tiles) t (repairedHead h)))
       (pack (withTile (view f) t (repaired (tileOf (view f) t))))
   unfolding repaired head
   repaired-pack h e =
-      ap (λ (x : Tile). put (record { running = 1; distance = x .distance; next = x .next; token = x .token; count = x .count })) e
+      ap (λ (x : Tile). put (repairedHead x)) e
       ∙ pack-head f (well-few f w) (well-fits f w) t (repaired (tileOf (view f) t)) on (ap (λ (x : TileState). x .members) (view-at f t noTile on))
     where
       put : Tile → Floor
@@ -82,11 +66,11 @@ fresh-few s p = settings-fact s .0 p .few
 
 pub fresh-pack : (s : Settings) (z : Floor) (ts : List Tile) → z ≡ zeroFloor → length ts ≡ 64
     → Upto (total s) (λ t. head (freshTile s t)) zeroTile ts → From (total s) (λ t. zeroTile) zeroTile ts
-    → _≡_ {A = Floor} (record { settings = s; counters = z .counters; tiles = ts; canisters = z .canisters; layouts = z .layouts }) (pack (freshFloor s))
+    → _≡_ {A = Floor} (retiled (refitted z s) ts) (pack (freshFloor s))
 unfolding freshFloor freshTile zeroFloor layoutPlaces
 fresh-pack s z ts e l up off =
-    ap (λ (x : Floor). record { settings = s; counters = x .counters; tiles = ts; canisters = x .canisters; layouts = x .layouts }) e
-    ∙ pack-tab s (record { last = 0; booked = 0; delivered = replicate 4 0 }) (freshTile s) ts (replicate 1024 zeroCanister) [] l (length-replicate 1024 zeroCanister)
+    ap (λ (x : Floor). retiled (refitted x s) ts) e
+    ∙ pack-tab s zeroCounters (freshTile s) ts (replicate 1024 zeroCanister) [] l (length-replicate 1024 zeroCanister)
     (λ t _ k. up t k) (λ t _ k. off t k) (λ i k _. none i k) (λ i k _. none i k)
   where
     none : (i : ℕ) → i < 1024 → getD (replicate 1024 zeroCanister) i zeroCanister ≡ zeroCanister

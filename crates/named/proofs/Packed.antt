@@ -2,22 +2,21 @@
 use mathlib.Core.Path.{_≡_, refl, sym, ap, _∙_}
 use mathlib.Core.Bool.{Bool, true, false, cond, not}
 use mathlib.Core.List.{List}
-use Prim.Native.Nat.{ℕ, zero, suc, _+_, _^_, _<_}
+use Prim.Native.Nat.{ℕ, zero, suc, _<_}
 use native.Mathlib.Omega.{arith}
 use native.Mathlib.Decide.{decLe}
-use lib.Dec.{ltb, eqb}
-use lib.ListN.{getD}
+use lib.Dec.{ltb}
 use borrow.Author.Tests.{lt-ltb, le-ltb, not-false}
 use Rattle.laws.specs.Define.{tab, bit, refusal}
-use Rattle.laws.specs.Tests.{test-none}
-use Rattle.laws.specs.Tables.{tab-same}
+use Rattle.laws.proofs.Tests.{test-none}
+use Rattle.laws.proofs.Tables.{tab-same}
 use Rattle.floor.specs.declared.Tile.{Tile}
 use Rattle.floor.specs.declared.Layout.{Layout}
 use Rattle.floor.specs.declared.Floor.{Floor}
 use Rattle.floor.specs.Settings.{total}
 use Rattle.floor.specs.Layouts.{nameOk, setBelow, setOf, keepIn, forgetIn}
 use Rattle.floor.specs.Model.{TileState, noTile, tileOf, runs, runsOf}
-use Rattle.floor.specs.Memory.{zeroTile, headOf, stateOf, view, head, usedLayouts, layoutPlaces, layoutsFit, pack, retiled, relaid}
+use Rattle.floor.specs.Memory.{headOf, stateOf, view, head, usedLayouts, layoutPlaces, layoutsFit, pack, retiled, relaid}
 use Rattle.floor.specs.Well.{wellFormed}
 use Rattle.floor.specs.Calls.{stopped, repaired, keepTests, runningSet, keptUnder, heldTests, forgotten, recallTile, recalled}
 use Rattle.floor.proofs.Rows.{fits-layouts, view-at}
@@ -25,7 +24,7 @@ use Rattle.floor.proofs.Pack.{well-sound, well-fits, well-head}
 use Rattle.floor.proofs.Laying.{Rises, laid-of}
 use Rattle.floor.proofs.Named.{pack-relaid, recalledHead, pack-recalled}
 use Rattle.laying.specs.Places.{putIn, ranIn, recallHead, recallAt}
-use Rattle.laying.proofs.Laws.{some-name, set-used, keep-used, forget-used}
+use Rattle.laying.proofs.Places.{some-name, set-used, keep-used, forget-used}
 
 -- ---- the set of what passes depends on what passes alone
 set-same : (p q : ℕ → Bool) (n : ℕ) → ((t : ℕ) → t < n → p t ≡ q t) → setBelow p n ≡ setBelow q n

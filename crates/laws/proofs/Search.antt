@@ -5,7 +5,8 @@ use mathlib.Core.Bool.{Bool, true, false, cond, true≢false, false≢true}
 use mathlib.Core.List.{List, [], _∷_, List·Memᴰ, List·Memᴰ·head, List·Memᴰ·tail}
 use Prim.Native.Nat.{ℕ}
 use Rattle.laws.specs.Define.{anyOf, firstOf}
-use Rattle.laws.specs.Tests.{or-case, or-left, or-right}
+use Rattle.laws.specs.Every.{All}
+use Rattle.laws.proofs.Tests.{or-case, or-left, or-right, or-off-left, or-off-right}
 
 -- ---- some element passes: it is found, and it is enough
 pub any-mem : {A : Type 0} (p : A → Bool) {x : A} {l : List A} → List·Memᴰ x l → p x ≡ true → anyOf p l ≡ true
@@ -21,6 +22,17 @@ any-find {A} p (y ∷ l) h = go (or-case (p y) (anyOf p l) h) (any-find p l)
     go : (p y ≡ true) ⊎ (anyOf p l ≡ true) → (anyOf p l ≡ true → (x : A) × List·Memᴰ x l × (p x ≡ true)) → (x : A) × List·Memᴰ x (y ∷ l) × (p x ≡ true)
     go (inl e) ih = (y, List·Memᴰ·head refl, e)
     go (inr e) ih = let r = ih e in (r .0, List·Memᴰ·tail (r .1), r .2)
+
+-- none passes
+pub any-none : {A : Type 0} (p : A → Bool) (l : List A) → anyOf p l ≡ false → All (λ x. p x ≡ false) l
+unfolding anyOf
+any-none p [] h = tt
+any-none p (x ∷ l) h = (or-off-left (p x) (anyOf p l) h, any-none p l (or-off-right (p x) (anyOf p l) h))
+
+pub none-any : {A : Type 0} (p : A → Bool) (l : List A) → All (λ x. p x ≡ false) l → anyOf p l ≡ false
+unfolding anyOf
+none-any p [] h = refl
+none-any p (x ∷ l) h = rw (h .0) (none-any p l (h .1))
 
 pub any-sub : {A : Type 0} (p q : A → Bool) (l : List A) → ((x : A) → p x ≡ true → q x ≡ true) → anyOf p l ≡ true → anyOf q l ≡ true
 any-sub p q l f h = let r = any-find p l h in any-mem q (r .1) (f (r .0) (r .2))

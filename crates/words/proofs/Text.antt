@@ -1,4 +1,4 @@
--- Laws about the definitions of Text, one step of a loop each.
+-- Words and numbers, one step of a loop each.
 use mathlib.Core.Path.{_≡_, refl, sym, ap, _∙_}
 use mathlib.Core.Bool.{Bool, true, false, _&&_}
 use mathlib.Core.List.{List, [], _∷_, _++_, append-assoc, append-nil}

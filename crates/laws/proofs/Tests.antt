@@ -45,6 +45,10 @@ pub and-yes : (a : Bool) → (a && true) ≡ a
 and-yes true = refl
 and-yes false = refl
 
+pub and-no : (a : Bool) → (a && false) ≡ false
+and-no true = refl
+and-no false = refl
+
 -- ---- one or the other
 pub or-case : (a b : Bool) → (a || b) ≡ true → (a ≡ true) ⊎ (b ≡ true)
 or-case true b h = inl refl
@@ -56,6 +60,18 @@ or-left a b h = rw h
 pub or-right : (a b : Bool) → b ≡ true → (a || b) ≡ true
 or-right true b h = refl
 or-right false b h = h
+
+pub or-no : (a : Bool) → (a || false) ≡ a
+or-no true = refl
+or-no false = refl
+
+pub or-off-left : (a b : Bool) → (a || b) ≡ false → a ≡ false
+or-off-left true b h = absurd (true≢false h)
+or-off-left false b h = refl
+
+pub or-off-right : (a b : Bool) → (a || b) ≡ false → b ≡ false
+or-off-right true b h = absurd (true≢false h)
+or-off-right false b h = h
 
 -- ---- a choice whose test is known; for a program's returns
 pub pick-yes : {A : Type 0} {b : Bool} (x y : A) → b ≡ true → x ≡ cond b x y

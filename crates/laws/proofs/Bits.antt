@@ -11,7 +11,7 @@ use lib.Pow.{pow-lt, pow-add, pow-pos, shl-shr, shl-exact, split}
 use lib.Bits.{bitAnd, bitOr, bitXor, or-shr, or-mod, xor-shr, xor-mod, shifted-even, and-mask}
 use borrow.Author.Tests.{eqb-true, eqb-false, ltb-true, ltb-false, eq-eqb, lt-ltb}
 use Rattle.laws.specs.Define.{bit}
-use Rattle.laws.specs.Tests.{same-test}
+use Rattle.laws.proofs.Tests.{same-test}
 
 -- ---- the power of two that the code makes by 1 << t, and its bits
 pub one-shl : (t : ℕ) → t < 64 → 1 * 2 ^ t % 2 ^ 64 ≡ 2 ^ t

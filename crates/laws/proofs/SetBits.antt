@@ -16,8 +16,9 @@ use lib.ListN.{length, getD, length-append}
 use borrow.Author.Tests.{eq-eqb, ne-eqb}
 use Rattle.laws.specs.Define.{tab, cat, anyOf, sum, bit, bitsBelow, join}
 use Rattle.laws.specs.Every.{All}
-use Rattle.laws.specs.Tests.{not-both}
-use Rattle.laws.specs.Lists.{all-append, all-imp, map-append, swap-append, cat-nil, perm-of}
+use Rattle.laws.proofs.Tests.{not-both}
+use Rattle.laws.proofs.Search.{any-none, none-any}
+use Rattle.laws.proofs.Lists.{all-append, all-imp, map-append, swap-append, cat-nil, perm-of}
 
 -- ---- the list grows by the last number
 pub bits-more : (x n : ℕ) → bitsBelow x (n + 1) ≡ bitsBelow x n ++ cond (bit x n) (n ∷ []) []
@@ -78,21 +79,6 @@ bit-below x n t h e = go (decLe (suc t) n)
     go : Dec (t < n) → t < n
     go (yes l) = l
     go (no l) = not-both e (bit-off x n t h (omega arith))
-
--- ---- some number of a list passes a test, or none does
-pub any-none : {A : Type 0} (p : A → Bool) (l : List A) → anyOf p l ≡ false → All (λ x. p x ≡ false) l
-unfolding anyOf
-any-none p [] h = tt
-any-none p (x ∷ l) h = go (p x) refl h (any-none p l)
-  where
-    go : (b : Bool) → p x ≡ b → (b || anyOf p l) ≡ false → (anyOf p l ≡ false → All (λ x. p x ≡ false) l) → (p x ≡ false) × All (λ x. p x ≡ false) l
-    go true e k ih = not-both refl k
-    go false e k ih = (e, ih k)
-
-pub none-any : {A : Type 0} (p : A → Bool) (l : List A) → All (λ x. p x ≡ false) l → anyOf p l ≡ false
-unfolding anyOf
-none-any p [] h = refl
-none-any p (x ∷ l) h = rw (h .0) (none-any p l (h .1))
 
 -- ---- joined lists
 pub join-append : {A : Type 0} (a b : List (List A)) → join (a ++ b) ≡ join a ++ join b

@@ -1,4 +1,4 @@
--- Laws about the definitions of Line: a part of the line as its word, and one turn of each loop.
+-- A part of the line as its word, and one turn of each loop.
 use mathlib.Core.Path.{_≡_, refl, sym, ap, _∙_}
 use mathlib.Core.Logic.{_≢_}
 use mathlib.Core.Bool.{Bool, true, false, cond, not, _&&_, _||_}
@@ -12,10 +12,11 @@ use lib.ListN.{length, take, drop, getD, set, replicate, length-take, length-dro
 use lib.Seq.{drop-cons, drop-drop, getD-drop, getD-set-same, getD-set-other}
 use borrow.Author.Tests.{eq-eqb, ne-eqb, lt-ltb, le-ltb, ltb-true, le-leb}
 use Rattle.laws.specs.Define.{tab, allOf, anyOf, bit}
-use Rattle.laws.specs.Tests.{same-test}
-use Rattle.laws.specs.Tables.{tab-length, tab-at, filled, below-zero, below-more, Upto, From}
+use Rattle.laws.proofs.Tests.{same-test, or-no}
+use Rattle.laws.specs.Filled.{Upto, From}
+use Rattle.laws.proofs.Tables.{tab-length, tab-at, filled, below-zero, below-more}
 use Rattle.words.specs.Text.{hasSome, numberOf}
-use Rattle.words.specs.Laws.{from-place, from-end}
+use Rattle.words.proofs.Text.{from-place, from-end}
 use Rattle.words.specs.declared.Parsed.{Parsed}
 use Rattle.words.specs.declared.Parsed.the-variants.{Value}
 use Rattle.parse.specs.Line.{remark, isValue, valueOf, numberAt, allNumbers, valueAt, parts, isTile, onlyTiles, lists, TilesIn, allWord, noneWord, SourcesIn, nameIn}
@@ -101,10 +102,6 @@ or-swap true true c = refl
 or-swap true false c = refl
 or-swap false b c = refl
 
-or-none : (a : Bool) → (a || false) ≡ a
-or-none true = refl
-or-none false = refl
-
 -- the parts from place `at` on are still to be read; the tiles before it are in the set
 abbrev pub Unread : List ℕ → ℕ → ℕ → Type 0
 Unread s at set = (onlyTiles (parts (drop at s)) ≡ onlyTiles (parts s)) × ((t : ℕ) → (bit set t || lists (parts (drop at s)) t) ≡ lists (parts s) t)
@@ -147,7 +144,7 @@ module _ (s : List ℕ) (at to set : ℕ) (found : (at ≤ to) × (to ≤ length
 
     pub tiles-end : length s ≤ to → TilesIn s (Set next)
     unfolding TilesIn onlyTiles allOf lists anyOf
-    tiles-end h = (sym (rw (from-end s to h) at only), λ t. sym (or-none (bit next t)) ∙ (rw (from-end s to h) at (listed t)))
+    tiles-end h = (sym (rw (from-end s to h) at only), λ t. sym (or-no (bit next t)) ∙ (rw (from-end s to h) at (listed t)))
 
 -- ---- the word of fill tiles
 not-two : {G : Type 0} (w : List ℕ) → w ≡ allWord → w ≡ noneWord → G
