@@ -9,6 +9,7 @@ use floor::Answer;
 use floor::Canister;
 use floor::Floor;
 use floor::Members;
+use floor::refusals;
 use members::insert;
 use soundness::well_formed;
 
@@ -18,7 +19,7 @@ pub fn book_checked(floor: Floor, tile: u32, canister: Canister, well: bool) -> 
     ensures { λ r. ⌜ r ≡ bookAnswer floor tile canister ⌝ }
 {
     let mut changed = floor;
-    let mut number: u8 = 30;
+    let mut number: u8 = refusals::MALFORMED;
     if well {
         let t = (tile % 64) as usize;
         let s = changed.settings;

@@ -12,22 +12,11 @@ use floor::Counters;
 use floor::Members;
 use floor::Settings;
 use floor::Tile;
+use floor::refusals;
+use places::stands_apart;
 use sets::has;
-use settings::tiles_of;
 
-// Whether the canister stands at least d in a or in b from another.
-pub fn stands_apart(s: Settings, x: Canister, y: Canister) -> bool
-    ensures { λ r. ⌜ r ≡ apart (spacing s) x y ⌝ }
-{
-    let d = (s.length as u32) + (s.gap as u32);
-    let xa = x.a as u32;
-    let xb = x.b as u32;
-    let ya = y.a as u32;
-    let yb = y.b as u32;
-    ((xa + d <= ya) | (ya + d <= xa)) | ((xb + d <= yb) | (yb + d <= xb))
-}
-
-// The same for each of the first n places.
+// Whether the canister stands apart from each of the first n places.
 pub fn has_room(s: Settings, c: Canister, items: [Canister; 16], n: usize) -> bool
     requires { ⌜ n ≤ 16 ⌝ }
     ensures { λ r. ⌜ r ≡ allOf (apart (spacing s) c) (take n items) ⌝ }
@@ -45,35 +34,35 @@ pub fn book_refusal(s: Settings, last: u32, tile: u32, c: Canister, running: u8,
     requires { ⌜ (total s ≤ 64) × (s .length ≤ s .width) × (tile < total s → own .count ≤ 16) ⌝ }
     ensures { λ r. ⌜ r ≡ refusal (bookingTests s last tile c running (take (own .count) (own .items))) ⌝ }
 {
-    let all = tiles_of(s);
+    let all = s.tile_count();
     let off = all <= tile as usize;
     let fill = has(s.sources, (tile % 64) as u8);
     if off {
-        return 4;
+        return refusals::NO_TILE;
     }
     if !fill {
-        return 5;
+        return refusals::NO_FILL_TILE;
     }
     if c.number == 0 {
-        return 6;
+        return refusals::NUMBER_ZERO;
     }
     let span = s.width - s.length;
     let within = (c.a <= span) & (c.b <= span);
     if !within {
-        return 7;
+        return refusals::OUTSIDE;
     }
     let idle = running != 1;
     let past = c.number <= last;
     if idle {
-        return 31;
+        return refusals::STOPPED;
     }
     if past {
-        return 33;
+        return refusals::NUMBER_PAST;
     }
     let items = own.items;
     let room = has_room(s, c, items, own.count as usize);
     if !room {
-        return 34;
+        return refusals::TOO_NEAR;
     }
     0
 }

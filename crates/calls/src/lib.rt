@@ -21,6 +21,7 @@ use floor::Rounded;
 use floor::Settings;
 use floor::Side;
 use floor::Tile;
+use floor::refusals;
 use floor::zero_floor;
 use motion::run_round;
 pub use named::forget;
@@ -55,7 +56,7 @@ pub fn stop(floor: Floor, tile: u32) -> Answer
     let well = well_formed(floor);
     if !well {
         return Answer {
-            refusal: 30,
+            refusal: refusals::MALFORMED,
             floor: floor,
         };
     }
@@ -80,7 +81,7 @@ pub fn repair(floor: Floor, tile: u32) -> Answer
     let well = well_formed(floor);
     if !well {
         return Answer {
-            refusal: 30,
+            refusal: refusals::MALFORMED,
             floor: floor,
         };
     }
@@ -103,11 +104,6 @@ fn unread(n: u8) -> Reading
     ensures { λ r. ⌜ r ≡ unreadWith n ⌝ }
 {
     let none = Side::NONE;
-    let canister = Canister {
-        number: 0,
-        a: 0,
-        b: 0,
-    };
     Reading {
         refusal: n,
         tile: Tile {
@@ -117,7 +113,7 @@ fn unread(n: u8) -> Reading
             token: none,
             count: 0,
         },
-        members: [canister; 16],
+        members: [Canister::ZERO; 16],
     }
 }
 
@@ -127,7 +123,7 @@ pub fn read(floor: Floor, tile: u32) -> Reading
 {
     let well = well_formed(floor);
     if !well {
-        return unread(30);
+        return unread(refusals::MALFORMED);
     }
     let n = read_refusal(floor, tile);
     if n != 0 {
@@ -166,7 +162,7 @@ pub fn round(floor: Floor) -> Rounded
     if !well {
         let report = no_report();
         return Rounded {
-            refusal: 30,
+            refusal: refusals::MALFORMED,
             floor: floor,
             report: report,
         };

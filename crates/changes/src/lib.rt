@@ -14,9 +14,9 @@ use floor::Floor;
 use floor::Settings;
 use floor::Side;
 use floor::Tile;
+use floor::refusals;
 use floor::zero_floor;
 use sets::holds;
-use settings::tiles_of;
 
 // A tile of a fresh floor.
 pub fn fresh_tile(s: Settings, t: usize) -> Tile
@@ -39,7 +39,7 @@ pub fn fresh_floor(s: Settings) -> Floor
     requires { ⌜ settingsPass s ≡ true ⌝ }
     ensures { λ r. ⌜ r ≡ pack (freshFloor s) ⌝ }
 {
-    let all = tiles_of(s);
+    let all = s.tile_count();
     let mut next = zero_floor();
     let mut tiles = next.tiles;
     for t in 0usize..all {
@@ -66,12 +66,7 @@ pub fn tile_members(floor: Floor, tile: u32) -> [Canister; 16]
     ensures { λ r. ⌜ r ≡ tab 16 (λ k. getD (membersOf (view floor) tile) k zeroCanister) ⌝ }
 {
     let t = tile as usize;
-    let zero = Canister {
-        number: 0,
-        a: 0,
-        b: 0,
-    };
-    let mut items = [zero; 16];
+    let mut items = [Canister::ZERO; 16];
     for k in 0usize..16 {
         items[k] = floor.canisters[16 * t + k];
     }
@@ -84,16 +79,16 @@ pub fn stop_refusal(floor: Floor, tile: u32) -> u8
     ensures { λ r. ⌜ r ≡ refusal (stopTests (view floor) tile) ⌝ }
 {
     let s = floor.settings;
-    let all = tiles_of(s);
+    let all = s.tile_count();
     if all <= tile as usize {
-        return 4;
+        return refusals::NO_TILE;
     }
     if holds(s.hoppers, tile as usize) {
-        return 8;
+        return refusals::HOPPER;
     }
     let old = tile_head(floor, tile);
     if old.running != 1 {
-        return 31;
+        return refusals::STOPPED;
     }
     0
 }
@@ -123,13 +118,13 @@ pub fn repair_refusal(floor: Floor, tile: u32) -> u8
     ensures { λ r. ⌜ r ≡ refusal (repairTests (view floor) tile) ⌝ }
 {
     let s = floor.settings;
-    let all = tiles_of(s);
+    let all = s.tile_count();
     if all <= tile as usize {
-        return 4;
+        return refusals::NO_TILE;
     }
     let old = tile_head(floor, tile);
     if old.running == 1 {
-        return 32;
+        return refusals::RUNNING;
     }
     0
 }
@@ -160,9 +155,9 @@ pub fn read_refusal(floor: Floor, tile: u32) -> u8
     ensures { λ r. ⌜ r ≡ refusal (readTests (view floor) tile) ⌝ }
 {
     let s = floor.settings;
-    let count = tiles_of(s);
+    let count = s.tile_count();
     if count <= tile as usize {
-        return 4;
+        return refusals::NO_TILE;
     }
     0
 }

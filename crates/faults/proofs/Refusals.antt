@@ -17,9 +17,12 @@ use Rattle.wire.specs.Bytes.{le, field, width}
 use Rattle.wire.specs.Fields.{le-one, field-in}
 use Rattle.floor.specs.declared.Settings.{Settings}
 use Rattle.floor.specs.Settings.{total, hoppersOf, sizeTests, setTests, measureTests, settingsTests, settingsRefusal}
+use Rattle.floor.specs.Memory.{head}
 use Rattle.settings.specs.Groups.{sizesWrong}
 use Rattle.settings.proofs.Groups.{sizes-first, few-tiles}
-use Rattle.image.specs.Image.{lowest, oneTile, hopperCount, byteWrong, settingsWidths, tileWidths, lengthIn, settingsIn, settingsFaults, countersFaults, tileFaults, layoutFaults, endFaults, ownFaults, recordFault}
+use Rattle.image.specs.Image.{lowest, oneTile, hopperCount, byteWrong, settingsWidths, tileWidths, lengthIn, settingsIn, countersIn, tileIn, layoutIn, settingsFaults, countersFaults, tileFaults, layoutFaults, endFaults, ownFaults, recordFault}
+use Rattle.faults.specs.declared.Found.{Found}
+use Rattle.faults.specs.Scan.{Holds}
 
 -- ---- the values
 module _ (s : List ℕ) (at : ℕ) where
@@ -251,3 +254,23 @@ module _ (due t n : ℕ) (b : List ℕ) where
   pub own-5 : due ≡ 5 → refusal (layoutFaults n) ≡ refusal (ownFaults due t n b)
   unfolding ownFaults
   own-5 e = rw e
+
+-- ---- what a record of each kind holds
+module _ (s : List ℕ) (at due t n : ℕ) (e : n ≡ le 2 (drop at s)) (r : Found) where
+  body : drop (at + 4) s ≡ drop 4 (drop at s)
+  body = sym (drop-drop 4 at s)
+
+  pub holds-1 : due ≡ 1 → r .settings ≡ settingsIn n (drop (at + 4) s) → Holds due t (drop at s) r
+  holds-1 d q = record { settings = λ k. q ∙ rw (body, e); counters = λ k. absurd (omega arith); tile = λ k. absurd (omega arith); layout = λ k. absurd (omega arith) }
+
+  pub holds-2 : due ≡ 2 → r .counters ≡ countersIn t (drop (at + 4) s) → Holds due t (drop at s) r
+  holds-2 d q = record { settings = λ k. absurd (omega arith); counters = λ k. q ∙ rw body; tile = λ k. absurd (omega arith); layout = λ k. absurd (omega arith) }
+
+  pub holds-3 : due ≡ 3 → r .tile ≡ head (tileIn (drop (at + 4) s)) → Holds due t (drop at s) r
+  holds-3 d q = record { settings = λ k. absurd (omega arith); counters = λ k. absurd (omega arith); tile = λ k. q ∙ rw body; layout = λ k. absurd (omega arith) }
+
+  pub holds-4 : due ≡ 4 → Holds due t (drop at s) r
+  holds-4 d = record { settings = λ k. absurd (omega arith); counters = λ k. absurd (omega arith); tile = λ k. absurd (omega arith); layout = λ k. absurd (omega arith) }
+
+  pub holds-5 : due ≡ 5 → r .layout ≡ layoutIn (drop (at + 4) s) → Holds due t (drop at s) r
+  holds-5 d q = record { settings = λ k. absurd (omega arith); counters = λ k. absurd (omega arith); tile = λ k. absurd (omega arith); layout = λ k. q ∙ rw body }

@@ -1,4 +1,4 @@
--- The walks over the layouts' and the tiles' records: the refusal that is left to find, and where the bodies start.
+-- The walks over the layouts' and the tiles' records: the refusal that is left to find, what was read so far, and where the bodies start.
 use mathlib.Core.Path.{_≡_, refl, sym, ap, _∙_}
 use mathlib.Core.Logic.{_≢_}
 use mathlib.Core.Bool.{true, false}
@@ -6,19 +6,25 @@ use mathlib.Core.List.{List, [], _∷_, _++_, append-assoc, append-nil}
 use Prim.Native.Nat.{ℕ, zero, suc, _+_, _-_, _*_, _≤_, _<_}
 use native.Mathlib.Omega.{arith}
 use native.Mathlib.Numerals.{add-one}
-use native.Mathlib.Decide.{ℕ-discrete}
+use native.Mathlib.Decide.{decLe, ℕ-discrete}
 use lib.Dec.{eqb}
 use borrow.Author.Tests.{lt-ltb, le-ltb, lt-leb, le-leb, ne-eqb}
-use lib.ListN.{length, drop, getD, set, length-drop}
+use lib.ListN.{length, drop, getD, set, length-drop, List·getD-eq-default}
 use lib.Seq.{drop-drop, getD-set-same, getD-set-other}
 use Rattle.laws.specs.Define.{tab, refusal}
+use Rattle.laws.proofs.Tables.{filled}
 use Rattle.wire.specs.Bytes.{le, field}
 use Rattle.floor.specs.declared.Layout.{Layout}
-use Rattle.image.specs.Image.{tileWidths, lengthIn, bodyIn, restIn, layoutIn, isLayout, layoutsIn, afterLayouts, recordFault, endFault, tilesFault, laidFault}
+use Rattle.floor.specs.declared.Tile.{Tile}
+use Rattle.floor.specs.Memory.{zeroTile, zeroLayout, unused, head}
+use Rattle.image.specs.Image.{tileWidths, lengthIn, bodyIn, restIn, tileIn, tilesIn, layoutIn, isLayout, layoutsIn, afterLayouts, recordFault, endFault, tilesFault, laidFault}
 use Rattle.image.proofs.Records.{whole}
-use Rattle.image.proofs.Again.{tile-good}
+use Rattle.image.proofs.LoadedWrites.{tile-good}
 use Rattle.image.proofs.Layouts.{layout-good}
-use Rattle.faults.specs.Scan.{Laying, after, Start, Starts}
+use Rattle.image.proofs.Read.{tiles-length}
+use Rattle.faults.specs.Scan.{layoutFrom, Laying, after, Start, Starts}
+use Rattle.faults.proofs.Values.{layout-some, layout-none}
+use Rattle.faults.proofs.Filled.{Filled, filled-turn, filled-end}
 
 -- ---- the refusal that is left to find
 less : (c t : ℕ) → t < c → c - t ≡ suc (c - (t + 1))
@@ -86,6 +92,58 @@ pub after-more : (t : ℕ) (ys xs zs : List ℕ) → ys ≡ after t xs → restI
 unfolding after
 after-more t ys xs zs e r = rw (add-one t, ← e) (sym r)
 
+-- ---- the tiles that were read
+after-rest : (t : ℕ) (xs : List ℕ) → after t (restIn xs) ≡ restIn (after t xs)
+unfolding after
+after-rest zero xs = refl
+after-rest (suc t) xs = ap (λ (l : List ℕ). restIn l) (after-rest t xs)
+
+pub tiles-at : (n t : ℕ) (xs : List ℕ) → t < n → getD (tilesIn n xs) t unused ≡ tileIn (bodyIn (after t xs))
+unfolding tilesIn after
+tiles-at zero t xs h = absurd (omega arith)
+tiles-at (suc n) zero xs h = refl
+tiles-at (suc n) (suc t) xs h = tiles-at n t (restIn xs) (omega arith) ∙ ap (λ (l : List ℕ). tileIn (bodyIn l)) (after-rest t xs)
+
+pub tiles-off : (n t : ℕ) (xs : List ℕ) → n ≤ t → getD (tilesIn n xs) t unused ≡ unused
+tiles-off n t xs h = List·getD-eq-default (tilesIn n xs) unused (omega (arith, tiles-length n xs))
+
+head-unused : zeroTile ≡ head unused
+unfolding head
+head-unused = refl
+
+module _ (c : ℕ) (xs : List ℕ) where
+  abbrev pub headOf : ℕ → Tile
+  headOf t = head (getD (tilesIn c xs) t unused)
+
+  abbrev pub Tiled : ℕ → List Tile → Type 0
+  Tiled t out = Filled 64 headOf zeroTile t out
+
+  pub tiled-turn : (t : ℕ) (out : List Tile) (v : Tile) (ys : List ℕ) → t < c → c ≤ 64 → ys ≡ after t xs → v ≡ head (tileIn (bodyIn ys)) → Tiled t out → Tiled (t + 1) (set out t v)
+  tiled-turn t out v ys h few e q p = filled-turn 64 headOf zeroTile t out v (omega arith) (q ∙ ap (λ (l : List ℕ). head (tileIn (bodyIn l))) e ∙ ap head (sym (tiles-at c t xs h))) p
+
+  pub tiled-all : (t : ℕ) (out : List Tile) → c ≤ t → t ≤ 64 → Tiled t out → out ≡ tab 64 headOf
+  tiled-all t out lo few p = filled-end 64 headOf zeroTile t out few (λ i h. head-unused ∙ ap head (sym (tiles-off c i xs (omega arith)))) p
+
+-- ---- the layouts that were read
+module _ (s : List ℕ) (from : ℕ) where
+  abbrev pub layoutAt : ℕ → Layout
+  layoutAt k = layoutIn (drop (from + 4 + 20 * k) s)
+
+  abbrev pub Laid : ℕ → List Layout → Type 0
+  Laid n out = Filled 8 layoutAt zeroLayout n out
+
+  laid-all : (n : ℕ) (out : List Layout) → Laid n out → out ≡ tab 8 (layoutFrom s from n)
+  laid-all n out p = filled 8 (layoutFrom s from n) zeroLayout out (p .0) (λ i h. go i (decLe (suc i) n))
+    where
+      go : (i : ℕ) → Dec (i < n) → getD out i zeroLayout ≡ layoutFrom s from n i
+      go i (yes a) = p .1 i a ∙ layout-some s from n i a
+      go i (no a) = p .2 i (omega arith) ∙ layout-none s from n i (omega arith)
+
+  pub laid-turn : (n at : ℕ) (out : List Layout) (v : Layout) → n < 8 → at ≡ from + 20 * n → v ≡ layoutIn (bodyIn (drop at s)) → Laid n out → Laid (n + 1) (set out n v)
+  laid-turn n at out v h e q p =
+      let k : at + 4 ≡ from + 4 + 20 * n = omega arith in
+      filled-turn 8 layoutAt zeroLayout n out v h (q ∙ ap (λ (l : List ℕ). layoutIn l) (drop-drop 4 at s ∙ ap (λ (j : ℕ). drop j s) k)) p
+
 -- ---- the layouts: n were passed, and the next one would stand at from + 20 × n
 pub record Passed (s : List ℕ) (from n : ℕ) : Type 0 where
   pub room : from + 20 * n ≤ length s
@@ -141,17 +199,17 @@ module _ (s : List ℕ) (from n : ℕ) (P : Passed s from n) where
   pub passed-stop : n < 8 → isLayout here ≡ true → recordFault 5 0 here ≢ 0 → recordFault 5 0 here ≡ laidFault 8 (drop from s)
   passed-stop h e z = sym (faults-stop (8 - (n + 1)) here e z) ∙ ap (λ (k : ℕ). laidFault k here) (sym (less 8 n h)) ∙ P .faults
 
-  passed-end : n ≤ 8 → Ends (8 - n) here → (laidFault 8 (drop from s) ≡ 0) × Laying s from n
-  passed-end h E = (
+  passed-end : (out : List Layout) → Laid s from n out → n ≤ 8 → Ends (8 - n) here → (laidFault 8 (drop from s) ≡ 0) × Laying s from n out
+  passed-end out p h E = (
     sym (P .faults) ∙ E .faults,
-    record { few = h; room = P .room; values = P .values ∙ rw (E .values) (append-nil (tab n (λ k. layoutIn (drop (from + 4 + 20 * k) s)))); rest = sym (P .rest) ∙ E .rest },
+    record { few = h; room = P .room; values = P .values ∙ rw (E .values) (append-nil (tab n (λ k. layoutIn (drop (from + 4 + 20 * k) s)))); rest = sym (P .rest) ∙ E .rest; places = laid-all s from n out p },
   )
 
-  pub passed-off : n ≤ 8 → isLayout here ≡ false → (laidFault 8 (drop from s) ≡ 0) × Laying s from n
-  passed-off h e = passed-end h (ends-off (8 - n) here e)
+  pub passed-off : (out : List Layout) → Laid s from n out → n ≤ 8 → isLayout here ≡ false → (laidFault 8 (drop from s) ≡ 0) × Laying s from n out
+  passed-off out p h e = passed-end out p h (ends-off (8 - n) here e)
 
-  pub passed-all : n ≡ 8 → (laidFault 8 (drop from s) ≡ 0) × Laying s from n
-  passed-all h = let z : 8 - n ≡ 0 = omega arith in passed-end (omega arith) (rw z (ends-zero here))
+  pub passed-all : (out : List Layout) → Laid s from n out → n ≡ 8 → (laidFault 8 (drop from s) ≡ 0) × Laying s from n out
+  passed-all out p h = let z : 8 - n ≡ 0 = omega arith in passed-end out p (omega arith) (rw z (ends-zero here))
 
   pub passed-room : recordFault 5 0 here ≡ 0 → from + 20 * n + 20 ≤ length s
   passed-room z =

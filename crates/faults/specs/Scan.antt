@@ -1,18 +1,35 @@
--- What the scans of an image find: how many layouts there are, and where the body of each tile's record starts.
+-- What is read of a record; what the scans of an image find: the layouts and how many there are, and where the body of each tile's record starts.
 use mathlib.Core.Path.{_≡_}
+use mathlib.Core.Bool.{cond}
 use mathlib.Core.List.{List}
 use Prim.Native.Nat.{ℕ, zero, suc, _+_, _*_, _≤_, _<_}
+use lib.Dec.{ltb}
 use lib.ListN.{length, drop, getD}
 use Rattle.laws.specs.Define.{tab}
 use Rattle.wire.specs.Bytes.{field}
-use Rattle.image.specs.Image.{tileWidths, bodyIn, restIn, layoutIn, layoutsIn, afterLayouts}
+use Rattle.floor.specs.declared.Layout.{Layout}
+use Rattle.floor.specs.Memory.{zeroLayout, head}
+use Rattle.image.specs.Image.{tileWidths, lengthIn, bodyIn, restIn, settingsIn, countersIn, tileIn, layoutIn, layoutsIn, afterLayouts}
+use Rattle.faults.specs.declared.Found.{Found}
 
--- n records of layouts stand in s from `from` on, twenty bytes each
-pub record Laying (s : List ℕ) (from n : ℕ) : Type 0 where
+-- r is what a record at the front of xs holds, where kind `due` is due; for kind 2, t is the number of hoppers
+pub record Holds (due t : ℕ) (xs : List ℕ) (r : Found) : Type 0 where
+  pub settings : due ≡ 1 → r .settings ≡ settingsIn (lengthIn xs) (bodyIn xs)
+  pub counters : due ≡ 2 → r .counters ≡ countersIn t (bodyIn xs)
+  pub tile : due ≡ 3 → r .tile ≡ head (tileIn (bodyIn xs))
+  pub layout : due ≡ 5 → r .layout ≡ layoutIn (bodyIn xs)
+
+-- place k of n layouts whose records begin at `from`
+unfoldable pub layoutFrom : List ℕ → ℕ → ℕ → ℕ → Layout
+layoutFrom s from n k = cond (ltb k n) (layoutIn (drop (from + 4 + 20 * k) s)) zeroLayout
+
+-- n records of layouts stand in s from `from` on, twenty bytes each; `out` are the eight places in memory
+pub record Laying (s : List ℕ) (from n : ℕ) (out : List Layout) : Type 0 where
   pub few : n ≤ 8
   pub room : from + 20 * n ≤ length s
   pub values : layoutsIn 8 (drop from s) ≡ tab n (λ k. layoutIn (drop (from + 4 + 20 * k) s))
   pub rest : afterLayouts 8 (drop from s) ≡ drop (from + 20 * n) s
+  pub places : out ≡ tab 8 (layoutFrom s from n)
 
 -- the bytes left after t records
 unfoldable pub after : ℕ → List ℕ → List ℕ

@@ -69,3 +69,21 @@ no-opposite (suc (suc zero)) n = absurd (n (omega arith) (omega arith))
 no-opposite (suc (suc (suc zero))) n = absurd (n (omega arith) (omega arith))
 no-opposite (suc (suc (suc (suc zero)))) n = absurd (n (omega arith) (omega arith))
 no-opposite (suc (suc (suc (suc (suc k))))) n = refl
+
+pub opposite-five : (k j : ℕ) → k ≤ 4 → k + j ≡ 5 → k ≡ opposite j
+unfolding opposite
+opposite-five k zero h e = absurd (omega arith)
+opposite-five k (suc zero) h e = omega arith
+opposite-five k (suc (suc zero)) h e = omega arith
+opposite-five k (suc (suc (suc zero))) h e = omega arith
+opposite-five k (suc (suc (suc (suc zero)))) h e = omega arith
+opposite-five k (suc (suc (suc (suc (suc j))))) h e = omega arith
+
+pub five-opposite : (k j : ℕ) → 0 < k → k ≡ opposite j → k + j ≡ 5
+unfolding opposite
+five-opposite k zero h e = absurd (omega arith)
+five-opposite k (suc zero) h e = omega arith
+five-opposite k (suc (suc zero)) h e = omega arith
+five-opposite k (suc (suc (suc zero))) h e = omega arith
+five-opposite k (suc (suc (suc (suc zero)))) h e = omega arith
+five-opposite k (suc (suc (suc (suc (suc j))))) h e = absurd (omega arith)

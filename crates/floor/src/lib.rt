@@ -3,10 +3,13 @@
 ghost use mathlib.Core.Path.{_≡_};
 ghost use Prim.Native.Nat.{_≤_, _<_};
 ghost use Rattle.floor.specs.Settings.{total};
+ghost use Rattle.floor.specs.Settings as T;
 ghost use Rattle.floor.specs.Sides as S;
 ghost use Rattle.floor.specs.Sides.{inSet};
 ghost use Rattle.floor.specs.Grid as G;
 ghost use Rattle.floor.specs.Memory.{zeroFloor};
+
+pub mod refusals;
 
 // A canister: its number, never 0, and its place, the south-west corner measured from the tile's.
 #[repr(C)]
@@ -15,6 +18,24 @@ pub struct Canister {
     pub a: u16,
     pub b: u16,
 }
+
+impl Canister {
+    // What stands in an unused place.
+    pub const ZERO: Canister = Canister {
+        number: 0,
+        a: 0,
+        b: 0,
+    };
+}
+
+// The numbers of the sides; none is 0.
+pub const WEST: u8 = 1;
+
+pub const SOUTH: u8 = 2;
+
+pub const NORTH: u8 = 3;
+
+pub const EAST: u8 = 4;
 
 // A side of a tile, by document 01's number.
 #[repr(C)]
@@ -25,13 +46,13 @@ pub struct Side {
 impl Side {
     pub const NONE: Side = Side { code: 0 };
 
-    pub const WEST: Side = Side { code: 1 };
+    pub const WEST: Side = Side { code: WEST };
 
-    pub const SOUTH: Side = Side { code: 2 };
+    pub const SOUTH: Side = Side { code: SOUTH };
 
-    pub const NORTH: Side = Side { code: 3 };
+    pub const NORTH: Side = Side { code: NORTH };
 
-    pub const EAST: Side = Side { code: 4 };
+    pub const EAST: Side = Side { code: EAST };
 
     // The side that a neighbour has here. Opposite sides add up to five.
     pub fn opposite(self) -> Side
@@ -39,7 +60,7 @@ impl Side {
     {
         let k = self.code;
         match k {
-            1..=4 => Side { code: 5 - k },
+            WEST..=EAST => Side { code: 5 - k },
             _ => Side::NONE,
         }
     }
@@ -79,13 +100,13 @@ impl Side {
         ensures { λ r. ⌜ r ≡ G.neighbour s (self .code) t ⌝ }
     {
         let rows = s.rows as usize;
-        let all = s.columns as usize * rows;
+        let all = s.tile_count();
         let k = self.code;
         match k {
-            1 => if rows <= t { t - rows } else { all },
-            2 => if 0 < t % rows { t - 1 } else { all },
-            3 => if t % rows + 1 < rows { t + 1 } else { all },
-            4 => if t + rows < all { t + rows } else { all },
+            WEST => if rows <= t { t - rows } else { all },
+            SOUTH => if 0 < t % rows { t - 1 } else { all },
+            NORTH => if t % rows + 1 < rows { t + 1 } else { all },
+            EAST => if t + rows < all { t + rows } else { all },
             _ => all,
         }
     }
@@ -113,6 +134,22 @@ pub struct Settings {
     pub length: u16,
     pub gap: u16,
     pub travel: u16,
+}
+
+impl Settings {
+    // C, the number of tiles.
+    pub fn tile_count(self) -> usize
+        ensures { λ r. ⌜ r ≡ total self ⌝ }
+    {
+        self.columns as usize * self.rows as usize
+    }
+
+    // d, how far apart canisters stand on one axis at least.
+    pub fn spacing(self) -> u32
+        ensures { λ r. ⌜ r ≡ T.spacing self ⌝ }
+    {
+        self.length as u32 + self.gap as u32
+    }
 }
 
 // The last number booked, how many were booked, and how many were delivered to each hopper, the hoppers in tile order, then zeros.
@@ -221,11 +258,6 @@ pub fn zero_floor() -> Floor
         token: none,
         count: 0,
     };
-    let canister = Canister {
-        number: 0,
-        a: 0,
-        b: 0,
-    };
     let layout = Layout { name: 0, set: 0 };
     Floor {
         settings: Settings {
@@ -244,7 +276,7 @@ pub fn zero_floor() -> Floor
             delivered: [0; 4],
         },
         tiles: [tile; 64],
-        canisters: [canister; 1024],
+        canisters: [Canister::ZERO; 1024],
         layouts: [layout; 8],
     }
 }

@@ -3,7 +3,7 @@ use mathlib.Core.Path.{_≡_, refl, sym, _∙_}
 use mathlib.Core.Logic.{_≢_}
 use mathlib.Core.Bool.{Bool, true, false, cond}
 use mathlib.Core.List.{List, [], _∷_, _++_}
-use Prim.Native.Nat.{ℕ, zero, suc, _+_, _-_, max, _≤_, _<_}
+use Prim.Native.Nat.{ℕ, zero, suc, _+_, _-_, _*_, _%_, _^_, max, _≤_, _<_}
 use native.Mathlib.Omega.{arith}
 use lib.Dec.{eqb}
 use lib.ListN.{length, getD, take}
@@ -14,12 +14,24 @@ use Rattle.laws.specs.Define.{firstOf}
 use Rattle.floor.specs.declared.Canister.{Canister}
 use Rattle.floor.specs.declared.Settings.{Settings}
 use Rattle.floor.specs.declared.Signal.{Signal}
-use Rattle.floor.specs.Sides.{after, following, chosen, inSet}
+use Rattle.floor.specs.Sides.{opposite, after, following, chosen, inSet}
 use Rattle.floor.specs.Settings.{spacing}
 use Rattle.floor.specs.Signal.{requests, lack, missing, signalWith, signalBy}
 use Rattle.floor.proofs.SideTables.{setOf, set-of}
 
--- ---- the sides that want
+-- ---- the sides that want: one side's bit where the neighbour there shows the opposite side
+pub wants-bit : (k shown : ℕ) → 1 ≤ k → k ≤ 4 → shown ≡ opposite k → 1 * 2 ^ (k - 1) % 2 ^ 8 ≡ cond (eqb shown (opposite k)) (2 ^ (k - 1)) 0
+unfolding opposite
+wants-bit zero shown h g e = absurd (omega arith)
+wants-bit (suc zero) shown h g e = rw e
+wants-bit (suc (suc zero)) shown h g e = rw e
+wants-bit (suc (suc (suc zero))) shown h g e = rw e
+wants-bit (suc (suc (suc (suc zero)))) shown h g e = rw e
+wants-bit (suc (suc (suc (suc (suc k))))) shown h g e = absurd (omega arith)
+
+pub wants-none : (k shown : ℕ) → shown ≢ opposite k → 0 ≡ cond (eqb shown (opposite k)) (2 ^ (k - 1)) 0
+wants-none k shown n = rw (ne-eqb shown (opposite k) n)
+
 pub requests-of : {x : ℕ} (w so n e : ℕ) → x ≡ setOf (eqb w 4) (eqb so 3) (eqb n 2) (eqb e 1) → (x < 16) × (inSet x ≡ requests w so n e)
 unfolding requests
 requests-of w so n e h = rw h (set-of (eqb w 4) (eqb so 3) (eqb n 2) (eqb e 1))

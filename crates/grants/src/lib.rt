@@ -2,7 +2,8 @@
 
 ghost use mathlib.Core.Path.{_≡_};
 ghost use mathlib.Core.Bool.{cond};
-ghost use Prim.Native.Nat.{_-_, max, _≤_, _<_};
+ghost use Prim.Native.Nat.{_-_, _^_, max, _≤_, _<_};
+ghost use lib.Dec.{eqb};
 ghost use lib.ListN.{take};
 ghost use Rattle.floor.specs.Sides as S;
 ghost use Rattle.floor.specs.Sides.{inSet};
@@ -10,23 +11,35 @@ ghost use Rattle.floor.specs.Signal as G;
 ghost use Rattle.floor.specs.Signal.{requests};
 ghost use Rattle.grants.specs.TileSignal.{signalFrom};
 use floor::Canister;
+use floor::EAST;
 use floor::Members;
+use floor::NORTH;
+use floor::SOUTH;
 use floor::Settings;
 use floor::Side;
 use floor::Signal;
+use floor::WEST;
 
-// x if b, else nothing.
-fn only_if(b: bool, x: u8) -> u8
-    ensures { λ r. ⌜ r ≡ cond b x 0 ⌝ }
+// The set of one side, bit k - 1 for side k, if the neighbour there shows that it faces here; else the empty set.
+fn wanting(side: Side, shown: u8) -> u8
+    requires { ⌜ (1 ≤ side .code) × (side .code ≤ 4) ⌝ }
+    ensures { λ r. ⌜ r ≡ cond (eqb shown (S.opposite (side .code))) (2 ^ (side .code - 1)) 0 ⌝ }
 {
-    if b { x } else { 0 }
+    let facing = side.opposite();
+    if shown == facing.code {
+        return 1 << (side.code - 1);
+    }
+    0
 }
 
-// The set of the sides that want, from what the neighbours show: side k is bit k - 1.
+// The set of the sides that want, from what the neighbours show.
 pub fn requesting(west: u8, south: u8, north: u8, east: u8) -> u8
     ensures { λ r. ⌜ (r < 16) × (inSet r ≡ requests west south north east) ⌝ }
 {
-    only_if(west == 4, 1) | only_if(south == 3, 2) | only_if(north == 2, 4) | only_if(east == 1, 8)
+    wanting(Side::WEST, west)
+        | wanting(Side::SOUTH, south)
+        | wanting(Side::NORTH, north)
+        | wanting(Side::EAST, east)
 }
 
 // The turn, if it wants; else the first side that wants, strictly after it.
@@ -59,16 +72,16 @@ pub fn lack(s: Settings, side: Side, c: Canister) -> u32
     ensures { λ r. ⌜ r ≡ G.lack s (side .code) c ⌝ }
 {
     let length = s.length as u32;
-    let spacing = length + s.gap as u32;
+    let spacing = s.spacing();
     let width = s.width as u32;
     let a = c.a as u32;
     let b = c.b as u32;
     let k = side.code;
     match k {
-        1 => less(spacing, a),
-        2 => less(spacing, b),
-        3 => less(b + length + spacing, width),
-        4 => less(a + length + spacing, width),
+        WEST => less(spacing, a),
+        SOUTH => less(spacing, b),
+        NORTH => less(b + length + spacing, width),
+        EAST => less(a + length + spacing, width),
         _ => 0,
     }
 }

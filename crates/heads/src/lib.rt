@@ -9,10 +9,9 @@ use floor::Settings;
 use floor::Side;
 use floor::Tile;
 use sets::holds;
-use settings::tiles_of;
 
 // Whether a tile is one that the floor doesn't have.
-pub fn zero_tile(h: Tile) -> bool
+pub fn is_zero_tile(h: Tile) -> bool
     ensures { λ r. ⌜ r ≡ isZeroTile h ⌝ }
 {
     (h.running == 0)
@@ -30,7 +29,7 @@ pub fn hopper_ok(h: Tile) -> bool
 pub fn running_ok(s: Settings, h: Tile) -> bool
     ensures { λ r. ⌜ r ≡ runningSound s h ⌝ }
 {
-    let all = tiles_of(s);
+    let all = s.tile_count();
     let distance = h.distance as usize;
     ((h.distance == 255) & (h.next.code == 0))
         | ((1 <= h.distance) & ((distance < all) & (0 < h.next.code)))
@@ -48,7 +47,7 @@ pub fn faces_ok(s: Settings, t: usize, side: Side) -> bool
     requires { ⌜ Ranged s × (t < total s) ⌝ }
     ensures { λ r. ⌜ r ≡ faces s t (side .code) ⌝ }
 {
-    let all = tiles_of(s);
+    let all = s.tile_count();
     let beside = side.neighbour(s, t);
     (side.code == 0) | (beside < all)
 }
@@ -83,9 +82,9 @@ pub fn head_ok(s: Settings, t: usize, h: Tile) -> bool
 pub fn head_fits(s: Settings, t: usize, h: Tile) -> bool
     ensures { λ r. ⌜ r ≡ headFits s t h ⌝ }
 {
-    let all = tiles_of(s);
+    let all = s.tile_count();
     if t < all {
         return h.count <= 16;
     }
-    zero_tile(h)
+    is_zero_tile(h)
 }

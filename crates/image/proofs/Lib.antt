@@ -2,9 +2,9 @@ pub mod Hoppers
 pub mod Records
 pub mod Sizes
 pub mod Layouts
-pub mod Again
-pub mod Back
-pub mod Fitting
+pub mod LoadedWrites
+pub mod WrittenLoads
+pub mod SoundFits
 pub mod Read
 pub mod Promises
 pub mod Before

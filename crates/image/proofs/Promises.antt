@@ -28,9 +28,9 @@ use Rattle.floor.proofs.First.{fresh-well, pack-view-well}
 use Rattle.image.specs.Image.{encode, lengthIn, modelIn, recordFault, fault, answerBy, named, recordsRefusal, recordsAnswer, imageRefusal, imageAnswer, standard, loadAnswer, writeRefusal, writeAnswer, written}
 use Rattle.image.proofs.Records.{orElse-none, not-off}
 use Rattle.image.proofs.Sizes.{encode-size}
-use Rattle.image.proofs.Again.{written-again}
-use Rattle.image.proofs.Back.{Fits, leftover, fault-append, no-fault, read-back, fault-cut}
-use Rattle.image.proofs.Fitting.{sound-fits, sound-most}
+use Rattle.image.proofs.LoadedWrites.{written-again}
+use Rattle.image.proofs.WrittenLoads.{Fits, leftover, fault-append, no-fault, read-back, fault-cut}
+use Rattle.image.proofs.SoundFits.{sound-fits, sound-most}
 use Rattle.image.proofs.Read.{view-read, well-read, sound-names}
 
 -- ---- bytes as records: the number that they answer

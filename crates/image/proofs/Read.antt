@@ -22,7 +22,7 @@ use Rattle.floor.proofs.Pack.{view-pack, fits-pack}
 use Rattle.image.specs.Image.{hopperCount, tileWidths, lengthIn, bodyIn, restIn, settingsIn, tileIn, tilesIn, afterLayouts, modelIn, recordFault, tilesFault, laidFault, fault, named}
 use Rattle.image.proofs.Records.{orElse-none, whole}
 use Rattle.image.proofs.Layouts.{laid-few}
-use Rattle.image.proofs.Again.{canisters-length, tile-good, settings-good}
+use Rattle.image.proofs.LoadedWrites.{canisters-length, tile-good, settings-good}
 
 -- ---- the settings pass 1 to 3
 pub first-measured : (xs : List ℕ) → recordFault 1 0 xs ≡ 0 → Measured (settingsIn (lengthIn xs) (bodyIn xs))

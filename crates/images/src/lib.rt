@@ -6,6 +6,7 @@ use calls::fresh;
 use floor::Answer;
 use floor::Floor;
 use floor::Settings;
+use floor::refusals;
 use image::Written;
 use reader::read_image;
 use reader::refused;
@@ -38,7 +39,7 @@ fn load_image(bytes: &[u8]) -> Answer
     let well = well_formed(f);
     let mut out = r;
     if (r.refusal == 0) & !well {
-        out = refused(12);
+        out = refused(refusals::IMAGE_MALFORMED);
     }
     out
 }
@@ -62,14 +63,14 @@ pub fn write(floor: Floor, buffer: &mut [u8]) -> Written
     let well = well_formed(floor);
     if !well {
         return Written {
-            refusal: 30,
+            refusal: refusals::MALFORMED,
             length: 0,
         };
     }
     let n = image_length(floor);
     if buffer.len() < n as usize {
         return Written {
-            refusal: 13,
+            refusal: refusals::BUFFER,
             length: 0,
         };
     }

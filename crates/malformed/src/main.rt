@@ -121,15 +121,10 @@ fn empty_report(r: Report) -> bool {
 
 // Sixteen places of zeros.
 fn no_canisters(members: [Canister; 16]) -> bool {
-    let none = Canister {
-        number: 0,
-        a: 0,
-        b: 0,
-    };
     let mut all = true;
     let mut k: usize = 0;
     while k < 16 {
-        all = all & same_canister(members[k], none);
+        all = all & same_canister(members[k], Canister::ZERO);
         k += 1;
     }
     all

@@ -1,4 +1,5 @@
 pub mod Sizes
 pub mod Turn
 pub mod Lift
+pub mod Loops
 pub mod Rounds

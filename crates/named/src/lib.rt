@@ -6,6 +6,7 @@ use floor::Answer;
 use floor::Floor;
 use floor::Layout;
 use floor::Name;
+use floor::refusals;
 use laying::forget_in;
 use laying::held_refusal;
 use laying::keep_in;
@@ -22,7 +23,7 @@ pub fn keep(floor: Floor, name: Name) -> Answer
 {
     let well = well_formed(floor);
     let mut changed = floor;
-    let mut number: u8 = 30;
+    let mut number: u8 = refusals::MALFORMED;
     if well {
         let n = name_number(name);
         let old = changed.layouts;
@@ -48,7 +49,7 @@ pub fn forget(floor: Floor, name: Name) -> Answer
 {
     let well = well_formed(floor);
     let mut changed = floor;
-    let mut number: u8 = 30;
+    let mut number: u8 = refusals::MALFORMED;
     if well {
         let n = name_number(name);
         let old = changed.layouts;
@@ -70,7 +71,7 @@ pub fn recall(floor: Floor, name: Name) -> Answer
 {
     let well = well_formed(floor);
     let mut changed = floor;
-    let mut number: u8 = 30;
+    let mut number: u8 = refusals::MALFORMED;
     if well {
         let n = name_number(name);
         let held = changed.layouts;

@@ -3,14 +3,15 @@ ghost use mathlib.Core.Path.{_≡_};
 ghost use Prim.Native.Nat.{_≤_};
 ghost use lib.ListN.{take, drop};
 ghost use Rattle.laws.specs.Define.{allOf, pairsOf};
+ghost use Rattle.floor.specs.Settings.{spacing};
 ghost use Rattle.floor.specs.Memory.{isZeroCanister};
-ghost use Rattle.floor.specs.Well.{inOrder};
+ghost use Rattle.floor.specs.Well.{apart, inOrder};
 ghost use Rattle.places.specs.Place.{memberSound};
 use floor::Canister;
 use floor::Settings;
 
 // Whether a place is unused. Its eight bytes, as one number, are tested at once.
-pub fn zero_canister(c: Canister) -> bool
+pub fn is_zero_canister(c: Canister) -> bool
     ensures { λ r. ⌜ r ≡ isZeroCanister c ⌝ }
 {
     let word = (c.number as u64) + (c.a as u64) * 4294967296 + (c.b as u64) * 281474976710656;
@@ -26,16 +27,24 @@ pub fn member_ok(s: Settings, last: u32, c: Canister) -> bool
     ((c.a <= span) & (c.b <= span)) & ((0 < c.number) & (c.number <= last))
 }
 
-// Two canisters of one tile, by rising number and far enough apart.
-pub fn in_order(s: Settings, x: Canister, y: Canister) -> bool
-    ensures { λ r. ⌜ r ≡ inOrder s x y ⌝ }
+// Whether a canister stands at least d in a or in b from another.
+pub fn stands_apart(s: Settings, x: Canister, y: Canister) -> bool
+    ensures { λ r. ⌜ r ≡ apart (spacing s) x y ⌝ }
 {
-    let d = (s.length as u32) + (s.gap as u32);
+    let d = s.spacing();
     let xa = x.a as u32;
     let xb = x.b as u32;
     let ya = y.a as u32;
     let yb = y.b as u32;
-    (x.number < y.number) & (((xa + d <= ya) | (ya + d <= xa)) | ((xb + d <= yb) | (yb + d <= xb)))
+    ((xa + d <= ya) | (ya + d <= xa)) | ((xb + d <= yb) | (yb + d <= xb))
+}
+
+// Two canisters of one tile, by rising number and far enough apart.
+pub fn in_order(s: Settings, x: Canister, y: Canister) -> bool
+    ensures { λ r. ⌜ r ≡ inOrder s x y ⌝ }
+{
+    let apart = stands_apart(s, x, y);
+    (x.number < y.number) & apart
 }
 
 // All sixteen places are unused.
@@ -44,7 +53,7 @@ pub fn none_in(items: [Canister; 16]) -> bool
 {
     let mut ok = true;
     for k in 0usize..16 {
-        let one = zero_canister(items[k]);
+        let one = is_zero_canister(items[k]);
         ok = ok & one;
     }
     ok
@@ -61,7 +70,7 @@ pub fn rest_ok(items: [Canister; 16], n: usize) -> bool
     let left = 16 - n;
     let mut ok = true;
     for k in 0usize..left {
-        let one = zero_canister(items[n + k]);
+        let one = is_zero_canister(items[n + k]);
         ok = ok & one;
     }
     ok

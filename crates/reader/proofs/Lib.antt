@@ -1,4 +1,3 @@
 pub mod Reading
 pub mod Load
 pub mod Places
-pub mod Rest

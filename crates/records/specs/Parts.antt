@@ -11,8 +11,8 @@ abbrev pub canisterBytes : Canister → List ℕ
 canisterBytes c = bytesOf canisterWidths (canisterValues c)
 
 -- the ten bytes of a tile's record before its canisters
-unfoldable pub frontBytes : ℕ → Tile → List ℕ
-frontBytes t h =
+unfoldable pub tileBytes : ℕ → Tile → List ℕ
+tileBytes t h =
     (bytes 2 (6 + 8 * h .count) ++ bytes 2 3)
     ++ ((bytes 1 t ++ (bytes 1 (h .running) ++ bytes 1 (h .distance))) ++ (bytes 1 (h .next .code) ++ (bytes 1 (h .token .code) ++ bytes 1 (h .count))))
 

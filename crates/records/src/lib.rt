@@ -7,7 +7,7 @@ ghost use Rattle.wire.specs.Bytes.{bytes};
 ghost use Rattle.wire.specs.Put.{put};
 ghost use Rattle.floor.specs.Layouts.{letters};
 ghost use Rattle.image.specs.Image.{several, recordOf, settingsBody, countersBody, layoutBody};
-ghost use Rattle.records.specs.Parts.{canisterBytes, headBytes, frontBytes};
+ghost use Rattle.records.specs.Parts.{canisterBytes, headBytes, tileBytes};
 use floor::Canister;
 use floor::Counters;
 use floor::Layout;
@@ -132,9 +132,9 @@ pub fn put_canister(s: &mut [u8], at: usize, c: Canister)
 }
 
 // The record of tile t before its canisters.
-pub fn put_front(s: &mut [u8], at: usize, t: u8, h: Tile)
+pub fn put_tile(s: &mut [u8], at: usize, t: u8, h: Tile)
     requires { ⌜ (at + 10 ≤ length (now s)) × (h .count ≤ 16) ⌝ }
-    ensures { λ r. ⌜ now (s .exit) ≡ put (now (s .entry)) at (frontBytes t h) ⌝ }
+    ensures { λ r. ⌜ now (s .exit) ≡ put (now (s .entry)) at (tileBytes t h) ⌝ }
 {
     put_pair(s, at, 6 + 8 * (h.count as u16), 3);
     put_three(s, at + 4, t, h.running, h.distance);

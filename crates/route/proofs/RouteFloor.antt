@@ -1,5 +1,5 @@
 -- The pass over the tiles in memory is Route of the value that memory shows.
-use mathlib.Core.Path.{_≡_, refl, ap, _∙_, fun-ext}
+use mathlib.Core.Path.{_≡_, refl, sym, ap, _∙_, fun-ext}
 use mathlib.Core.Bool.{true}
 use mathlib.Core.List.{List}
 use Prim.Native.Nat.{ℕ, _≤_, _<_}
@@ -10,7 +10,7 @@ use Rattle.floor.specs.declared.Tile.{Tile}
 use Rattle.floor.specs.declared.Floor.{Floor}
 use Rattle.floor.specs.Settings.{total}
 use Rattle.floor.specs.Grid.{around}
-use Rattle.floor.specs.Model.{TileState, Model, noTile, tileOf, distanceOf, tokenOf, membersOf}
+use Rattle.floor.specs.Model.{TileState, Model, noTile, tileOf, distanceOf, nextOf, tokenOf, membersOf}
 use Rattle.floor.specs.Memory.{headOf, stateOf, view, head, pack, fits, retiled}
 use Rattle.floor.specs.Route.{routeTile, route}
 use Rattle.floor.proofs.Rows.{view-at}
@@ -62,6 +62,9 @@ module _ (m : Model) where
   pub route-at : (t : ℕ) (z : TileState) → t < total (m .settings) → getD (route m .tiles) t z ≡ routed m t
   unfolding route
   route-at t z h = tab-at (total (m .settings)) (routed m) t z h
+
+  pub route-next : (t : ℕ) (z : TileState) → t < total (m .settings) → getD (route m .tiles) t z .next ≡ nextOf (route m) t
+  route-next t z h = ap (λ (x : TileState). x .next) (route-at t z h ∙ sym (route-at t noTile h))
 
   pub route-token : (t : ℕ) (z : TileState) → t < total (m .settings) → getD (route m .tiles) t z .token ≡ tokenOf m t
   unfolding routeTile

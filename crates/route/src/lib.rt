@@ -6,10 +6,14 @@ ghost use Rattle.laws.specs.Filled.{Upto};
 ghost use Rattle.floor.specs.Settings.{total, Ranged};
 ghost use Rattle.floor.specs.Route as R;
 ghost use Rattle.route.specs.Routed.{Redone, within, distanceIn, routedTile, routedAt};
+use floor::EAST;
 use floor::Heading;
+use floor::NORTH;
+use floor::SOUTH;
 use floor::Settings;
 use floor::Side;
 use floor::Tile;
+use floor::WEST;
 use sets::holds;
 
 // The nearer of two; the earlier one where they are as near.
@@ -41,10 +45,10 @@ fn lies_at(west: u8, south: u8, north: u8, east: u8, distance: u8, side: u8) -> 
     ensures { λ r. ⌜ r ≡ R.liesAt west south north east distance side ⌝ }
 {
     match side {
-        1 => west == distance,
-        2 => south == distance,
-        3 => north == distance,
-        4 => east == distance,
+        WEST => west == distance,
+        SOUTH => south == distance,
+        NORTH => north == distance,
+        EAST => east == distance,
         _ => false,
     }
 }
@@ -122,7 +126,7 @@ pub fn distances(s: Settings, tiles: [Tile; 64]) -> [u8; 65]
     requires { ⌜ total s ≤ 64 ⌝ }
     ensures { λ r. ⌜ Upto 65 (within (total s) (distanceIn tiles) 255) 0 r ⌝ }
 {
-    let all = s.columns as usize * s.rows as usize;
+    let all = s.tile_count();
     let mut d = [255u8; 65];
     for t in 0usize..all {
         let tile = tiles[t];
@@ -136,7 +140,7 @@ pub fn route_pass(s: Settings, tiles: [Tile; 64]) -> [Tile; 64]
     requires { ⌜ Ranged s ⌝ }
     ensures { λ r. ⌜ Redone (total s) (routedAt s tiles) tiles r ⌝ }
 {
-    let all = s.columns as usize * s.rows as usize;
+    let all = s.tile_count();
     let d = distances(s, tiles);
     let mut out = tiles;
     for t in 0usize..all {

@@ -3,8 +3,13 @@ ghost use Prim.Native.Nat.{_≤_};
 use floor::Canister;
 use floor::Counters;
 use floor::Delivery;
+use floor::EAST;
 use floor::Layout;
+use floor::NORTH;
+use floor::SOUTH;
 use floor::Tile;
+use floor::WEST;
+use floor::refusals;
 use libc::STDOUT_FILENO;
 
 pub fn text(s: &[u8]) {
@@ -35,10 +40,10 @@ pub fn two(n: u8) {
 
 pub fn side(code: u8) {
     match code {
-        1 => text(b"W"),
-        2 => text(b"S"),
-        3 => text(b"N"),
-        4 => text(b"E"),
+        WEST => text(b"W"),
+        SOUTH => text(b"S"),
+        NORTH => text(b"N"),
+        EAST => text(b"E"),
         _ => text(b"-"),
     }
 }
@@ -46,24 +51,24 @@ pub fn side(code: u8) {
 // Document 01's refusals in a few words.
 fn meaning(n: u8) {
     match n {
-        1 => text(b"W or H outside 1 to 8, or a single tile"),
-        2 => text(
+        refusals::SIZES => text(b"W or H outside 1 to 8, or a single tile"),
+        refusals::SETS => text(
             b"not one to four hoppers, all on the floor, or a fill tile that is a hopper or no tile",
         ),
-        3 => text(b"a measure breaks the rules"),
-        4 => text(b"tile not on the floor"),
-        5 => text(b"not a fill tile"),
-        6 => text(b"canister number 0"),
-        7 => text(b"a or b above U - l"),
-        8 => text(b"a hopper can't be stopped"),
-        30 => text(b"the floor isn't well formed"),
-        31 => text(b"the tile is stopped"),
-        32 => text(b"the tile is running"),
-        33 => text(b"number not above the last booked"),
-        34 => text(b"too near a canister of the tile"),
-        44 => text(b"not a name of 1 to 8 letters A to Z"),
-        45 => text(b"no layout has that name"),
-        46 => text(b"eight other names are held"),
+        refusals::MEASURES => text(b"a measure breaks the rules"),
+        refusals::NO_TILE => text(b"tile not on the floor"),
+        refusals::NO_FILL_TILE => text(b"not a fill tile"),
+        refusals::NUMBER_ZERO => text(b"canister number 0"),
+        refusals::OUTSIDE => text(b"a or b above U - l"),
+        refusals::HOPPER => text(b"a hopper can't be stopped"),
+        refusals::MALFORMED => text(b"the floor isn't well formed"),
+        refusals::STOPPED => text(b"the tile is stopped"),
+        refusals::RUNNING => text(b"the tile is running"),
+        refusals::NUMBER_PAST => text(b"number not above the last booked"),
+        refusals::TOO_NEAR => text(b"too near a canister of the tile"),
+        refusals::BAD_NAME => text(b"not a name of 1 to 8 letters A to Z"),
+        refusals::NOT_HELD => text(b"no layout has that name"),
+        refusals::EIGHT_HELD => text(b"eight other names are held"),
         _ => text(b"unknown"),
     }
 }

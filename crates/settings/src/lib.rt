@@ -1,20 +1,13 @@
 // The refusals 1 to 3 of settings, on any bytes.
 ghost use mathlib.Core.Path.{_≡_};
 ghost use mathlib.Core.Bool.{false};
-ghost use Prim.Native.Nat.{_<_};
-ghost use Rattle.floor.specs.Settings.{total, settingsRefusal};
+ghost use Rattle.floor.specs.Settings.{settingsRefusal};
 ghost use Rattle.settings.specs.Groups.{sizesWrong, setsWrong, rulesWrong, measuresWrong};
 use floor::Settings;
+use floor::refusals;
 use sets::meets;
 use sets::size;
 use sets::within;
-
-// The number of tiles.
-pub fn tiles_of(s: Settings) -> usize
-    ensures { λ r. ⌜ r ≡ total s ⌝ }
-{
-    (s.columns as usize) * (s.rows as usize)
-}
 
 // Refusal 1.
 pub fn sizes_wrong(s: Settings) -> bool
@@ -22,7 +15,7 @@ pub fn sizes_wrong(s: Settings) -> bool
 {
     let columns = s.columns;
     let rows = s.rows;
-    let all = tiles_of(s);
+    let all = s.tile_count();
     (columns < 1) | ((8 < columns) | ((rows < 1) | ((8 < rows) | (all < 2))))
 }
 
@@ -45,7 +38,7 @@ pub fn sets_wrong(s: Settings) -> bool
 pub fn rules_wrong(s: Settings) -> bool
     ensures { λ r. ⌜ r ≡ rulesWrong s ⌝ }
 {
-    let d = (s.length as u32) + (s.gap as u32);
+    let d = s.spacing();
     let width = s.width as u32;
     (s.width < 2) | ((60000 < s.width) | ((s.travel < 1) | ((s.length <= s.travel) | (width <= d))))
 }
@@ -57,7 +50,7 @@ pub fn measures_wrong(s: Settings) -> bool
     if rules_wrong(s) {
         return true;
     }
-    let d = (s.length as u32) + (s.gap as u32);
+    let d = s.spacing();
     let span = (s.width as u32) - (s.length as u32);
     3 < span / d
 }
@@ -67,13 +60,13 @@ pub fn settings_refusal(s: Settings) -> u8
     ensures { λ r. ⌜ r ≡ settingsRefusal s ⌝ }
 {
     if sizes_wrong(s) {
-        return 1;
+        return refusals::SIZES;
     }
     if sets_wrong(s) {
-        return 2;
+        return refusals::SETS;
     }
     if measures_wrong(s) {
-        return 3;
+        return refusals::MEASURES;
     }
     0
 }

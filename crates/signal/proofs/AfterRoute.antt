@@ -1,23 +1,21 @@
 -- What Route leaves of a well-formed floor is read back as it was packed, and Signal may go on from it.
 use mathlib.Core.Path.{_≡_, sym, ap, _∙_}
 use mathlib.Core.Bool.{true}
-use Prim.Native.Nat.{ℕ, zero, suc, _≤_, _<_}
-use native.Mathlib.Omega.{arith}
+use Prim.Native.Nat.{ℕ, _≤_, _<_}
 use lib.ListN.{length}
-use Rattle.floor.specs.declared.Settings.{Settings}
 use Rattle.floor.specs.declared.Floor.{Floor}
 use Rattle.floor.specs.Settings.{total, settingsPass}
-use Rattle.floor.specs.Grid.{neighbour}
-use Rattle.floor.specs.Model.{Model, noTile, tokenOf, membersOf}
+use Rattle.floor.specs.Model.{Model, noTile, nextOf, tokenOf, membersOf}
 use Rattle.floor.specs.Memory.{headOf, stateOf, view, unused, build, pack, fits}
 use Rattle.floor.specs.Well.{wellFormed}
 use Rattle.floor.specs.Route.{route}
 use Rattle.floor.specs.Signal.{signal}
 use Rattle.floor.proofs.Well.{faces-le}
+use Rattle.floor.proofs.Kept.{arrow-faces}
 use Rattle.floor.proofs.Rows.{view-settings, Placed}
 use Rattle.floor.proofs.Pack.{state-packed, view-pack, fits-pack, well-sound, well-few, well-settings, well-placed}
 use Rattle.floor.proofs.Capacity.{sound-small}
-use Rattle.route.proofs.RouteFloor.{route-settings, route-length, route-token, route-members}
+use Rattle.route.proofs.RouteFloor.{route-settings, route-length, route-next, route-token, route-members}
 use Rattle.signal.specs.Signalling.{Ready}
 use Rattle.signal.proofs.SignalFloor.{signal-settings, signal-length, signal-members}
 
@@ -48,7 +46,9 @@ module _ (f : Floor) (w : wellFormed f ≡ true) where
   unfolding stateOf
   ready t h =
       let e : headOf (pack m) t .token .code ≡ tokenOf (view f) t = ap (λ x. x .token) (state-packed m len few small placed t h) ∙ route-token (view f) t unused (on t h) in
-      rw e (faces-le (view f .settings) t (tokenOf (view f) t) (well-sound f w .token-faces t))
+      let q : headOf (pack m) t .next .code ≡ nextOf m t = ap (λ x. x .next) (state-packed m len few small placed t h) ∙ route-next (view f) t unused (on t h) in
+      let S = well-sound f w in
+      (rw e (faces-le (view f .settings) t (tokenOf (view f) t) (S .token-faces t)), rw q (faces-le (view f .settings) t (nextOf m t) (arrow-faces (view f) S t)))
 
   pub signal-asks : (g : Floor) → g ≡ pack m → (settingsPass (g .settings) ≡ true) × (fits g ≡ true) × Ready (g .settings) (g .tiles)
   unfolding pack build

@@ -2,3 +2,4 @@ pub mod PassLaws
 pub mod ReasonLaws
 pub mod SignalFloor
 pub mod AfterRoute
+pub mod Loops

@@ -7,7 +7,7 @@ use Prim.Native.Nat.{ℕ, _+_, _≤_, _<_}
 use native.Mathlib.Omega.{arith}
 use lib.Dec.{eqb}
 use lib.ListN.{getD}
-use borrow.Author.Tests.{lt-ltb, le-ltb, eq-eqb, ne-eqb}
+use borrow.Author.Tests.{lt-ltb, le-ltb, eq-eqb, ne-eqb, eqb-false}
 use Rattle.laws.specs.Define.{refusal}
 use Rattle.floor.specs.declared.Settings.{Settings}
 use Rattle.floor.specs.declared.Tile.{Tile}
@@ -67,6 +67,20 @@ own-few true b c = omega arith
 own-few false true c = omega arith
 own-few false false true = omega arith
 own-few false false false = omega arith
+
+-- without a reason of its own the tile has an arrow
+own-none : (a b c : Bool) → refusal ((a, 1) ∷ (b, 2) ∷ (c, 3) ∷ []) ≡ 0 → c ≡ false
+unfolding refusal
+own-none true b c e = absurd (omega arith)
+own-none false true c e = absurd (omega arith)
+own-none false false true e = absurd (omega arith)
+own-none false false false e = refl
+
+pub own-arrow : (h : Tile) {r : ℕ} → r ≡ ownReason h → r ≡ 0 → 0 < h .next .code
+unfolding ownReason
+own-arrow h q z =
+    let n = eqb-false (h .next .code) 0 (own-none (not (eqb (h .running) 1)) (eqb (h .count) 0) (eqb (h .next .code) 0) (sym q ∙ z)) in
+    omega (arith, n)
 
 module _ (s : Settings) (ts : List Tile) (turn lack : ℕ → ℕ) (t : ℕ) where
   abbrev h : Tile

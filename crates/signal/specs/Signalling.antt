@@ -18,9 +18,9 @@ use Rattle.floor.specs.Signal.{shownNext}
 use Rattle.route.specs.Routed.{within}
 use Rattle.grants.specs.TileSignal.{signalFrom}
 
--- every token is a side or none
+-- every token and every next is a side or none
 abbrev pub Ready : Settings → List Tile → Type 0
-Ready s ts = (t : ℕ) → t < total s → getD ts t zeroTile .token .code ≤ 4
+Ready s ts = (t : ℕ) → t < total s → (getD ts t zeroTile .token .code ≤ 4) × (getD ts t zeroTile .next .code ≤ 4)
 
 -- no tile has more canisters than places
 abbrev pub Roomy : Settings → List Tile → Type 0

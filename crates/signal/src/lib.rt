@@ -33,13 +33,6 @@ pub struct Signals {
     pub missing: [u16; 64],
 }
 
-// What stands in an unused place.
-const UNUSED: Canister = Canister {
-    number: 0,
-    a: 0,
-    b: 0,
-};
-
 // The side that a tile shows: its next if it has canisters, else none.
 fn shown_next(count: u8, next: u8) -> u8
     ensures { λ r. ⌜ r ≡ shownNext count next ⌝ }
@@ -52,7 +45,7 @@ pub fn shown(s: Settings, tiles: [Tile; 64]) -> [u8; 65]
     requires { ⌜ total s ≤ 64 ⌝ }
     ensures { λ r. ⌜ Upto 65 (within (total s) (shownIn tiles) 0) 0 r ⌝ }
 {
-    let all = s.columns as usize * s.rows as usize;
+    let all = s.tile_count();
     let mut d = [0u8; 65];
     for t in 0usize..all {
         let tile = tiles[t];
@@ -94,10 +87,12 @@ fn own_reason(tile: Tile) -> u8
 
 // Why a tile with an arrow stood, from the turn of the tile that the arrow leads to and the millimetres missing there; 6
 // where it moved.
-fn ahead_reason(next: u8, turn: u8, lack: u32) -> u8
-    ensures { λ r. ⌜ r ≡ aheadReason next turn lack ⌝ }
+fn ahead_reason(next: Side, turn: Side, lack: u32) -> u8
+    requires { ⌜ (0 < next .code) × (next .code ≤ 4) ⌝ }
+    ensures { λ r. ⌜ r ≡ aheadReason (next .code) (turn .code) lack ⌝ }
 {
-    if next as u32 + turn as u32 != 5 {
+    let facing = turn.opposite();
+    if next.code != facing.code {
         return 4;
     }
     if 0 < lack {
@@ -121,14 +116,14 @@ pub fn signal_pass(s: Settings, tiles: [Tile; 64], canisters: [Canister; 1024]) 
     requires { ⌜ Ranged s × Ready s tiles × Roomy s tiles × Slight s tiles canisters ⌝ }
     ensures { λ r. ⌜ Redone (total s) (tileAt s tiles canisters) tiles (r .tiles) × Granted 64 (total s) (grantAt s tiles canisters) (r .grants) × Granted 64 (total s) (reasonAt s tiles canisters) (r .reasons) × Granted 64 (total s) (besideAt s tiles canisters) (r .missing) ⌝ }
 {
-    let all = s.columns as usize * s.rows as usize;
+    let all = s.tile_count();
     let show = shown(s, tiles);
     let mut out = tiles;
     let mut grants = [0u8; 64];
     let mut turns = [0u8; 65];
     let mut lacks = [0u32; 65];
     for t in 0usize..all {
-        let mut items = [UNUSED; 16];
+        let mut items = [Canister::ZERO; 16];
         for k in 0usize..16 {
             items[k] = canisters[16 * t + k];
         }
@@ -161,7 +156,8 @@ pub fn signal_pass(s: Settings, tiles: [Tile; 64], canisters: [Canister; 1024]) 
             let next = tile.next;
             let ahead = next.neighbour(s, i);
             let lack = lacks[ahead];
-            let why = ahead_reason(next.code, turns[ahead], lack);
+            let turn = turns[ahead];
+            let why = ahead_reason(next, Side { code: turn }, lack);
             reasons[i] = why;
             missing[i] = beside(why, lack);
             i += 1;
@@ -176,7 +172,7 @@ pub fn signal_pass(s: Settings, tiles: [Tile; 64], canisters: [Canister; 1024]) 
 }
 
 // Route, then Signal: what they give of a floor, whose canisters stay.
-pub fn turned(f: Floor) -> Signals
+pub fn route_and_signal(f: Floor) -> Signals
     requires { ⌜ wellFormed f ≡ true ⌝ }
     ensures { λ r. ⌜ (retiled f (r .tiles) ≡ pack (G.signal (R.route (view f)))) × (r .grants ≡ tab 64 (G.grantOf (R.route (view f)))) × (r .reasons ≡ tab 64 (W.reasonOf (R.route (view f)))) × (r .missing ≡ tab 64 (W.missingOf (R.route (view f)))) ⌝ }
 {

@@ -20,8 +20,9 @@ use Rattle.floor.specs.Model.{TileState, noTile, tileOf, membersOf, numbers, nu
 use Rattle.floor.specs.Memory.{zeroCanister, headOf, stateOf, view, head, isZeroCanister, block, headFits, tileFits}
 use Rattle.floor.specs.Well.{headSound, membersSound, tileSound}
 use Rattle.floor.proofs.Rows.{view-at, rest-zero}
-use Rattle.unique.specs.Differ.{differ, differ-keep, Runs, runs-of}
-use Rattle.unique.specs.Order.{pairs-place}
+use Rattle.unique.specs.Differ.{differ, Runs}
+use Rattle.unique.proofs.Apart.{differ-keep, runs-of}
+use Rattle.unique.proofs.Order.{pairs-place}
 use Rattle.soundness.specs.Code.{counted}
 use Rattle.soundness.proofs.Branches.{zero-off, count-fits}
 use Rattle.soundness.proofs.Joins.{map-take, map-drop, cat-same, cat-rest, cat-length, blocks-perm}

@@ -4,3 +4,4 @@ pub mod Joins
 pub mod Blocks
 pub mod WellCode
 pub mod Keys
+pub mod Loops

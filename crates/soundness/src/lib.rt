@@ -16,19 +16,12 @@ use floor::Tile;
 use heads::head_fits;
 use heads::head_ok;
 use layouts::layouts_ok;
+use places::is_zero_canister;
 use places::members_ok;
 use places::pairs_ok;
 use places::rest_ok;
-use places::zero_canister;
 use sets::size;
 use settings::settings_refusal;
-use settings::tiles_of;
-
-const NONE: Canister = Canister {
-    number: 0,
-    a: 0,
-    b: 0,
-};
 
 // A tile without its canisters.
 pub fn head_test(s: Settings, t: usize, h: Tile) -> bool
@@ -36,7 +29,7 @@ pub fn head_test(s: Settings, t: usize, h: Tile) -> bool
     ensures { λ r. ⌜ r ≡ headTest s t h ⌝ }
 {
     let fits = head_fits(s, t, h);
-    let all = tiles_of(s);
+    let all = s.tile_count();
     if all <= t {
         return fits;
     }
@@ -110,11 +103,11 @@ pub fn scan(f: Floor) -> bool
         let mut ok = head_test(s, t, h);
         if h.count == 0 {
             for k in 0usize..16 {
-                let one = zero_canister(f.canisters[16 * t + k]);
+                let one = is_zero_canister(f.canisters[16 * t + k]);
                 ok = ok & one;
             }
         } else {
-            let mut items = [NONE; 16];
+            let mut items = [Canister::ZERO; 16];
             for i in 0usize..16 {
                 items[i] = f.canisters[16 * t + i];
             }

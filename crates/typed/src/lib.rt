@@ -9,6 +9,7 @@ use floor::Delivery;
 use floor::Floor;
 use floor::Name;
 use floor::Settings;
+use floor::refusals;
 use parse::Numbers;
 use parse::Sources;
 
@@ -85,7 +86,7 @@ fn held(c: Counters) -> u64
 
 // Every tile but the hoppers.
 fn all_sources(s: Settings) -> u64 {
-    let n = settings::tiles_of(s);
+    let n = s.tile_count();
     if 64 < n {
         return 0;
     }
@@ -342,7 +343,7 @@ fn show(s: Session, line: &[u8]) -> Session {
 // Why each tile stood in the last round.
 fn why(s: Session) -> Session {
     if !s.made {
-        return refused(s, b"why", 30);
+        return refused(s, b"why", refusals::MALFORMED);
     }
     if s.rounds == 0 {
         say::text(b"why: no round yet\n");

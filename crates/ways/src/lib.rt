@@ -19,6 +19,7 @@ use floor::Members;
 use floor::Report;
 use floor::Rounded;
 use floor::Settings;
+use floor::Side;
 use members::sift;
 use sets::holds;
 
@@ -36,11 +37,15 @@ pub fn known(on: bool, n: u8) -> u8
 }
 
 // The side along which a tile moves: its arrow, if the tile ahead granted the opposite side.
-pub fn way_of(next: u8, ahead: u8) -> u8
-    ensures { λ r. ⌜ r ≡ wayOf next ahead ⌝ }
+pub fn way_of(next: Side, ahead: Side) -> Side
+    requires { ⌜ next .code ≤ 4 ⌝ }
+    ensures { λ r. ⌜ r .code ≡ wayOf (next .code) (ahead .code) ⌝ }
 {
-    let both = next as u16 + ahead as u16;
-    known((0 < next) & (both == 5), next)
+    let facing = ahead.opposite();
+    if next.code == facing.code {
+        return next;
+    }
+    Side::NONE
 }
 
 // The first n of sixteen places.
@@ -92,9 +97,9 @@ pub fn added(came: Takings, more: Delivery) -> Takings
 }
 
 // What the hoppers took in up to tile t, t too; at a tile that is no hopper it stays as it was.
-pub fn taken_in(s: Settings, t: usize, come: u8, others: Members, came: Takings) -> Takings
+pub fn hopper_intake(s: Settings, t: usize, come: Side, others: Members, came: Takings) -> Takings
     requires { ⌜ (others .count ≤ 16) × (s .length ≤ s .width) × (isHopper s t ≡ true → came .found < 4) ⌝ }
-    ensures { λ r. ⌜ (isHopper s t ≡ true → (r .found ≡ came .found + 1) × (r .deliveries ≡ set (came .deliveries) (came .found) (deliveryOf (numbers (leaving s come (listOf others)))))) × (isHopper s t ≡ false → r ≡ came) ⌝ }
+    ensures { λ r. ⌜ (isHopper s t ≡ true → (r .found ≡ came .found + 1) × (r .deliveries ≡ set (came .deliveries) (came .found) (deliveryOf (numbers (leaving s (come .code) (listOf others)))))) × (isHopper s t ≡ false → r ≡ came) ⌝ }
 {
     if holds(s.hoppers, t) {
         let more = delivery(sift(s, come, true, others));
@@ -122,7 +127,7 @@ pub fn raise(c: Counters, d: [Delivery; 4]) -> Counters
 }
 
 // A round's answer, the counters raised by those that came.
-pub fn finish(
+pub fn with_deliveries(
     f: Floor,
     came: Takings,
     grants: [u8; 64],

@@ -7,18 +7,20 @@ ghost use lib.ListN.{length, take};
 ghost use Rattle.wire.specs.Put.{put};
 ghost use Rattle.floor.specs.Memory.{usedLayouts, view};
 ghost use Rattle.floor.specs.Well.{wellFormed};
-ghost use Rattle.image.specs.Image.{layoutsBytes, encode};
-ghost use Rattle.writer.specs.Upto.{countAt, upto};
+ghost use Rattle.image.specs.Image.{hopperCount, layoutsBytes, encode};
+ghost use Rattle.writer.specs.Upto.{frontBytes, countAt, upto};
 use floor::Canister;
+use floor::Counters;
 use floor::Floor;
 use floor::Layout;
+use floor::Settings;
 use floor::Tile;
 use records::put_canister;
 use records::put_counters;
-use records::put_front;
 use records::put_layout;
 use records::put_pair;
 use records::put_settings;
+use records::put_tile;
 use sets::size;
 
 // How many of the eight places hold a layout.
@@ -58,7 +60,7 @@ fn put_tiles(s: &mut [u8], from: usize, tiles: [Tile; 64], all: [Canister; 1024]
     let mut t = 0usize;
     while t < c {
         let h = tiles[t];
-        put_front(s, at, t as u8, h);
+        put_tile(s, at, t as u8, h);
         let n = h.count as usize;
         let mut k = 0usize;
         while k < n {
@@ -80,6 +82,20 @@ fn first_length(h: u8) -> usize
         return 32;
     }
     24
+}
+
+// The front of an image, the records of kinds 1, 2 and 5, where there are h hoppers. The answer is the place after it.
+fn put_front(s: &mut [u8], x: Settings, y: Counters, all: [Layout; 8], h: u8) -> usize
+    requires { ⌜ (length (frontBytes x y all) ≤ length (now s)) × (h ≡ hopperCount x) × (h ≤ 4) ⌝ }
+    ensures { λ r. ⌜ (r ≡ length (frontBytes x y all)) × (now (s .exit) ≡ put (now (s .entry)) 0 (frontBytes x y all)) ⌝ }
+{
+    let second = first_length(h);
+    put_settings(s, 0, x, 1 < h);
+    put_counters(s, second, y, h);
+    let third = second + 12 + 4 * (h as usize);
+    let laid = laid_out(all);
+    put_layouts(s, third, all, laid);
+    third + 20 * laid
 }
 
 // The length of a well-formed floor's image.
@@ -115,12 +131,7 @@ pub fn write_image(f: Floor, buffer: &mut [u8])
     let layouts = f.layouts;
     let c = (settings.columns as usize) * (settings.rows as usize);
     let h = size(settings.hoppers);
-    let second = first_length(h);
-    put_settings(buffer, 0, settings, 1 < h);
-    put_counters(buffer, second, counters, h);
-    let third = second + 12 + 4 * (h as usize);
-    let laid = laid_out(layouts);
-    put_layouts(buffer, third, layouts, laid);
-    let end = put_tiles(buffer, third + 20 * laid, tiles, all, c);
+    let front = put_front(buffer, settings, counters, layouts, h);
+    let end = put_tiles(buffer, front, tiles, all, c);
     put_pair(buffer, end, 0, 4);
 }

@@ -11,10 +11,10 @@ use Rattle.booking.proofs.book_refusal.Reads as reads
 use Rattle.booking.proofs.book_refusal.Lts as lts
 use Rattle.booking.proofs.has_room.Reads as has-room-reads
 use Rattle.sets.proofs.has.Reads as has-reads
-use Rattle.settings.proofs.tiles_of.Reads as tiles-of-reads
+use Rattle.floor.proofs.Settings.tile_count.Reads as tile-count-reads
 
-tiles-of-requires : tie.Need-tiles-of-requires
-tiles-of-requires c κs = search needs
+tile-count-requires : tie.Need-tile-count-requires
+tile-count-requires c κs = search needs
 
 cast-has : tie.Need-cast-has
 cast-has c = search needs
@@ -26,13 +26,13 @@ returns : tie.Need-returns
 returns c = let g = c .before .before .before .args in
     let l = take (g.own .count) (g.own .items) in
     let off : _ ≤ g.tile = leb-true _ g.tile (c .if1 .taken) in
-    book-4 g.s g.last g.tile g.c g.running l (rw (c .before .before .tiles-of .ensures) at off)
+    book-4 g.s g.last g.tile g.c g.running l (rw (c .before .before .tile-count .ensures) at off)
 
 returns-2 : tie.Need-returns-2
 returns-2 c = let g = c .before .before .before .before .args in
     let l = take (g.own .count) (g.own .items) in
     let on0 : g.tile < _ = leb-false _ g.tile (c .before .if1 .left) in
-    let on = rw (c .before .before .before .tiles-of .ensures) at on0 in
+    let on = rw (c .before .before .before .tile-count .ensures) at on0 in
     let m : g.tile % 64 ≡ g.tile = omega (arith, c .before .before .before .before .pre .0) in
     let b = rw m at (c .before .before .has .ensures) in
     book-5 g.s g.last g.tile g.c g.running l on (sym b ∙ not-true _ (c .if2 .taken))
@@ -41,7 +41,7 @@ returns-3 : tie.Need-returns-3
 returns-3 c = let g = c .before .before .before .before .before .before .args in
     let l = take (g.own .count) (g.own .items) in
     let on0 : g.tile < _ = leb-false _ g.tile (c .before .before .before .if1 .left) in
-    let on = rw (c .before .before .before .before .before .tiles-of .ensures) at on0 in
+    let on = rw (c .before .before .before .before .before .tile-count .ensures) at on0 in
     let m : g.tile % 64 ≡ g.tile = omega (arith, c .before .before .before .before .before .before .pre .0) in
     let b = rw m at (c .before .before .before .before .has .ensures) in
     let bit = sym b ∙ not-false _ (c .before .before .if2 .left) in
@@ -54,7 +54,7 @@ returns-4 : tie.Need-returns-4
 returns-4 c = let g = c .before .before .before .before .before .before .before .before .before .before .args in
     let l = take (g.own .count) (g.own .items) in
     let on0 : g.tile < _ = leb-false _ g.tile (c .before .before .before .before .before .before .before .if1 .left) in
-    let on = rw (c .before .before .before .before .before .before .before .before .before .tiles-of .ensures) at on0 in
+    let on = rw (c .before .before .before .before .before .before .before .before .before .tile-count .ensures) at on0 in
     let m : g.tile % 64 ≡ g.tile = omega (arith, c .before .before .before .before .before .before .before .before .before .before .pre .0) in
     let b = rw m at (c .before .before .before .before .before .before .before .before .has .ensures) in
     let bit = sym b ∙ not-false _ (c .before .before .before .before .before .before .if2 .left) in
@@ -64,7 +64,7 @@ returns-5 : tie.Need-returns-5
 returns-5 c = let g = c .before .before .before .before .before .before .before .before .before .before .before .before .args in
     let l = take (g.own .count) (g.own .items) in
     let on0 : g.tile < _ = leb-false _ g.tile (c .before .before .before .before .before .before .before .before .before .if1 .left) in
-    let on = rw (c .before .before .before .before .before .before .before .before .before .before .before .tiles-of .ensures) at on0 in
+    let on = rw (c .before .before .before .before .before .before .before .before .before .before .before .tile-count .ensures) at on0 in
     let m : g.tile % 64 ≡ g.tile = omega (arith, c .before .before .before .before .before .before .before .before .before .before .before .before .pre .0) in
     let b = rw m at (c .before .before .before .before .before .before .before .before .before .before .has .ensures) in
     let bit = sym b ∙ not-false _ (c .before .before .before .before .before .before .before .before .if2 .left) in
@@ -75,7 +75,7 @@ returns-6 : tie.Need-returns-6
 returns-6 c = let g = c .before .before .before .before .before .before .before .before .before .before .before .before .before .args in
     let l = take (g.own .count) (g.own .items) in
     let on0 : g.tile < _ = leb-false _ g.tile (c .before .before .before .before .before .before .before .before .before .before .if1 .left) in
-    let on = rw (c .before .before .before .before .before .before .before .before .before .before .before .before .tiles-of .ensures) at on0 in
+    let on = rw (c .before .before .before .before .before .before .before .before .before .before .before .before .tile-count .ensures) at on0 in
     let m : g.tile % 64 ≡ g.tile = omega (arith, c .before .before .before .before .before .before .before .before .before .before .before .before .before .pre .0) in
     let b = rw m at (c .before .before .before .before .before .before .before .before .before .before .before .has .ensures) in
     let bit = sym b ∙ not-false _ (c .before .before .before .before .before .before .before .before .before .if2 .left) in
@@ -89,14 +89,14 @@ cast-has-room c = search needs
 has-room-requires : tie.Need-has-room-requires
 has-room-requires c κs = let g = c .before .before .before .before .before .before .before .before .before .before .before .before .before .before .before .args in
     let on0 : g.tile < _ = leb-false _ g.tile (c .before .before .before .before .before .before .before .before .before .before .before .before .if1 .left) in
-    let on = rw (c .before .before .before .before .before .before .before .before .before .before .before .before .before .before .tiles-of .ensures) at on0 in
+    let on = rw (c .before .before .before .before .before .before .before .before .before .before .before .before .before .before .tile-count .ensures) at on0 in
     c .before .before .before .before .before .before .before .before .before .before .before .before .before .before .before .pre .2 on
 
 returns-7 : tie.Need-returns-7
 returns-7 c = let g = c .before .before .before .before .before .before .before .before .before .before .before .before .before .before .before .before .before .args in
     let l = take (g.own .count) (g.own .items) in
     let on0 : g.tile < _ = leb-false _ g.tile (c .before .before .before .before .before .before .before .before .before .before .before .before .before .before .if1 .left) in
-    let on = rw (c .before .before .before .before .before .before .before .before .before .before .before .before .before .before .before .before .tiles-of .ensures) at on0 in
+    let on = rw (c .before .before .before .before .before .before .before .before .before .before .before .before .before .before .before .before .tile-count .ensures) at on0 in
     let m : g.tile % 64 ≡ g.tile = omega (arith, c .before .before .before .before .before .before .before .before .before .before .before .before .before .before .before .before .before .pre .0) in
     let b = rw m at (c .before .before .before .before .before .before .before .before .before .before .before .before .before .before .before .has .ensures) in
     let bit = sym b ∙ not-false _ (c .before .before .before .before .before .before .before .before .before .before .before .before .before .if2 .left) in
@@ -108,7 +108,7 @@ returns-8 : tie.Need-returns-8
 returns-8 c = let g = c .before .before .before .before .before .before .before .before .before .before .before .before .before .before .before .before .before .args in
     let l = take (g.own .count) (g.own .items) in
     let on0 : g.tile < _ = leb-false _ g.tile (c .before .before .before .before .before .before .before .before .before .before .before .before .before .before .if1 .left) in
-    let on = rw (c .before .before .before .before .before .before .before .before .before .before .before .before .before .before .before .before .tiles-of .ensures) at on0 in
+    let on = rw (c .before .before .before .before .before .before .before .before .before .before .before .before .before .before .before .before .tile-count .ensures) at on0 in
     let m : g.tile % 64 ≡ g.tile = omega (arith, c .before .before .before .before .before .before .before .before .before .before .before .before .before .before .before .before .before .pre .0) in
     let b = rw m at (c .before .before .before .before .before .before .before .before .before .before .before .before .before .before .before .has .ensures) in
     let bit = sym b ∙ not-false _ (c .before .before .before .before .before .before .before .before .before .before .before .before .before .if2 .left) in
@@ -120,7 +120,7 @@ pub book-refusal-spec : {M : Type 1} → statement M
 book-refusal-spec =
     tie.close
     (tie.spec
-    tiles-of-requires
+    tile-count-requires
     cast-has
     has-requires
     returns

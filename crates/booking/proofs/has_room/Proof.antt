@@ -12,7 +12,7 @@ use Rattle.booking.proofs.has_room.Statement.{statement}
 use Rattle.booking.proofs.has_room.Tie as tie
 use Rattle.booking.proofs.has_room.Reads as reads
 use Rattle.booking.proofs.has_room.Lts as lts
-use Rattle.booking.proofs.stands_apart.Reads as stands-apart-reads
+use Rattle.places.proofs.stands_apart.Reads as stands-apart-reads
 
 abbrev Inv-loop : tie.InvT-loop
 Inv-loop s c n items ok₀ k₀ ok k = (k ≤ n) × (n ≤ 16) × (length items ≡ 16) × (ok ≡ allOf (apart (spacing s) c) (take k items))

@@ -1,8 +1,8 @@
 use mathlib.Core.Path.{_≡_, refl, sym, subst}
-use Prim.Native.Nat.{ℕ, _+_, _-_, _*_, _/_, _≤_, _<_}
+use Prim.Native.Nat.{ℕ, _+_, _-_, _*_, _/_, _<_}
 use native.Mathlib.Omega.{arith}
 use lib.ListN.{length, length-set}
-use Rattle.chains.specs.Chain.{at, Heads, Prevs, Unlike, Unseen, heads-none, prev-below, run-empty, unseen-start, unseen-step, heads-zero, prevs-zero, unlike-zero, heads-step, prevs-step, unlike-step, told-unlike, told-equal}
+use Rattle.chains.proofs.Chain.{at, Unlike, Unseen, Linked, Following, heads-none, prev-below, run-empty, unseen-start, unseen-step, heads-zero, prevs-zero, unlike-zero, heads-step, prevs-step, unlike-step, told-unlike, told-equal}
 use borrow.Author.Needs.{needs}
 use Rattle.chains.proofs.chained.Statement.{statement}
 use Rattle.chains.proofs.chained.Tie as tie
@@ -11,19 +11,27 @@ use Rattle.chains.proofs.chained.Lts as lts
 use Rattle.chains.proofs.wide.Reads as wide-reads
 
 abbrev Inv-loop2 : tie.InvT-loop2
-Inv-loop2 keys heads prev left₀ i n h first p₀ left p = (i < 1024) × (p ≤ i) × (length keys ≡ 1024) × (length heads ≡ 2048) × (length prev ≡ 1024) × Unseen keys n p i
+Inv-loop2 keys heads prev left₀ i n h first p₀ left p = Following keys heads prev n p i
 
 abbrev μ-loop2 : tie.MeasureT-loop2
 μ-loop2 keys heads prev left₀ i n h first p₀ left p = p
 
 abbrev Inv-loop : tie.InvT-loop
-Inv-loop keys heads₀ prev₀ left₀ i₀ heads prev left i = (i ≤ 1024) × (length keys ≡ 1024) × (length heads ≡ 2048) × (length prev ≡ 1024) × Heads keys heads i × Prevs keys prev i × Unlike keys i
+Inv-loop keys heads₀ prev₀ left₀ i₀ heads prev left i = Linked keys heads prev i
 
 abbrev μ-loop : tie.MeasureT-loop
 μ-loop keys heads₀ prev₀ left₀ i₀ heads prev left i = 1024 - i
 
 loop-holds : tie.Need-loop-holds Inv-loop2 μ-loop2 Inv-loop μ-loop
-loop-holds c = (omega arith, c .good .0 .1 .0 .1, refl, refl, heads-none (c .args .t1), λ j h. absurd (omega arith), λ j k a b. absurd (omega arith))
+loop-holds c = record {
+  below = omega arith;
+  keys-length = c .good .0 .1 .0 .1;
+  heads-length = refl;
+  prev-length = refl;
+  heads = heads-none (c .args .t1);
+  prevs = λ j h. absurd (omega arith);
+  unlike = λ j k a b. absurd (omega arith);
+}
 
 mul-n : tie.Need-mul-n Inv-loop2 μ-loop2 Inv-loop μ-loop
 mul-n c = search needs
@@ -46,7 +54,16 @@ loop-again c =
     let g = c .before .before .before .args in
     let z = run-empty g.t1 (l .i) (c .before .before .before .pre) (omega arith) (c .if1 .taken) in
     let n = l .i / 16 * 16 + 16 in
-    (omega arith, l .inv .1, l .inv .2, l .inv .3, heads-zero g.t1 (l .heads) (l .i) n z (l .inv .4), prevs-zero g.t1 (l .prev) (l .i) n z (l .inv .5), unlike-zero g.t1 (l .i) n z (l .inv .6))
+    let v = l .inv in
+    record {
+      below = omega arith;
+      keys-length = v .keys-length;
+      heads-length = v .heads-length;
+      prev-length = v .prev-length;
+      heads = heads-zero g.t1 (l .heads) (l .i) n z (v .heads);
+      prevs = prevs-zero g.t1 (l .prev) (l .i) n z (v .prevs);
+      unlike = unlike-zero g.t1 (l .i) n z (v .unlike);
+    }
 
 cast-h : tie.Need-cast-h Inv-loop2 μ-loop2 Inv-loop μ-loop
 cast-h c = search needs
@@ -65,8 +82,9 @@ loop2-holds c =
     let l = c .before .before .before .loop in
     let g = c .before .before .before .before .args in
     let pos : 0 < at g.t1 (l .i) = omega (arith, c .before .if1 .left) in
-    let u : Unseen g.t1 (at g.t1 (l .i)) (c .wide .result) (l .i) = subst (λ (x : ℕ). Unseen g.t1 (at g.t1 (l .i)) x (l .i)) (sym (c .wide .ensures)) (unseen-start g.t1 (l .heads) (at g.t1 (l .i)) (l .i) pos (l .inv .4)) in
-    (omega arith, u .0, l .inv .1, l .inv .2, l .inv .3, u)
+    let u : Unseen g.t1 (at g.t1 (l .i)) (c .wide .result) (l .i) = subst (λ (x : ℕ). Unseen g.t1 (at g.t1 (l .i)) x (l .i)) (sym (c .wide .ensures)) (unseen-start g.t1 (l .heads) (at g.t1 (l .i)) (l .i) pos (l .inv .heads)) in
+    let v = l .inv in
+    record { here = omega arith; below = u .0; keys-length = v .keys-length; heads-length = v .heads-length; prev-length = v .prev-length; unseen = u }
 
 sub-q : tie.Need-sub-q Inv-loop2 μ-loop2 Inv-loop μ-loop
 sub-q c = search needs
@@ -106,7 +124,7 @@ loop2-less c =
     let o = c .before .before .before .before .before .before .before .before .loop in
     let g = c .before .before .before .before .before .before .before .before .before .args in
     let some : 0 < l .p = omega arith in
-    omega (arith, c .wide2 .ensures, prev-below g.t1 (o .prev) (at g.t1 (o .i)) (l .p) (l .p - 1) (o .i) (o .inv .5) (l .inv .5) some refl)
+    omega (arith, c .wide2 .ensures, prev-below g.t1 (o .prev) (at g.t1 (o .i)) (l .p) (l .p - 1) (o .i) (o .inv .prevs) (l .inv .unseen) some refl)
 
 loop2-again : tie.Need-loop2-again Inv-loop2 μ-loop2 Inv-loop μ-loop
 loop2-again c =
@@ -115,9 +133,10 @@ loop2-again c =
     let g = c .before .before .before .before .before .before .before .before .before .args in
     let some : 0 < l .p = omega arith in
     let pos : 0 < at g.t1 (o .i) = omega (arith, c .before .before .before .before .before .before .if1 .left) in
-    let next = unseen-step g.t1 (o .prev) (at g.t1 (o .i)) (l .p) (l .p - 1) (o .i) pos (o .inv .5) (l .inv .5) some refl (c .before .before .if2 .left) in
+    let next = unseen-step g.t1 (o .prev) (at g.t1 (o .i)) (l .p) (l .p - 1) (o .i) pos (o .inv .prevs) (l .inv .unseen) some refl (c .before .before .if2 .left) in
     let u : Unseen g.t1 (at g.t1 (o .i)) (c .wide2 .result) (o .i) = subst (λ (x : ℕ). Unseen g.t1 (at g.t1 (o .i)) x (o .i)) (sym (c .wide2 .ensures)) next in
-    (l .inv .0, u .0, l .inv .2, l .inv .3, l .inv .4, u)
+    let v = l .inv in
+    record { here = v .here; below = u .0; keys-length = v .keys-length; heads-length = v .heads-length; prev-length = v .prev-length; unseen = u }
 
 mul-prev : tie.Need-mul-prev Inv-loop2 μ-loop2 Inv-loop μ-loop
 mul-prev c = search needs
@@ -150,15 +169,24 @@ loop-again-2 c =
     let g = c .before .before .before .before .before .before .args in
     let pos : 0 < at g.t1 (o .i) = omega (arith, c .before .before .before .if1 .left) in
     let none : l .p ≡ 0 = omega arith in
-    let new : Unseen g.t1 (at g.t1 (o .i)) 0 (o .i) = subst (λ (x : ℕ). Unseen g.t1 (at g.t1 (o .i)) x (o .i)) none (l .inv .5) in
-    (omega arith, o .inv .1, simp length-set (o .inv .2), simp length-set (o .inv .3), heads-step g.t1 (o .heads) (o .i) (omega arith) pos (o .inv .4), prevs-step g.t1 (o .heads) (o .prev) (o .i) (omega arith) (o .inv .4) (o .inv .5), unlike-step g.t1 (o .i) new (o .inv .6))
+    let new : Unseen g.t1 (at g.t1 (o .i)) 0 (o .i) = subst (λ (x : ℕ). Unseen g.t1 (at g.t1 (o .i)) x (o .i)) none (l .inv .unseen) in
+    let v = o .inv in
+    record {
+      below = omega arith;
+      keys-length = v .keys-length;
+      heads-length = simp length-set (v .heads-length);
+      prev-length = simp length-set (v .prev-length);
+      heads = heads-step g.t1 (o .heads) (o .i) (omega arith) pos (v .heads);
+      prevs = prevs-step g.t1 (o .heads) (o .prev) (o .i) (omega arith) (v .heads) (v .prevs);
+      unlike = unlike-step g.t1 (o .i) new (v .unlike);
+    }
 
 returns-3 : tie.Need-returns-3 Inv-loop2 μ-loop2 Inv-loop μ-loop
 returns-3 c =
     let l = c .before .loop in
     let g = c .before .before .args in
     let e : l .i ≡ length g.t1 = omega arith in
-    (λ e. absurd (omega (arith, e)), λ _. told-unlike g.t1 (subst (λ (x : ℕ). Unlike g.t1 x) e (l .inv .6)))
+    (λ e. absurd (omega (arith, e)), λ _. told-unlike g.t1 (subst (λ (x : ℕ). Unlike g.t1 x) e (l .inv .unlike)))
 
 pub chained-spec : {M : Type 1} → statement M
 chained-spec =

@@ -16,7 +16,7 @@ use Rattle.changes.proofs.fresh_floor.Reads as reads
 use Rattle.changes.proofs.fresh_floor.Lts as lts
 use Rattle.changes.proofs.fresh_tile.Reads as fresh-tile-reads
 use Rattle.floor.proofs.zero_floor.Reads as zero-floor-reads
-use Rattle.settings.proofs.tiles_of.Reads as tiles-of-reads
+use Rattle.floor.proofs.Settings.tile_count.Reads as tile-count-reads
 
 abbrev Inv-loop : tie.InvT-loop
 Inv-loop s all next tiles₀ t₀ tiles t = (t ≤ all) × (all ≤ 64) × (length tiles ≡ 64) × Upto t (λ k. head (freshTile s k)) zeroTile tiles × From t (λ k. zeroTile) zeroTile tiles
@@ -24,8 +24,8 @@ Inv-loop s all next tiles₀ t₀ tiles t = (t ≤ all) × (all ≤ 64) × (leng
 abbrev μ-loop : tie.MeasureT-loop
 μ-loop s all next tiles₀ t₀ tiles t = all - t
 
-tiles-of-requires : tie.Need-tiles-of-requires Inv-loop μ-loop
-tiles-of-requires c κs = search needs
+tile-count-requires : tie.Need-tile-count-requires Inv-loop μ-loop
+tile-count-requires c κs = search needs
 
 zero-floor-requires : tie.Need-zero-floor-requires Inv-loop μ-loop
 zero-floor-requires c κs = search needs
@@ -33,7 +33,7 @@ zero-floor-requires c κs = search needs
 loop-holds : tie.Need-loop-holds Inv-loop μ-loop
 loop-holds c = let z = c .before .zero-floor in
     let few = fresh-few (c .before .before .before .args .s) (c .before .before .before .pre) in
-    (omega arith, omega (arith, few, c .before .before .tiles-of .ensures), tiles-length (z .result) _ (z .ok), λ i h. absurd (omega arith), λ i h. zero-tiles (z .result) (z .ensures) i)
+    (omega arith, omega (arith, few, c .before .before .tile-count .ensures), tiles-length (z .result) _ (z .ok), λ i h. absurd (omega arith), λ i h. zero-tiles (z .result) (z .ensures) i)
 
 fresh-tile-requires : tie.Need-fresh-tile-requires Inv-loop μ-loop
 fresh-tile-requires c κs = search needs
@@ -64,7 +64,7 @@ returns : tie.Need-returns Inv-loop μ-loop
 returns c = let l = c .before .loop in
     let g = c .before .before .before .before .before .args in
     let z = c .before .before .before .zero-floor in
-    let n : l .t ≡ total g.s = omega (arith, c .before .before .before .before .tiles-of .ensures, l .inv .0) in
+    let n : l .t ≡ total g.s = omega (arith, c .before .before .before .before .tile-count .ensures, l .inv .0) in
     fresh-pack g.s (z .result) (l .tiles) (z .ensures) (l .inv .2) (rw n at (l .inv .3)) (rw n at (l .inv .4))
 
 pub fresh-floor-spec : {M : Type 1} → statement M
@@ -73,7 +73,7 @@ fresh-floor-spec =
     (tie.spec
     Inv-loop
     μ-loop
-    tiles-of-requires
+    tile-count-requires
     zero-floor-requires
     loop-holds
     fresh-tile-requires

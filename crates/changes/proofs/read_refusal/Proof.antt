@@ -5,21 +5,21 @@ use Rattle.changes.proofs.read_refusal.Statement.{statement}
 use Rattle.changes.proofs.read_refusal.Tie as tie
 use Rattle.changes.proofs.read_refusal.Reads as reads
 use Rattle.changes.proofs.read_refusal.Lts as lts
-use Rattle.settings.proofs.tiles_of.Reads as tiles-of-reads
+use Rattle.floor.proofs.Settings.tile_count.Reads as tile-count-reads
 
-tiles-of-requires : tie.Need-tiles-of-requires
-tiles-of-requires c κs = search needs
+tile-count-requires : tie.Need-tile-count-requires
+tile-count-requires c κs = search needs
 
 returns : tie.Need-returns
 returns c = let g = c .before .before .before .args in
     let off : _ ≤ g.tile = c .if1 .taken in
-    read-4 g.floor g.tile (rw (c .before .tiles-of .ensures) at off)
+    read-4 g.floor g.tile (rw (c .before .tile-count .ensures) at off)
 
 returns-2 : tie.Need-returns-2
 returns-2 c = let g = c .before .before .before .args in
     let on0 : g.tile < _ = c .if1 .left in
-    let on = rw (c .before .tiles-of .ensures) at on0 in
+    let on = rw (c .before .tile-count .ensures) at on0 in
     read-0 g.floor g.tile on
 
 pub read-refusal-spec : {M : Type 1} → statement M
-read-refusal-spec = tie.close (tie.spec tiles-of-requires returns returns-2)
+read-refusal-spec = tie.close (tie.spec tile-count-requires returns returns-2)

@@ -1,20 +1,19 @@
 use Rattle.grants.proofs.SignalLaws.{lack-west, lack-south, lack-north, lack-east, lack-none}
 use mathlib.Core.Path.{_∙_}
+use native.Mathlib.Omega.{arith}
 use borrow.Author.Needs.{needs}
 use Rattle.grants.proofs.lack.Statement.{statement}
 use Rattle.grants.proofs.lack.Tie as tie
 use Rattle.grants.proofs.lack.Reads as reads
 use Rattle.grants.proofs.lack.Lts as lts
+use Rattle.floor.proofs.Settings.spacing.Reads as spacing-reads
 use Rattle.grants.proofs.less.Reads as less-reads
 
 cast-length : tie.Need-cast-length
 cast-length c = search needs
 
-cast-spacing : tie.Need-cast-spacing
-cast-spacing c = search needs
-
-add-spacing : tie.Need-add-spacing
-add-spacing c = search needs
+spacing-requires : tie.Need-spacing-requires
+spacing-requires c κs = tt
 
 cast-width : tie.Need-cast-width
 cast-width c = search needs
@@ -35,7 +34,7 @@ add-less : tie.Need-add-less
 add-less c = search needs
 
 add-less-2 : tie.Need-add-less-2
-add-less-2 c = search needs
+add-less-2 c = omega (arith, c .before .before .before .before .spacing .ensures)
 
 less-requires-3 : tie.Need-less-requires-3
 less-requires-3 c κs = search needs
@@ -44,22 +43,22 @@ add-less-3 : tie.Need-add-less-3
 add-less-3 c = search needs
 
 add-less-4 : tie.Need-add-less-4
-add-less-4 c = search needs
+add-less-4 c = omega (arith, c .before .before .before .before .spacing .ensures)
 
 less-requires-4 : tie.Need-less-requires-4
 less-requires-4 c κs = search needs
 
 returns : tie.Need-returns
-returns c = let g = c .before .before .before .before .before .before .before .args in c .less .ensures ∙ lack-west g.s (g.side .code) g.c (c .before .match .keys1)
+returns c = let g = c .before .before .before .before .before .before .before .args in (rw (c .before .before .before .before .before .spacing .ensures) at (c .less .ensures)) ∙ lack-west g.s (g.side .code) g.c (c .before .match .keys1)
 
 returns-2 : tie.Need-returns-2
-returns-2 c = let g = c .before .before .before .before .before .before .before .args in c .less2 .ensures ∙ lack-south g.s (g.side .code) g.c (c .before .match .keys2)
+returns-2 c = let g = c .before .before .before .before .before .before .before .args in (rw (c .before .before .before .before .before .spacing .ensures) at (c .less2 .ensures)) ∙ lack-south g.s (g.side .code) g.c (c .before .match .keys2)
 
 returns-3 : tie.Need-returns-3
-returns-3 c = let g = c .before .before .before .before .before .before .before .args in c .less3 .ensures ∙ lack-north g.s (g.side .code) g.c (c .before .match .keys3)
+returns-3 c = let g = c .before .before .before .before .before .before .before .args in (rw (c .before .before .before .before .before .spacing .ensures) at (c .less3 .ensures)) ∙ lack-north g.s (g.side .code) g.c (c .before .match .keys3)
 
 returns-4 : tie.Need-returns-4
-returns-4 c = let g = c .before .before .before .before .before .before .before .args in c .less4 .ensures ∙ lack-east g.s (g.side .code) g.c (c .before .match .keys4)
+returns-4 c = let g = c .before .before .before .before .before .before .before .args in (rw (c .before .before .before .before .before .spacing .ensures) at (c .less4 .ensures)) ∙ lack-east g.s (g.side .code) g.c (c .before .match .keys4)
 
 returns-5 : tie.Need-returns-5
 returns-5 c = let g = c .before .before .before .before .before .before .args in let r = c .match .rest in lack-none g.s (g.side .code) g.c (r .0 .0 .0 .1) (r .0 .0 .1) (r .0 .1) (r .1)
@@ -69,8 +68,7 @@ lack-spec =
     tie.close
     (tie.spec
     cast-length
-    cast-spacing
-    add-spacing
+    spacing-requires
     cast-width
     cast-a
     cast-b

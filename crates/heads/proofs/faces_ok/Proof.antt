@@ -5,10 +5,10 @@ use Rattle.heads.proofs.faces_ok.Tie as tie
 use Rattle.heads.proofs.faces_ok.Reads as reads
 use Rattle.heads.proofs.faces_ok.Lts as lts
 use Rattle.floor.proofs.Side.neighbour.Reads as neighbour-reads
-use Rattle.settings.proofs.tiles_of.Reads as tiles-of-reads
+use Rattle.floor.proofs.Settings.tile_count.Reads as tile-count-reads
 
-tiles-of-requires : tie.Need-tiles-of-requires
-tiles-of-requires c κs = search needs
+tile-count-requires : tie.Need-tile-count-requires
+tile-count-requires c κs = search needs
 
 neighbour-requires : tie.Need-neighbour-requires
 neighbour-requires c κs = let p = c .before .pre in (p .0 .0, p .0 .1, p .0 .2, p .1)
@@ -18,4 +18,4 @@ unfolding faces
 returns c = cc
 
 pub faces-ok-spec : {M : Type 1} → statement M
-faces-ok-spec = tie.close (tie.spec tiles-of-requires neighbour-requires returns)
+faces-ok-spec = tie.close (tie.spec tile-count-requires neighbour-requires returns)

@@ -10,30 +10,30 @@ use Rattle.heads.proofs.head_fits.Statement.{statement}
 use Rattle.heads.proofs.head_fits.Tie as tie
 use Rattle.heads.proofs.head_fits.Reads as reads
 use Rattle.heads.proofs.head_fits.Lts as lts
-use Rattle.settings.proofs.tiles_of.Reads as tiles-of-reads
-use Rattle.heads.proofs.zero_tile.Reads as zero-tile-reads
+use Rattle.floor.proofs.Settings.tile_count.Reads as tile-count-reads
+use Rattle.heads.proofs.is_zero_tile.Reads as is-zero-tile-reads
 
-tiles-of-requires : tie.Need-tiles-of-requires
-tiles-of-requires c κs = search needs
+tile-count-requires : tie.Need-tile-count-requires
+tile-count-requires c κs = search needs
 
 returns : tie.Need-returns
 unfolding headFits
 returns c =
     let g = c .before .before .before .args in
     let on0 : g.t < _ = c .before .if1 .taken in
-    let on : g.t < total g.s = rw (c .before .before .tiles-of .ensures) at on0 in
+    let on : g.t < total g.s = rw (c .before .before .tile-count .ensures) at on0 in
     pick-yes (leb (g.h .count) 16) (isZeroTile g.h) (lt-ltb g.t (total g.s) on)
 
-zero-tile-requires : tie.Need-zero-tile-requires
-zero-tile-requires c κs = search needs
+is-zero-tile-requires : tie.Need-is-zero-tile-requires
+is-zero-tile-requires c κs = search needs
 
 returns-2 : tie.Need-returns-2
 unfolding headFits
 returns-2 c =
     let g = c .before .before .before .args in
     let off0 : _ ≤ g.t = c .before .if1 .left in
-    let off : total g.s ≤ g.t = rw (c .before .before .tiles-of .ensures) at off0 in
-    c .zero-tile .ensures ∙ pick-no (leb (g.h .count) 16) (isZeroTile g.h) (le-ltb g.t (total g.s) off)
+    let off : total g.s ≤ g.t = rw (c .before .before .tile-count .ensures) at off0 in
+    c .is-zero-tile .ensures ∙ pick-no (leb (g.h .count) 16) (isZeroTile g.h) (le-ltb g.t (total g.s) off)
 
 pub head-fits-spec : {M : Type 1} → statement M
-head-fits-spec = tie.close (tie.spec tiles-of-requires returns zero-tile-requires returns-2)
+head-fits-spec = tie.close (tie.spec tile-count-requires returns is-zero-tile-requires returns-2)

@@ -4,10 +4,10 @@ use Rattle.heads.proofs.running_ok.Statement.{statement}
 use Rattle.heads.proofs.running_ok.Tie as tie
 use Rattle.heads.proofs.running_ok.Reads as reads
 use Rattle.heads.proofs.running_ok.Lts as lts
-use Rattle.settings.proofs.tiles_of.Reads as tiles-of-reads
+use Rattle.floor.proofs.Settings.tile_count.Reads as tile-count-reads
 
-tiles-of-requires : tie.Need-tiles-of-requires
-tiles-of-requires c κs = search needs
+tile-count-requires : tie.Need-tile-count-requires
+tile-count-requires c κs = search needs
 
 cast-distance : tie.Need-cast-distance
 cast-distance c = search needs
@@ -17,4 +17,4 @@ unfolding runningSound
 returns c = cc
 
 pub running-ok-spec : {M : Type 1} → statement M
-running-ok-spec = tie.close (tie.spec tiles-of-requires cast-distance returns)
+running-ok-spec = tie.close (tie.spec tile-count-requires cast-distance returns)

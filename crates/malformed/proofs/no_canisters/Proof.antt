@@ -7,10 +7,10 @@ use Rattle.malformed.proofs.no_canisters.Lts as lts
 use Rattle.malformed.proofs.same_canister.Reads as same-canister-reads
 
 abbrev Inv-loop : tie.InvT-loop
-Inv-loop members none all₀ k₀ all k = k ≤ 16
+Inv-loop members all₀ k₀ all k = k ≤ 16
 
 abbrev μ-loop : tie.MeasureT-loop
-μ-loop members none all₀ k₀ all k = 16 - k
+μ-loop members all₀ k₀ all k = 16 - k
 
 loop-holds : tie.Need-loop-holds Inv-loop μ-loop
 loop-holds c = search needs

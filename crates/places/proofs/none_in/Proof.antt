@@ -11,7 +11,7 @@ use Rattle.places.proofs.none_in.Statement.{statement}
 use Rattle.places.proofs.none_in.Tie as tie
 use Rattle.places.proofs.none_in.Reads as reads
 use Rattle.places.proofs.none_in.Lts as lts
-use Rattle.places.proofs.zero_canister.Reads as zero-canister-reads
+use Rattle.places.proofs.is_zero_canister.Reads as is-zero-canister-reads
 
 abbrev Inv-loop : tie.InvT-loop
 Inv-loop items ok₀ k₀ ok k = (k ≤ 16) × (length items ≡ 16) × (ok ≡ allOf isZeroCanister (take k items))
@@ -22,14 +22,14 @@ abbrev μ-loop : tie.MeasureT-loop
 loop-holds : tie.Need-loop-holds Inv-loop μ-loop
 loop-holds c = (omega arith, c .good .0 .1 .0 .1, sym (all-zero isZeroCanister (c .args .t1)))
 
-mul-zero-canister : tie.Need-mul-zero-canister Inv-loop μ-loop
-mul-zero-canister c = search needs
+mul-is-zero-canister : tie.Need-mul-is-zero-canister Inv-loop μ-loop
+mul-is-zero-canister c = search needs
 
-array-copy-out-zero-canister : tie.Need-array-copy-out-zero-canister Inv-loop μ-loop
-array-copy-out-zero-canister c = search needs
+array-copy-out-is-zero-canister : tie.Need-array-copy-out-is-zero-canister Inv-loop μ-loop
+array-copy-out-is-zero-canister c = search needs
 
-zero-canister-requires : tie.Need-zero-canister-requires Inv-loop μ-loop
-zero-canister-requires c κs = search needs
+is-zero-canister-requires : tie.Need-is-zero-canister-requires Inv-loop μ-loop
+is-zero-canister-requires c κs = search needs
 
 add-k : tie.Need-add-k Inv-loop μ-loop
 add-k c = search needs
@@ -41,7 +41,7 @@ loop-again : tie.Need-loop-again Inv-loop μ-loop
 loop-again c =
     let l = c .before .before .before .loop in
     let g = c .before .before .before .before .args in
-    (omega arith, l .inv .1, all-step isZeroCanister g.t1 (l .k) zeroCanister (omega arith) (l .inv .2) (c .zero-canister .ensures))
+    (omega arith, l .inv .1, all-step isZeroCanister g.t1 (l .k) zeroCanister (omega arith) (l .inv .2) (c .is-zero-canister .ensures))
 
 returns : tie.Need-returns Inv-loop μ-loop
 returns c =
@@ -56,9 +56,9 @@ none-in-spec =
     Inv-loop
     μ-loop
     loop-holds
-    mul-zero-canister
-    array-copy-out-zero-canister
-    zero-canister-requires
+    mul-is-zero-canister
+    array-copy-out-is-zero-canister
+    is-zero-canister-requires
     add-k
     loop-less
     loop-again

@@ -12,7 +12,7 @@ use Rattle.places.proofs.rest_ok.Tie as tie
 use Rattle.places.proofs.rest_ok.Reads as reads
 use Rattle.places.proofs.rest_ok.Lts as lts
 use Rattle.places.proofs.none_in.Reads as none-in-reads
-use Rattle.places.proofs.zero_canister.Reads as zero-canister-reads
+use Rattle.places.proofs.is_zero_canister.Reads as is-zero-canister-reads
 
 abbrev Inv-loop : tie.InvT-loop
 Inv-loop n items left ok₀ k₀ ok k = (k ≤ left) × (n + left ≡ 16) × (length items ≡ 16) × (ok ≡ allOf isZeroCanister (take k (drop n items)))
@@ -36,17 +36,17 @@ loop-holds c =
     let g = c .before .args in
     (omega arith, omega (arith, c .before .pre), c .before .good .0 .1 .0 .1, sym (all-zero isZeroCanister (drop g.n g.t1)))
 
-add-zero-canister : tie.Need-add-zero-canister Inv-loop μ-loop
-add-zero-canister c = search needs
+add-is-zero-canister : tie.Need-add-is-zero-canister Inv-loop μ-loop
+add-is-zero-canister c = search needs
 
-mul-zero-canister : tie.Need-mul-zero-canister Inv-loop μ-loop
-mul-zero-canister c = search needs
+mul-is-zero-canister : tie.Need-mul-is-zero-canister Inv-loop μ-loop
+mul-is-zero-canister c = search needs
 
-array-copy-out-zero-canister : tie.Need-array-copy-out-zero-canister Inv-loop μ-loop
-array-copy-out-zero-canister c = search needs
+array-copy-out-is-zero-canister : tie.Need-array-copy-out-is-zero-canister Inv-loop μ-loop
+array-copy-out-is-zero-canister c = search needs
 
-zero-canister-requires : tie.Need-zero-canister-requires Inv-loop μ-loop
-zero-canister-requires c κs = search needs
+is-zero-canister-requires : tie.Need-is-zero-canister-requires Inv-loop μ-loop
+is-zero-canister-requires c κs = search needs
 
 add-k : tie.Need-add-k Inv-loop μ-loop
 add-k c = search needs
@@ -59,7 +59,7 @@ loop-again c =
     let l = c .before .before .before .loop in
     let g = c .before .before .before .before .before .args in
     let h : l .k < length (drop g.n g.t1) = rw length-drop (omega arith) in
-    (omega arith, l .inv .1, l .inv .2, all-step isZeroCanister (drop g.n g.t1) (l .k) zeroCanister h (l .inv .3) (c .zero-canister .ensures ∙ sym (ap isZeroCanister (getD-drop g.n g.t1 (l .k) zeroCanister))))
+    (omega arith, l .inv .1, l .inv .2, all-step isZeroCanister (drop g.n g.t1) (l .k) zeroCanister h (l .inv .3) (c .is-zero-canister .ensures ∙ sym (ap isZeroCanister (getD-drop g.n g.t1 (l .k) zeroCanister))))
 
 returns-2 : tie.Need-returns-2 Inv-loop μ-loop
 returns-2 c =
@@ -78,10 +78,10 @@ rest-ok-spec =
     returns
     sub-left
     loop-holds
-    add-zero-canister
-    mul-zero-canister
-    array-copy-out-zero-canister
-    zero-canister-requires
+    add-is-zero-canister
+    mul-is-zero-canister
+    array-copy-out-is-zero-canister
+    is-zero-canister-requires
     add-k
     loop-less
     loop-again

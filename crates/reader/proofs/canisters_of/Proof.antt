@@ -7,7 +7,8 @@ use Rattle.image.specs.Image.{tileWidths}
 use Rattle.floor.specs.Memory.{zeroCanister}
 use Rattle.reader.specs.Arrays.{canisterFrom}
 use Rattle.reader.proofs.Reading.{count-is}
-use Rattle.reader.proofs.Places.{Placed, filled-none, placed-turn, placed-tile, placed-all}
+use Rattle.faults.proofs.Filled.{filled-none}
+use Rattle.reader.proofs.Places.{Placed, placed-turn, placed-tile, placed-all}
 use borrow.Author.Needs.{needs}
 use Rattle.reader.proofs.canisters_of.Statement.{statement}
 use Rattle.reader.proofs.canisters_of.Tie as tie

@@ -1,6 +1,6 @@
 use native.Mathlib.Omega.{arith}
 use Rattle.wire.specs.Bytes.{bytes, bytes-length}
-use Rattle.records.proofs.Laws.{canister-bytes}
+use Rattle.records.proofs.RecordBytes.{canister-bytes}
 use Rattle.wire.specs.Put.{put-three}
 use borrow.Author.Needs.{needs}
 use Rattle.records.proofs.put_canister.Statement.{statement}

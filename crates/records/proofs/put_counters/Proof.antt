@@ -7,7 +7,7 @@ use Rattle.laws.specs.Define.{tab}
 use Rattle.wire.specs.Bytes.{bytes, bytesOf}
 use Rattle.wire.specs.Put.{put, put-none, put-two}
 use Rattle.floor.proofs.Sized.{delivered-length}
-use Rattle.records.proofs.Laws.{countBytes, count-length, count-turn, top-length, counters-record}
+use Rattle.records.proofs.RecordBytes.{countBytes, count-length, count-turn, top-length, counters-record}
 use borrow.Author.Needs.{needs}
 use Rattle.records.proofs.put_counters.Statement.{statement}
 use Rattle.records.proofs.put_counters.Tie as tie

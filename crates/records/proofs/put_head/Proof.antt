@@ -1,7 +1,7 @@
 use mathlib.Core.List.{_++_}
 use native.Mathlib.Omega.{arith}
 use Rattle.wire.specs.Bytes.{bytes, bytes-length}
-use Rattle.records.proofs.Laws.{pair-length, measures-length, put-four, three-length}
+use Rattle.records.proofs.RecordBytes.{pair-length, measures-length, put-four, three-length}
 use Rattle.image.specs.Image.{lowest}
 use Rattle.records.specs.Parts.{measuresBytes, headBytes}
 use borrow.Author.Needs.{needs}

@@ -4,7 +4,7 @@ use Rattle.wire.specs.Bytes.{bytes, bytes-length}
 use Rattle.wire.specs.Put.{put-three}
 use Rattle.floor.specs.Layouts.{letters}
 use Rattle.image.proofs.Layouts.{letters-length}
-use Rattle.records.proofs.Laws.{pair-length, layout-record}
+use Rattle.records.proofs.RecordBytes.{pair-length, layout-record}
 use borrow.Author.Needs.{needs}
 use Rattle.records.proofs.put_layout.Statement.{statement}
 use Rattle.records.proofs.put_layout.Tie as tie

@@ -1,7 +1,7 @@
 use mathlib.Core.List.{_++_}
 use native.Mathlib.Omega.{arith}
 use Rattle.wire.specs.Bytes.{bytes, bytes-length}
-use Rattle.records.proofs.Laws.{pair-length}
+use Rattle.records.proofs.RecordBytes.{pair-length}
 use Rattle.wire.specs.Put.{put-three}
 use borrow.Author.Needs.{needs}
 use Rattle.records.proofs.put_measures.Statement.{statement}

@@ -4,7 +4,7 @@ use native.Mathlib.Omega.{arith}
 use lib.ListN.{length, take}
 use Rattle.wire.specs.Put.{put, put-none}
 use Rattle.floor.specs.Layouts.{letters}
-use Rattle.records.proofs.Laws.{name-turn, name-all}
+use Rattle.records.proofs.RecordBytes.{name-turn, name-all}
 use borrow.Author.Needs.{needs}
 use Rattle.records.proofs.put_name.Statement.{statement}
 use Rattle.records.proofs.put_name.Tie as tie

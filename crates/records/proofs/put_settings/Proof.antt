@@ -7,7 +7,7 @@ use Rattle.wire.specs.Put.{put-two}
 use Rattle.image.specs.Image.{several, settingsBody}
 use Rattle.image.proofs.Sizes.{settings-size}
 use Rattle.records.specs.Parts.{headBytes}
-use Rattle.records.proofs.Laws.{head-length, settings-more, settings-one}
+use Rattle.records.proofs.RecordBytes.{head-length, settings-more, settings-one}
 use borrow.Author.Needs.{needs}
 use Rattle.records.proofs.put_settings.Statement.{statement}
 use Rattle.records.proofs.put_settings.Tie as tie

@@ -2,7 +2,7 @@ use mathlib.Core.List.{_++_}
 use native.Mathlib.Omega.{arith}
 use Rattle.wire.specs.Bytes.{bytes, bytes-length}
 use Rattle.wire.specs.Put.{put-three}
-use Rattle.records.proofs.Laws.{pair-length}
+use Rattle.records.proofs.RecordBytes.{pair-length}
 use borrow.Author.Needs.{needs}
 use Rattle.records.proofs.put_top.Statement.{statement}
 use Rattle.records.proofs.put_top.Tie as tie

@@ -11,6 +11,7 @@ use Rattle.route.proofs.distances.Statement.{statement}
 use Rattle.route.proofs.distances.Tie as tie
 use Rattle.route.proofs.distances.Reads as reads
 use Rattle.route.proofs.distances.Lts as lts
+use Rattle.floor.proofs.Settings.tile_count.Reads as tile-count-reads
 
 abbrev Inv-loop : tie.InvT-loop
 Inv-loop tiles all d₀ t₀ d t = (t ≤ all) × (all ≤ 64) × (length tiles ≡ 64) × (length d ≡ 65) × Upto 65 (within t (distanceIn tiles) 255) 0 d
@@ -18,17 +19,11 @@ Inv-loop tiles all d₀ t₀ d t = (t ≤ all) × (all ≤ 64) × (length tiles 
 abbrev μ-loop : tie.MeasureT-loop
 μ-loop tiles all d₀ t₀ d t = all - t
 
-cast-all : tie.Need-cast-all Inv-loop μ-loop
-cast-all c = search needs
-
-cast-all-2 : tie.Need-cast-all-2 Inv-loop μ-loop
-cast-all-2 c = search needs
-
-mul-all : tie.Need-mul-all Inv-loop μ-loop
-mul-all c = search needs
+tile-count-requires : tie.Need-tile-count-requires Inv-loop μ-loop
+tile-count-requires c κs = tt
 
 loop-holds : tie.Need-loop-holds Inv-loop μ-loop
-loop-holds c = let s = c .before .before in (omega arith, s .pre, s .good .1 .0 .1 .0 .1, refl, within-none (distanceIn (s .args .t2)) 255 65)
+loop-holds c = let s = c .before in (omega arith, rw (c .tile-count .ensures) (s .pre), s .good .1 .0 .1 .0 .1, refl, within-none (distanceIn (s .args .t2)) 255 65)
 
 mul-tile : tie.Need-mul-tile Inv-loop μ-loop
 mul-tile c = search needs
@@ -48,13 +43,13 @@ loop-less c = search needs
 loop-again : tie.Need-loop-again Inv-loop μ-loop
 loop-again c =
     let l = c .before .before .loop in
-    let g = c .before .before .before .before .before .args in
+    let g = c .before .before .before .before .args in
     (omega arith, l .inv .1, l .inv .2, simp length-set (l .inv .3), within-turn (distanceIn g.t2) 255 (l .d) 65 (l .t) _ (omega arith) refl (l .inv .4))
 
 returns : tie.Need-returns Inv-loop μ-loop
 returns c =
     let l = c .before .loop in
-    let g = c .before .before .before .before .args in
+    let g = c .before .before .before .args in
     let e : l .t ≡ total g.s = omega arith in
     λ i h. l .inv .4 i h ∙ ap (λ (n : ℕ). within n (distanceIn g.t2) 255 i) e
 
@@ -64,9 +59,7 @@ distances-spec =
     (tie.spec
     Inv-loop
     μ-loop
-    cast-all
-    cast-all-2
-    mul-all
+    tile-count-requires
     loop-holds
     mul-tile
     array-copy-out-tile

@@ -11,6 +11,7 @@ use Rattle.route.proofs.route_pass.Statement.{statement}
 use Rattle.route.proofs.route_pass.Tie as tie
 use Rattle.route.proofs.route_pass.Reads as reads
 use Rattle.route.proofs.route_pass.Lts as lts
+use Rattle.floor.proofs.Settings.tile_count.Reads as tile-count-reads
 use Rattle.floor.proofs.Side.neighbour.Reads as neighbour-reads
 use Rattle.route.proofs.distances.Reads as distances-reads
 use Rattle.route.proofs.route_tile.Reads as route-tile-reads
@@ -21,44 +22,38 @@ Inv-loop s tiles all d out₀ t₀ out t = (t ≤ all) × (all ≤ 64) × (lengt
 abbrev μ-loop : tie.MeasureT-loop
 μ-loop s tiles all d out₀ t₀ out t = all - t
 
-cast-all : tie.Need-cast-all Inv-loop μ-loop
-cast-all c = search needs
-
-cast-all-2 : tie.Need-cast-all-2 Inv-loop μ-loop
-cast-all-2 c = search needs
-
-mul-all : tie.Need-mul-all Inv-loop μ-loop
-mul-all c = search needs
+tile-count-requires : tie.Need-tile-count-requires Inv-loop μ-loop
+tile-count-requires c κs = tt
 
 distances-requires : tie.Need-distances-requires Inv-loop μ-loop
-distances-requires c κs = c .before .before .pre .2
+distances-requires c κs = c .before .pre .2
 
 loop-holds : tie.Need-loop-holds Inv-loop μ-loop
-loop-holds c = let s = c .before .before .before in let n = s .good .1 .0 .1 .0 .1 in (omega arith, s .pre .2, n, redone-none (routedAt (s .args .s) (s .args .t2)) (s .args .t2) n)
+loop-holds c = let s = c .before .before in let n = s .good .1 .0 .1 .0 .1 in (omega arith, rw (c .before .tile-count .ensures) (s .pre .2), n, redone-none (routedAt (s .args .s) (s .args .t2)) (s .args .t2) n)
 
 neighbour-requires : tie.Need-neighbour-requires Inv-loop μ-loop
-neighbour-requires c κs = let s = c .before .before .before .before .before in (s .pre .0, s .pre .1, s .pre .2, omega arith)
+neighbour-requires c κs = let s = c .before .before .before .before in (s .pre .0, s .pre .1, s .pre .2, omega arith)
 
 array-read-west : tie.Need-array-read-west Inv-loop μ-loop
-array-read-west c = let s = c .before .before .before .before .before .before in near-read (s .args .s) 1 (c .before .before .loop .t) (omega arith) (s .pre .2) (c .neighbour .ensures)
+array-read-west c = let s = c .before .before .before .before .before in near-read (s .args .s) 1 (c .before .before .loop .t) (omega arith) (s .pre .2) (c .neighbour .ensures)
 
 neighbour-requires-2 : tie.Need-neighbour-requires-2 Inv-loop μ-loop
-neighbour-requires-2 c κs = let s = c .before .before .before .before .before .before in (s .pre .0, s .pre .1, s .pre .2, omega arith)
+neighbour-requires-2 c κs = let s = c .before .before .before .before .before in (s .pre .0, s .pre .1, s .pre .2, omega arith)
 
 array-read-south : tie.Need-array-read-south Inv-loop μ-loop
-array-read-south c = let s = c .before .before .before .before .before .before .before in near-read (s .args .s) 2 (c .before .before .before .loop .t) (omega arith) (s .pre .2) (c .neighbour2 .ensures)
+array-read-south c = let s = c .before .before .before .before .before .before in near-read (s .args .s) 2 (c .before .before .before .loop .t) (omega arith) (s .pre .2) (c .neighbour2 .ensures)
 
 neighbour-requires-3 : tie.Need-neighbour-requires-3 Inv-loop μ-loop
-neighbour-requires-3 c κs = let s = c .before .before .before .before .before .before .before in (s .pre .0, s .pre .1, s .pre .2, omega arith)
+neighbour-requires-3 c κs = let s = c .before .before .before .before .before .before in (s .pre .0, s .pre .1, s .pre .2, omega arith)
 
 array-read-north : tie.Need-array-read-north Inv-loop μ-loop
-array-read-north c = let s = c .before .before .before .before .before .before .before .before in near-read (s .args .s) 3 (c .before .before .before .before .loop .t) (omega arith) (s .pre .2) (c .neighbour3 .ensures)
+array-read-north c = let s = c .before .before .before .before .before .before .before in near-read (s .args .s) 3 (c .before .before .before .before .loop .t) (omega arith) (s .pre .2) (c .neighbour3 .ensures)
 
 neighbour-requires-4 : tie.Need-neighbour-requires-4 Inv-loop μ-loop
-neighbour-requires-4 c κs = let s = c .before .before .before .before .before .before .before .before in (s .pre .0, s .pre .1, s .pre .2, omega arith)
+neighbour-requires-4 c κs = let s = c .before .before .before .before .before .before .before in (s .pre .0, s .pre .1, s .pre .2, omega arith)
 
 array-read-east : tie.Need-array-read-east Inv-loop μ-loop
-array-read-east c = let s = c .before .before .before .before .before .before .before .before .before in near-read (s .args .s) 4 (c .before .before .before .before .before .loop .t) (omega arith) (s .pre .2) (c .neighbour4 .ensures)
+array-read-east c = let s = c .before .before .before .before .before .before .before .before in near-read (s .args .s) 4 (c .before .before .before .before .before .loop .t) (omega arith) (s .pre .2) (c .neighbour4 .ensures)
 
 mul-route-tile : tie.Need-mul-route-tile Inv-loop μ-loop
 mul-route-tile c = search needs
@@ -67,7 +62,7 @@ array-copy-out-route-tile : tie.Need-array-copy-out-route-tile Inv-loop μ-loop
 array-copy-out-route-tile c = search needs
 
 route-tile-requires : tie.Need-route-tile-requires Inv-loop μ-loop
-route-tile-requires c κs = c .before .before .before .before .before .before .before .before .before .before .pre .2
+route-tile-requires c κs = c .before .before .before .before .before .before .before .before .before .pre .2
 
 mul-out : tie.Need-mul-out Inv-loop μ-loop
 mul-out c = search needs
@@ -84,7 +79,7 @@ loop-less c = search needs
 loop-again : tie.Need-loop-again Inv-loop μ-loop
 loop-again c =
     let l = c .before .before .before .before .before .before .before .loop in
-    let s = c .before .before .before .before .before .before .before .before .before .before .before in
+    let s = c .before .before .before .before .before .before .before .before .before .before in
     let g = s .args in
     let on : l .t < total g.s = omega arith in
     let d = c .before .before .before .before .before .before .before .before .distances in
@@ -100,7 +95,7 @@ loop-again c =
 returns : tie.Need-returns Inv-loop μ-loop
 returns c =
     let l = c .before .loop in
-    let g = c .before .before .before .before .before .args in
+    let g = c .before .before .before .before .args in
     redone-end (routedAt g.s g.t2) g.t2 (l .out) (l .t) (total g.s) (omega arith) (l .inv .3)
 
 pub route-pass-spec : {M : Type 1} → statement M
@@ -109,9 +104,7 @@ route-pass-spec =
     (tie.spec
     Inv-loop
     μ-loop
-    cast-all
-    cast-all-2
-    mul-all
+    tile-count-requires
     distances-requires
     loop-holds
     neighbour-requires

@@ -8,6 +8,7 @@ use Rattle.settings.proofs.measures_wrong.Statement.{statement}
 use Rattle.settings.proofs.measures_wrong.Tie as tie
 use Rattle.settings.proofs.measures_wrong.Reads as reads
 use Rattle.settings.proofs.measures_wrong.Lts as lts
+use Rattle.floor.proofs.Settings.spacing.Reads as spacing-reads
 use Rattle.settings.proofs.rules_wrong.Reads as rules-wrong-reads
 
 rules-wrong-requires : tie.Need-rules-wrong-requires
@@ -18,14 +19,8 @@ returns c =
     let e : rulesWrong (c .before .before .args .s) ≡ true = sym (c .before .rules-wrong .ensures) ∙ c .if1 .taken in
     rw (sym (measures-are (c .before .before .args .s)), e)
 
-cast-d : tie.Need-cast-d
-cast-d c = search needs
-
-cast-d-2 : tie.Need-cast-d-2
-cast-d-2 c = search needs
-
-add-d : tie.Need-add-d
-add-d c = search needs
+spacing-requires : tie.Need-spacing-requires
+spacing-requires c κs = tt
 
 cast-span : tie.Need-cast-span
 cast-span c = search needs
@@ -35,18 +30,18 @@ cast-span-2 c = search needs
 
 sub-span : tie.Need-sub-span
 sub-span c =
-    let e : rulesWrong (c .before .before .before .before .before .before .args .s) ≡ false = sym (c .before .before .before .before .before .rules-wrong .ensures) ∙ c .before .before .before .before .if1 .left in
-    omega (arith, rules-length (c .before .before .before .before .before .before .args .s) e)
+    let e : rulesWrong (c .before .before .before .before .before .args .s) ≡ false = sym (c .before .before .before .before .rules-wrong .ensures) ∙ c .before .before .before .if1 .left in
+    omega (arith, rules-length (c .before .before .before .before .before .args .s) e)
 
 div-result : tie.Need-div-result
 div-result c =
-    let e : rulesWrong (c .before .before .before .before .before .before .args .s) ≡ false = sym (c .before .before .before .before .before .rules-wrong .ensures) ∙ c .before .before .before .before .if1 .left in
-    omega (arith, rules-length (c .before .before .before .before .before .before .args .s) e)
+    let e : rulesWrong (c .before .before .before .before .before .args .s) ≡ false = sym (c .before .before .before .before .rules-wrong .ensures) ∙ c .before .before .before .if1 .left in
+    omega (arith, c .before .before .spacing .ensures, rules-length (c .before .before .before .before .before .args .s) e)
 
 returns-2 : tie.Need-returns-2
 returns-2 c =
-    let e : rulesWrong (c .before .before .before .before .before .before .args .s) ≡ false = sym (c .before .before .before .before .before .rules-wrong .ensures) ∙ c .before .before .before .before .if1 .left in
-    rw (sym (measures-are (c .before .before .before .before .before .before .args .s)), e)
+    let e : rulesWrong (c .before .before .before .before .before .args .s) ≡ false = sym (c .before .before .before .before .rules-wrong .ensures) ∙ c .before .before .before .if1 .left in
+    rw (c .before .before .spacing .ensures, sym (measures-are (c .before .before .before .before .before .args .s)), e)
 
 pub measures-wrong-spec : {M : Type 1} → statement M
 measures-wrong-spec =
@@ -54,9 +49,7 @@ measures-wrong-spec =
     (tie.spec
     rules-wrong-requires
     returns
-    cast-d
-    cast-d-2
-    add-d
+    spacing-requires
     cast-span
     cast-span-2
     sub-span

@@ -4,13 +4,13 @@ use Rattle.settings.proofs.sizes_wrong.Statement.{statement}
 use Rattle.settings.proofs.sizes_wrong.Tie as tie
 use Rattle.settings.proofs.sizes_wrong.Reads as reads
 use Rattle.settings.proofs.sizes_wrong.Lts as lts
-use Rattle.settings.proofs.tiles_of.Reads as tiles-of-reads
+use Rattle.floor.proofs.Settings.tile_count.Reads as tile-count-reads
 
-tiles-of-requires : tie.Need-tiles-of-requires
-tiles-of-requires c κs = search needs
+tile-count-requires : tie.Need-tile-count-requires
+tile-count-requires c κs = search needs
 
 returns : tie.Need-returns
-returns c = rw (c .tiles-of .ensures) (sizes-are _)
+returns c = rw (c .tile-count .ensures) (sizes-are _)
 
 pub sizes-wrong-spec : {M : Type 1} → statement M
-sizes-wrong-spec = tie.close (tie.spec tiles-of-requires returns)
+sizes-wrong-spec = tie.close (tie.spec tile-count-requires returns)

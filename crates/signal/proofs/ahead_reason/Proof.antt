@@ -1,21 +1,23 @@
+use mathlib.Core.Path.{sym, _∙_}
+use Rattle.floor.proofs.GridBranches.{opposite-five, five-opposite}
 use Rattle.signal.proofs.ReasonLaws.{why-turn, why-gap, why-moved}
-use borrow.Author.Needs.{needs}
 use Rattle.signal.proofs.ahead_reason.Statement.{statement}
 use Rattle.signal.proofs.ahead_reason.Tie as tie
 use Rattle.signal.proofs.ahead_reason.Reads as reads
 use Rattle.signal.proofs.ahead_reason.Lts as lts
+use Rattle.floor.proofs.Side.opposite.Reads as opposite-reads
 
-add-if1 : tie.Need-add-if1
-add-if1 c = search needs
+opposite-requires : tie.Need-opposite-requires
+opposite-requires c κs = tt
 
 returns : tie.Need-returns
-returns c = let g = c .before .args in why-turn g.next g.turn g.lack (c .if1 .taken)
+returns c = let S = c .before .before .before .before in let g = S .args in why-turn (g.next .code) (g.turn .code) g.lack (λ e. c .if1 .taken (opposite-five (g.next .code) (g.turn .code) (S .pre .1) e ∙ sym (c .before .before .before .opposite .ensures)))
 
 returns-2 : tie.Need-returns-2
-returns-2 c = let g = c .before .before .args in why-gap g.next g.turn g.lack (c .before .if1 .left) (c .if2 .taken)
+returns-2 c = let S = c .before .before .before .before .before in let g = S .args in why-gap (g.next .code) (g.turn .code) g.lack (five-opposite (g.next .code) (g.turn .code) (S .pre .0) (c .before .if1 .left ∙ c .before .before .before .before .opposite .ensures)) (c .if2 .taken)
 
 returns-3 : tie.Need-returns-3
-returns-3 c = let g = c .before .before .args in why-moved g.next g.turn g.lack (c .before .if1 .left) (c .if2 .left)
+returns-3 c = let S = c .before .before .before .before .before in let g = S .args in why-moved (g.next .code) (g.turn .code) g.lack (five-opposite (g.next .code) (g.turn .code) (S .pre .0) (c .before .if1 .left ∙ c .before .before .before .before .opposite .ensures)) (c .if2 .left)
 
 pub ahead-reason-spec : {M : Type 1} → statement M
-ahead-reason-spec = tie.close (tie.spec add-if1 returns returns-2 returns-3)
+ahead-reason-spec = tie.close (tie.spec opposite-requires returns returns-2 returns-3)

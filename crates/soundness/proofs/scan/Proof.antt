@@ -1,86 +1,66 @@
 use mathlib.Core.Path.{_≡_, refl, sym, ap, _∙_, subst}
 use mathlib.Core.Logic.{⊎-elim}
-use mathlib.Core.Bool.{Bool, true, false, _&&_}
+use mathlib.Core.Bool.{true}
 use mathlib.Core.List.{List}
-use Prim.Native.Nat.{ℕ, _+_, _-_, _*_, _≤_, _<_}
+use Prim.Native.Nat.{ℕ, _+_, _-_, _*_, _<_}
 use native.Mathlib.Omega.{arith}
-use lib.ListN.{length, getD, take, length-set}
-use lib.Seq.{take-all}
+use lib.ListN.{length, getD, length-set}
 use borrow.Author.Tests.{not-true, not-false}
-use Rattle.laws.specs.Define.{allOf, allBelow}
-use Rattle.laws.specs.Filled.{Upto}
+use Rattle.laws.specs.Define.{allBelow}
 use Rattle.laws.proofs.Tables.{upto-turn, below-zero, below-step, ended, with-zero, with-step}
-use Rattle.floor.specs.declared.Canister.{Canister}
-use Rattle.floor.specs.declared.Floor.{Floor}
 use Rattle.floor.specs.Model.{numbers}
-use Rattle.floor.specs.Memory.{zeroCanister, isZeroCanister, headOf, block}
+use Rattle.floor.specs.Memory.{zeroCanister, isZeroCanister, block}
 use Rattle.floor.proofs.Sized.{tiles-length, canisters-length}
 use Rattle.unique.specs.Differ.{Runs}
-use Rattle.soundness.specs.Tile.{headTest, placesTest}
 use Rattle.soundness.specs.Code.{counted}
-use Rattle.soundness.proofs.WellCode.{testOf, fit-each, keys-run, well-unlike, well-tiled, well-empty, pass-sized, tested-empty, tested-used}
+use Rattle.soundness.proofs.WellCode.{testOf, fit-each, keys-run, well-unlike, well-tiled, well-empty, pass-sized}
 use Rattle.soundness.proofs.Blocks.{block-length, block-at}
-use Rattle.soundness.proofs.Keys.{Keyed, block-copied, keyed-start, keyed-first, keyed-turn, keyed-last, keyed-empty, keyed-end}
+use Rattle.soundness.proofs.Loops.{headed, after-empty, after-used, Scanned, Emptied, Copied, Listed, ListedTo}
+use Rattle.soundness.proofs.Keys.{Keyed, keyed-start, keyed-first, keyed-turn, keyed-last, keyed-empty, keyed-end}
 use borrow.Author.Needs.{needs}
 use Rattle.soundness.proofs.scan.Statement.{statement}
 use Rattle.soundness.proofs.scan.Tie as tie
 use Rattle.soundness.proofs.scan.Reads as reads
 use Rattle.soundness.proofs.scan.Lts as lts
 use Rattle.chains.proofs.numbers_differ.Reads as numbers-differ-reads
-use Rattle.places.proofs.zero_canister.Reads as zero-canister-reads
+use Rattle.places.proofs.is_zero_canister.Reads as is-zero-canister-reads
 use Rattle.soundness.proofs.count_all.Reads as count-all-reads
 use Rattle.soundness.proofs.counters_ok.Reads as counters-ok-reads
 use Rattle.soundness.proofs.head_test.Reads as head-test-reads
 use Rattle.soundness.proofs.places_test.Reads as places-test-reads
 
--- tile t without its canisters
-abbrev headed : Floor → ℕ → Bool
-headed f t = headTest (f .settings) t (headOf f t)
-
--- what its test is once its places are gone through
-after-empty : (f : Floor) (t k : ℕ) {ok : Bool} → length (f .canisters) ≡ 1024 → t < 64 → headOf f t .count ≡ 0 → 16 ≤ k → ok ≡ (headed f t && allOf isZeroCanister (take k (block (f .canisters) t))) → ok ≡ testOf f t
-after-empty f t k lc on none all e =
-    let n : length (block (f .canisters) t) ≤ k = rw (block-length (f .canisters) t lc on) all in
-    e ∙ ap (λ (l : List Canister). headed f t && allOf isZeroCanister l) (take-all k (block (f .canisters) t) n) ∙ tested-empty f t none
-
-after-used : (f : Floor) (t k : ℕ) (items : List Canister) {a b : Bool} → length (f .canisters) ≡ 1024 → t < 64 → (headOf f t .count ≡ 0 → ⊥) → 16 ≤ k → length items ≡ 16
-    → Upto k (λ j. getD (f .canisters) (16 * t + j) zeroCanister) zeroCanister items → a ≡ headed f t → b ≡ placesTest (f .settings) (f .counters .last) (headOf f t .count) items → (a && b) ≡ testOf f t
-after-used f t k items lc on some all len up p q =
-    let e : items ≡ block (f .canisters) t = block-copied (f .canisters) t items lc on len (λ j h. up j (omega arith)) in
-    rw (p, q, e) (tested-used f t some)
-
 abbrev Inv-loop2 : tie.InvT-loop2
-Inv-loop2 f s counters t ok₀ k₀ ok k = (k ≤ 16) × (t < 64) × (ok ≡ (headed f t && allOf isZeroCanister (take k (block (f .canisters) t))))
+Inv-loop2 f s counters t ok₀ k₀ ok k = Emptied f t ok k
 
 abbrev μ-loop2 : tie.MeasureT-loop2
 μ-loop2 f s counters t ok₀ k₀ ok k = 16 - k
 
 abbrev Inv-loop3 : tie.InvT-loop3
-Inv-loop3 f s counters t h ok items₀ i₀ items i = (i ≤ 16) × (length items ≡ 16) × Upto i (λ j. getD (f .canisters) (16 * t + j) zeroCanister) zeroCanister items
+Inv-loop3 f s counters t h ok items₀ i₀ items i = Copied f t items i
 
 abbrev μ-loop3 : tie.MeasureT-loop3
 μ-loop3 f s counters t h ok items₀ i₀ items i = 16 - i
 
 abbrev Inv-loop : tie.InvT-loop
-Inv-loop f s counters t₀ t = (t ≤ 64) × (true ≡ allBelow (testOf f) t)
+Inv-loop f s counters t₀ t = Scanned f t
 
 abbrev μ-loop : tie.MeasureT-loop
 μ-loop f s counters t₀ t = 64 - t
 
 abbrev Inv-loop5 : tie.InvT-loop5
-Inv-loop5 f n added keys₀ u j₀ keys j = (j ≤ 16) × (length keys ≡ 1024) × Keyed f (16 * u + j) keys
+Inv-loop5 f n added keys₀ u j₀ keys j = Listed f u keys j
 
 abbrev μ-loop5 : tie.MeasureT-loop5
 μ-loop5 f n added keys₀ u j₀ keys j = 16 - j
 
 abbrev Inv-loop4 : tie.InvT-loop4
-Inv-loop4 f n added keys₀ u₀ keys u = (u ≤ 64) × (length keys ≡ 1024) × Keyed f (16 * u) keys
+Inv-loop4 f n added keys₀ u₀ keys u = ListedTo f keys u
 
 abbrev μ-loop4 : tie.MeasureT-loop4
 μ-loop4 f n added keys₀ u₀ keys u = 64 - u
 
 loop-holds : tie.Need-loop-holds Inv-loop2 μ-loop2 Inv-loop3 μ-loop3 Inv-loop μ-loop Inv-loop5 μ-loop5 Inv-loop4 μ-loop4
-loop-holds c = (omega arith, sym (below-zero (testOf (c .before .before .args .t1))))
+loop-holds c = record { below = omega arith; tested = sym (below-zero (testOf (c .before .before .args .t1))) }
 
 mul-h : tie.Need-mul-h Inv-loop2 μ-loop2 Inv-loop3 μ-loop3 Inv-loop μ-loop Inv-loop5 μ-loop5 Inv-loop4 μ-loop4
 mul-h c = search needs
@@ -95,22 +75,22 @@ loop2-holds : tie.Need-loop2-holds Inv-loop2 μ-loop2 Inv-loop3 μ-loop3 Inv-loo
 loop2-holds c =
     let f = c .before .before .before .before .before .before .before .before .args .t1 in
     let o = c .before .before .before .before .before .loop in
-    (omega arith, omega arith, with-zero isZeroCanister (block (f .canisters) (o .t)) (c .before .before .head-test .ensures))
+    record { below = omega arith; here = omega arith; tested = with-zero isZeroCanister (block (f .canisters) (o .t)) (c .before .before .head-test .ensures) }
 
-mul-zero-canister : tie.Need-mul-zero-canister Inv-loop2 μ-loop2 Inv-loop3 μ-loop3 Inv-loop μ-loop Inv-loop5 μ-loop5 Inv-loop4 μ-loop4
-mul-zero-canister c = search needs
+mul-is-zero-canister : tie.Need-mul-is-zero-canister Inv-loop2 μ-loop2 Inv-loop3 μ-loop3 Inv-loop μ-loop Inv-loop5 μ-loop5 Inv-loop4 μ-loop4
+mul-is-zero-canister c = search needs
 
-add-zero-canister : tie.Need-add-zero-canister Inv-loop2 μ-loop2 Inv-loop3 μ-loop3 Inv-loop μ-loop Inv-loop5 μ-loop5 Inv-loop4 μ-loop4
-add-zero-canister c = search needs
+add-is-zero-canister : tie.Need-add-is-zero-canister Inv-loop2 μ-loop2 Inv-loop3 μ-loop3 Inv-loop μ-loop Inv-loop5 μ-loop5 Inv-loop4 μ-loop4
+add-is-zero-canister c = search needs
 
-mul-zero-canister-2 : tie.Need-mul-zero-canister-2 Inv-loop2 μ-loop2 Inv-loop3 μ-loop3 Inv-loop μ-loop Inv-loop5 μ-loop5 Inv-loop4 μ-loop4
-mul-zero-canister-2 c = search needs
+mul-is-zero-canister-2 : tie.Need-mul-is-zero-canister-2 Inv-loop2 μ-loop2 Inv-loop3 μ-loop3 Inv-loop μ-loop Inv-loop5 μ-loop5 Inv-loop4 μ-loop4
+mul-is-zero-canister-2 c = search needs
 
-element-copy-out-zero-canister : tie.Need-element-copy-out-zero-canister Inv-loop2 μ-loop2 Inv-loop3 μ-loop3 Inv-loop μ-loop Inv-loop5 μ-loop5 Inv-loop4 μ-loop4
-element-copy-out-zero-canister c = search needs
+element-copy-out-is-zero-canister : tie.Need-element-copy-out-is-zero-canister Inv-loop2 μ-loop2 Inv-loop3 μ-loop3 Inv-loop μ-loop Inv-loop5 μ-loop5 Inv-loop4 μ-loop4
+element-copy-out-is-zero-canister c = search needs
 
-zero-canister-requires : tie.Need-zero-canister-requires Inv-loop2 μ-loop2 Inv-loop3 μ-loop3 Inv-loop μ-loop Inv-loop5 μ-loop5 Inv-loop4 μ-loop4
-zero-canister-requires c κs = search needs
+is-zero-canister-requires : tie.Need-is-zero-canister-requires Inv-loop2 μ-loop2 Inv-loop3 μ-loop3 Inv-loop μ-loop Inv-loop5 μ-loop5 Inv-loop4 μ-loop4
+is-zero-canister-requires c κs = search needs
 
 add-k : tie.Need-add-k Inv-loop2 μ-loop2 Inv-loop3 μ-loop3 Inv-loop μ-loop Inv-loop5 μ-loop5 Inv-loop4 μ-loop4
 add-k c = search needs
@@ -126,10 +106,15 @@ loop2-again c =
     let l = c .before .before .before .loop2 in
     let cs = f .canisters in
     let on : l .k < 16 = omega arith in
-    (omega arith, l .inv .1, with-step (headed f (o .t)) isZeroCanister (block cs (o .t)) (l .k) zeroCanister (rw (block-length cs (o .t) (canisters-length f _ (S .good .0)) (l .inv .1)) on) (l .inv .2) (c .zero-canister .ensures ∙ ap isZeroCanister (sym (block-at cs (o .t) (l .k) on))))
+    let v = l .inv in
+    record {
+      below = omega arith;
+      here = v .here;
+      tested = with-step (headed f (o .t)) isZeroCanister (block cs (o .t)) (l .k) zeroCanister (rw (block-length cs (o .t) (canisters-length f _ (S .good .0)) (v .here)) on) (v .tested) (c .is-zero-canister .ensures ∙ ap isZeroCanister (sym (block-at cs (o .t) (l .k) on)));
+    }
 
 loop3-holds : tie.Need-loop3-holds Inv-loop2 μ-loop2 Inv-loop3 μ-loop3 Inv-loop μ-loop Inv-loop5 μ-loop5 Inv-loop4 μ-loop4
-loop3-holds c = (omega arith, refl, λ i h. absurd (omega arith))
+loop3-holds c = record { below = omega arith; items-length = refl; copied = λ i h. absurd (omega arith) }
 
 mul-items : tie.Need-mul-items Inv-loop2 μ-loop2 Inv-loop3 μ-loop3 Inv-loop μ-loop Inv-loop5 μ-loop5 Inv-loop4 μ-loop4
 mul-items c = search needs
@@ -160,7 +145,11 @@ loop3-again c =
     let f = c .before .before .before .before .before .before .before .before .before .before .before .args .t1 in
     let o = c .before .before .before .before .before .before .before .before .loop in
     let l = c .before .before .loop3 in
-    (omega arith, simp length-set (l .inv .1), upto-turn (l .i) (λ j. getD (f .canisters) (16 * o .t + j) zeroCanister) zeroCanister (l .items) (getD (f .canisters) (16 * o .t + l .i) zeroCanister) (omega arith) (l .inv .2) refl)
+    record {
+      below = omega arith;
+      items-length = simp length-set (l .inv .items-length);
+      copied = upto-turn (l .i) (λ j. getD (f .canisters) (16 * o .t + j) zeroCanister) zeroCanister (l .items) (getD (f .canisters) (16 * o .t + l .i) zeroCanister) (omega arith) (l .inv .copied) refl;
+    }
 
 places-test-requires : tie.Need-places-test-requires Inv-loop2 μ-loop2 Inv-loop3 μ-loop3 Inv-loop μ-loop Inv-loop5 μ-loop5 Inv-loop4 μ-loop4
 places-test-requires c κs = let S = c .before .before .before .before .before .before .before .before .before .before in pass-sized (S .args .t1 .settings) (S .pre) .1
@@ -175,8 +164,8 @@ returns c =
     let on : o .t < 64 = omega arith in
     let j = c .before .if1 in
     let tested : j .ok ≡ testOf f (o .t) = ⊎-elim
-    (λ w. w .3 ∙ after-empty f (o .t) (w .1 .k) lc on (w .0 .taken) (w .2 .left) (w .1 .inv .2))
-    (λ w. w .4 ∙ after-used f (o .t) (w .1 .i) (w .1 .items) lc on (w .0 .left) (w .2 .left) (w .1 .inv .1) (w .1 .inv .2) (c .before .before .before .head-test .ensures) (w .3 .ensures))
+    (λ w. w .3 ∙ after-empty f (o .t) (w .1 .k) lc on (w .0 .taken) (w .2 .left) (w .1 .inv .tested))
+    (λ w. w .4 ∙ after-used f (o .t) (w .1 .i) (w .1 .items) lc on (w .0 .left) (w .2 .left) (w .1 .inv .items-length) (w .1 .inv .copied) (c .before .before .before .head-test .ensures) (w .3 .ensures))
     (j .came) in
     well-unlike f (tiles-length f _ g) lc (S .pre) (o .t) on (sym tested ∙ not-true _ (c .if2 .taken))
 
@@ -195,10 +184,10 @@ loop-again c =
     let on : o .t < 64 = omega arith in
     let j = c .before .if1 in
     let tested : j .ok ≡ testOf f (o .t) = ⊎-elim
-    (λ w. w .3 ∙ after-empty f (o .t) (w .1 .k) lc on (w .0 .taken) (w .2 .left) (w .1 .inv .2))
-    (λ w. w .4 ∙ after-used f (o .t) (w .1 .i) (w .1 .items) lc on (w .0 .left) (w .2 .left) (w .1 .inv .1) (w .1 .inv .2) (c .before .before .before .head-test .ensures) (w .3 .ensures))
+    (λ w. w .3 ∙ after-empty f (o .t) (w .1 .k) lc on (w .0 .taken) (w .2 .left) (w .1 .inv .tested))
+    (λ w. w .4 ∙ after-used f (o .t) (w .1 .i) (w .1 .items) lc on (w .0 .left) (w .2 .left) (w .1 .inv .items-length) (w .1 .inv .copied) (c .before .before .before .head-test .ensures) (w .3 .ensures))
     (j .came) in
-    (omega arith, below-step (testOf f) (o .t) (o .inv .1) (sym (not-false _ (c .if2 .left)) ∙ tested))
+    record { below = omega arith; tested = below-step (testOf f) (o .t) (o .inv .tested) (sym (not-false _ (c .if2 .left)) ∙ tested) }
 
 count-all-requires : tie.Need-count-all-requires Inv-loop2 μ-loop2 Inv-loop3 μ-loop3 Inv-loop μ-loop Inv-loop5 μ-loop5 Inv-loop4 μ-loop4
 count-all-requires c κs = search needs
@@ -212,12 +201,12 @@ returns-2 c =
     let f = S .args .t1 in
     let g = S .good .0 in
     let o = c .before .before .before .before .before .loop in
-    let all : allBelow (testOf f) 64 ≡ true = sym (ended (allBelow (testOf f)) (c .before .before .before .before .loop-test .left) (o .inv .0) (o .inv .1)) in
+    let all : allBelow (testOf f) 64 ≡ true = sym (ended (allBelow (testOf f)) (c .before .before .before .before .loop-test .left) (o .inv .below) (o .inv .tested)) in
     let none : counted (f .tiles) 64 ≡ 0 = sym (c .before .before .count-all .ensures) ∙ c .if3 .taken in
     rw (c .before .counters-ok .ensures, c .before .before .count-all .ensures) (well-empty f (tiles-length f _ g) (canisters-length f _ g) (S .pre) all none)
 
 loop4-holds : tie.Need-loop4-holds Inv-loop2 μ-loop2 Inv-loop3 μ-loop3 Inv-loop μ-loop Inv-loop5 μ-loop5 Inv-loop4 μ-loop4
-loop4-holds c = (omega arith, refl, keyed-start (c .before .before .before .before .before .before .before .before .args .t1))
+loop4-holds c = record { below = omega arith; keys-length = refl; keyed = keyed-start (c .before .before .before .before .before .before .before .before .args .t1) }
 
 mul-h-2 : tie.Need-mul-h-2 Inv-loop2 μ-loop2 Inv-loop3 μ-loop3 Inv-loop μ-loop Inv-loop5 μ-loop5 Inv-loop4 μ-loop4
 mul-h-2 c = search needs
@@ -226,7 +215,7 @@ element-copy-out-h-2 : tie.Need-element-copy-out-h-2 Inv-loop2 μ-loop2 Inv-loop
 element-copy-out-h-2 c = search needs
 
 loop5-holds : tie.Need-loop5-holds Inv-loop2 μ-loop2 Inv-loop3 μ-loop3 Inv-loop μ-loop Inv-loop5 μ-loop5 Inv-loop4 μ-loop4
-loop5-holds c = let x = c .before .before .before .before .loop4 in (omega arith, x .inv .1, keyed-first (c .before .before .before .before .before .before .before .before .before .before .before .before .before .args .t1) (x .u) (x .keys) (x .inv .2))
+loop5-holds c = let x = c .before .before .before .before .loop4 in record { below = omega arith; keys-length = x .inv .keys-length; keyed = keyed-first (c .before .before .before .before .before .before .before .before .before .before .before .before .before .args .t1) (x .u) (x .keys) (x .inv .keyed) }
 
 mul-c : tie.Need-mul-c Inv-loop2 μ-loop2 Inv-loop3 μ-loop3 Inv-loop μ-loop Inv-loop5 μ-loop5 Inv-loop4 μ-loop4
 mul-c c = search needs
@@ -262,7 +251,7 @@ loop5-again : tie.Need-loop5-again Inv-loop2 μ-loop2 Inv-loop3 μ-loop3 Inv-loo
 loop5-again c =
     let x = c .before .before .before .before .before .before .before .loop4 in
     let l = c .before .before .loop5 in
-    (omega arith, simp length-set (l .inv .1), keyed-turn (c .before .before .before .before .before .before .before .before .before .before .before .before .before .before .before .before .args .t1) (x .u) (l .j) (l .keys) (omega arith) (l .inv .2))
+    record { below = omega arith; keys-length = simp length-set (l .inv .keys-length); keyed = keyed-turn (c .before .before .before .before .before .before .before .before .before .before .before .before .before .before .before .before .args .t1) (x .u) (l .j) (l .keys) (omega arith) (l .inv .keyed) }
 
 add-u : tie.Need-add-u Inv-loop2 μ-loop2 Inv-loop3 μ-loop3 Inv-loop μ-loop Inv-loop5 μ-loop5 Inv-loop4 μ-loop4
 add-u c = search needs
@@ -276,17 +265,17 @@ loop4-again c =
     let f = S .args .t1 in
     let lc = canisters-length f _ (S .good .0) in
     let o = c .before .before .before .before .before .before .before .before .before .before .loop in
-    let all : allBelow (testOf f) 64 ≡ true = sym (ended (allBelow (testOf f)) (c .before .before .before .before .before .before .before .before .before .loop-test .left) (o .inv .0) (o .inv .1)) in
+    let all : allBelow (testOf f) 64 ≡ true = sym (ended (allBelow (testOf f)) (c .before .before .before .before .before .before .before .before .before .loop-test .left) (o .inv .below) (o .inv .tested)) in
     let x = c .before .before .before .before .loop4 in
     let on : x .u < 64 = c .before .before .before .loop4-test .taken in
     let j = c .if4 in
-    let len : length (j .keys) ≡ 1024 = ⊎-elim (λ w. ap length (w .3) ∙ w .1 .inv .1) (λ w. ap length (w .1) ∙ x .inv .1) (j .came) in
+    let len : length (j .keys) ≡ 1024 = ⊎-elim (λ w. ap length (w .3) ∙ w .1 .inv .keys-length) (λ w. ap length (w .1) ∙ x .inv .keys-length) (j .came) in
     let keyed : Keyed f (16 * (x .u + 1)) (j .keys)
     = ⊎-elim
-    (λ w. subst (λ (l : List ℕ). Keyed f (16 * (x .u + 1)) l) (sym (w .3)) (keyed-last f (x .u) (w .1 .j) (w .1 .keys) (omega (arith, w .1 .inv .0, w .2 .left)) (w .1 .inv .2)))
-    (λ w. subst (λ (l : List ℕ). Keyed f (16 * (x .u + 1)) l) (sym (w .1)) (keyed-empty f lc (x .u) (x .keys) on (fit-each f all (x .u) on) (w .0 .left) (x .inv .2)))
+    (λ w. subst (λ (l : List ℕ). Keyed f (16 * (x .u + 1)) l) (sym (w .3)) (keyed-last f (x .u) (w .1 .j) (w .1 .keys) (omega (arith, w .1 .inv .below, w .2 .left)) (w .1 .inv .keyed)))
+    (λ w. subst (λ (l : List ℕ). Keyed f (16 * (x .u + 1)) l) (sym (w .1)) (keyed-empty f lc (x .u) (x .keys) on (fit-each f all (x .u) on) (w .0 .left) (x .inv .keyed)))
     (j .came) in
-    (omega arith, len, keyed)
+    record { below = omega arith; keys-length = len; keyed = keyed }
 
 numbers-differ-requires : tie.Need-numbers-differ-requires Inv-loop2 μ-loop2 Inv-loop3 μ-loop3 Inv-loop μ-loop Inv-loop5 μ-loop5 Inv-loop4 μ-loop4
 numbers-differ-requires c κs =
@@ -294,10 +283,10 @@ numbers-differ-requires c κs =
     let f = S .args .t1 in
     let lc = canisters-length f _ (S .good .0) in
     let o = c .before .before .before .before .before .before .before .loop in
-    let all : allBelow (testOf f) 64 ≡ true = sym (ended (allBelow (testOf f)) (c .before .before .before .before .before .before .loop-test .left) (o .inv .0) (o .inv .1)) in
+    let all : allBelow (testOf f) 64 ≡ true = sym (ended (allBelow (testOf f)) (c .before .before .before .before .before .before .loop-test .left) (o .inv .below) (o .inv .tested)) in
     let x = c .before .loop4 in
-    let u : x .u ≡ 64 = omega (arith, c .loop4-test .left, x .inv .0) in
-    subst (λ (l : List ℕ). Runs l) (sym (keyed-end f lc (x .u) (x .keys) u (x .inv .1) (x .inv .2))) (keys-run f all lc)
+    let u : x .u ≡ 64 = omega (arith, c .loop4-test .left, x .inv .below) in
+    subst (λ (l : List ℕ). Runs l) (sym (keyed-end f lc (x .u) (x .keys) u (x .inv .keys-length) (x .inv .keyed))) (keys-run f all lc)
 
 returns-3 : tie.Need-returns-3 Inv-loop2 μ-loop2 Inv-loop3 μ-loop3 Inv-loop μ-loop Inv-loop5 μ-loop5 Inv-loop4 μ-loop4
 returns-3 c =
@@ -306,10 +295,10 @@ returns-3 c =
     let g = S .good .0 in
     let lc = canisters-length f _ g in
     let o = c .before .before .before .before .before .before .before .before .loop in
-    let all : allBelow (testOf f) 64 ≡ true = sym (ended (allBelow (testOf f)) (c .before .before .before .before .before .before .before .loop-test .left) (o .inv .0) (o .inv .1)) in
+    let all : allBelow (testOf f) 64 ≡ true = sym (ended (allBelow (testOf f)) (c .before .before .before .before .before .before .before .loop-test .left) (o .inv .below) (o .inv .tested)) in
     let x = c .before .before .loop4 in
-    let u : x .u ≡ 64 = omega (arith, c .before .loop4-test .left, x .inv .0) in
-    let keys : x .keys ≡ numbers (f .canisters) = keyed-end f lc (x .u) (x .keys) u (x .inv .1) (x .inv .2) in
+    let u : x .u ≡ 64 = omega (arith, c .before .loop4-test .left, x .inv .below) in
+    let keys : x .keys ≡ numbers (f .canisters) = keyed-end f lc (x .u) (x .keys) u (x .inv .keys-length) (x .inv .keyed) in
     rw (c .before .before .before .before .counters-ok .ensures, c .before .before .before .before .before .count-all .ensures, c .numbers-differ .ensures, keys)
     (well-tiled f (tiles-length f _ g) lc (S .pre) all)
 
@@ -332,11 +321,11 @@ scan-spec =
     element-copy-out-h
     head-test-requires
     loop2-holds
-    mul-zero-canister
-    add-zero-canister
-    mul-zero-canister-2
-    element-copy-out-zero-canister
-    zero-canister-requires
+    mul-is-zero-canister
+    add-is-zero-canister
+    mul-is-zero-canister-2
+    element-copy-out-is-zero-canister
+    is-zero-canister-requires
     add-k
     loop2-less
     loop2-again

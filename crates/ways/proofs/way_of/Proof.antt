@@ -1,20 +1,19 @@
-use Rattle.floor.specs.Move.{wayOf}
-use borrow.Author.Needs.{needs}
+use mathlib.Core.Path.{sym, _∙_}
+use Rattle.ways.proofs.Ways.{goes, stays}
 use Rattle.ways.proofs.way_of.Statement.{statement}
 use Rattle.ways.proofs.way_of.Tie as tie
 use Rattle.ways.proofs.way_of.Reads as reads
 use Rattle.ways.proofs.way_of.Lts as lts
-use Rattle.ways.proofs.known.Reads as known-reads
+use Rattle.floor.proofs.Side.opposite.Reads as opposite-reads
 
-add-both : tie.Need-add-both
-add-both c = search needs
-
-known-requires : tie.Need-known-requires
-known-requires c κs = search needs
+opposite-requires : tie.Need-opposite-requires
+opposite-requires c κs = tt
 
 returns : tie.Need-returns
-unfolding wayOf
-returns c = c .known .ensures
+returns c = let g = c .before .before .before .before .args in goes (g.next .code) (g.ahead .code) (c .if1 .taken ∙ c .before .before .before .opposite .ensures)
+
+returns-2 : tie.Need-returns-2
+returns-2 c = let S = c .before .before .before .before in let g = S .args in stays (g.next .code) (g.ahead .code) (S .pre) (λ e. c .if1 .left (e ∙ sym (c .before .before .before .opposite .ensures)))
 
 pub way-of-spec : {M : Type 1} → statement M
-way-of-spec = tie.close (tie.spec add-both known-requires returns)
+way-of-spec = tie.close (tie.spec opposite-requires returns returns-2)

@@ -6,7 +6,7 @@ use lib.Dec.{ltb}
 use lib.ListN.{length}
 use native.Mathlib.Nat.{lt-of-le-of-lt}
 use Rattle.writer.specs.Upto.{countAt}
-use Rattle.writer.proofs.Laws.{counts-few, encode-heads, heads-more, heads-none, headsSize, hoppers-are, hoppers-four, first-is}
+use Rattle.writer.proofs.ImageBytes.{counts-few, encode-heads, heads-more, heads-none, headsSize, hoppers-are, hoppers-four, first-is}
 use Rattle.floor.proofs.Pack.{well-few, well-lengths}
 use borrow.Author.Needs.{needs}
 use Rattle.writer.proofs.image_length.Statement.{statement}
@@ -191,7 +191,7 @@ returns c =
     let w = S .pre in
     let h = c .before .before .before .before .before .size .result in
     let he = hoppers-are f w h (c .before .before .before .before .before .size .ensures) in
-    let fe = first-is f w h (c .before .before .before .before .first-length .result) he (c .before .before .before .before .first-length .ensures) in
+    let fe = first-is (f .settings) h (c .before .before .before .before .first-length .result) he (c .before .before .before .before .first-length .ensures) in
     let le = c .before .before .laid-out .ensures .0 in
     let e : l .t ≡ f .settings .columns * f .settings .rows = omega arith in
     rw e at (l .inv .3) ∙ omega (arith, encode-heads f w)

@@ -3,7 +3,7 @@ use Prim.Native.Nat.{_+_, _-_, _≤_}
 use native.Mathlib.Omega.{arith}
 use lib.ListN.{length, drop}
 use Rattle.floor.specs.Memory.{usedLayouts}
-use Rattle.writer.proofs.Laws.{used-stop, used-turn, used-all}
+use Rattle.writer.proofs.ImageBytes.{used-stop, used-turn, used-all}
 use borrow.Author.Needs.{needs}
 use Rattle.writer.proofs.laid_out.Statement.{statement}
 use Rattle.writer.proofs.laid_out.Tie as tie

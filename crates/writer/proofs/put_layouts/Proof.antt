@@ -4,7 +4,7 @@ use native.Mathlib.Omega.{arith}
 use lib.ListN.{length, take}
 use Rattle.wire.specs.Put.{put, put-none}
 use Rattle.image.specs.Image.{layoutsBytes}
-use Rattle.writer.proofs.Laws.{layouts-none, layouts-turn}
+use Rattle.writer.proofs.ImageBytes.{layouts-none, layouts-turn}
 use borrow.Author.Needs.{needs}
 use Rattle.writer.proofs.put_layouts.Statement.{statement}
 use Rattle.writer.proofs.put_layouts.Tie as tie

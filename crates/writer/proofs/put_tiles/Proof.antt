@@ -3,8 +3,8 @@ use Prim.Native.Nat.{ℕ, _+_, _*_, _-_, _≤_, _<_}
 use native.Mathlib.Omega.{arith}
 use lib.ListN.{length, take, drop}
 use Rattle.image.specs.Image.{canistersBody}
-use Rattle.records.proofs.Laws.{put-turn}
-use Rattle.writer.proofs.Laws.{at-turn, tiles-turn, upto-room}
+use Rattle.records.proofs.RecordBytes.{put-turn}
+use Rattle.writer.proofs.ImageBytes.{at-turn, tiles-turn, upto-room}
 use Rattle.writer.specs.Upto.{countAt, upto}
 use Rattle.wire.specs.Put.{put, put-none}
 use borrow.Author.Needs.{needs}
@@ -13,7 +13,7 @@ use Rattle.writer.proofs.put_tiles.Tie as tie
 use Rattle.writer.proofs.put_tiles.Reads as reads
 use Rattle.writer.proofs.put_tiles.Lts as lts
 use Rattle.records.proofs.put_canister.Reads as put-canister-reads
-use Rattle.records.proofs.put_front.Reads as put-front-reads
+use Rattle.records.proofs.put_tile.Reads as put-tile-reads
 
 abbrev Inv-loop2 : tie.InvT-loop2
 Inv-loop2 s₀ from c tiles all at t n k₀ s k = (k ≤ n) × (n ≤ 16) × (at + 10 + 8 * n ≤ length s₀) × (length s ≡ length s₀) × (t < 64) × (length all ≡ 1024) × (s ≡ put s₀ (at + 10) (canistersBody (take k (drop (16 * t) all))))
@@ -40,11 +40,11 @@ mul-h c = search needs
 array-copy-out-h : tie.Need-array-copy-out-h Inv-loop2 μ-loop2 Inv-loop μ-loop
 array-copy-out-h c = search needs
 
-cast-put-front : tie.Need-cast-put-front Inv-loop2 μ-loop2 Inv-loop μ-loop
-cast-put-front c = search needs
+cast-put-tile : tie.Need-cast-put-tile Inv-loop2 μ-loop2 Inv-loop μ-loop
+cast-put-tile c = search needs
 
-put-front-requires : tie.Need-put-front-requires Inv-loop2 μ-loop2 Inv-loop μ-loop
-put-front-requires c κs =
+put-tile-requires : tie.Need-put-tile-requires Inv-loop2 μ-loop2 Inv-loop μ-loop
+put-tile-requires c κs =
     let l = c .before .before .before .loop in
     let g = c .before .before .before .before .before .args in
     let w : l .t < g.c = c .before .before .loop-test .taken in
@@ -65,7 +65,7 @@ loop2-holds c =
     let k : countAt g.t3 (l .t) ≤ 16 = l .inv .8 (l .t) w in
     let h : 16 * l .t + 16 ≤ length g.t4 = omega arith in
     let r = upto-room g.t3 g.t4 (l .t) g.c w h k in
-    let p = c .before .before .before .put-front in
+    let p = c .before .before .before .put-tile in
     (omega arith, k, omega (arith, p .kept .0), refl, omega arith, l .inv .2, sym (put-none (p .last .0) (l .at + 10)))
 
 mul-x : tie.Need-mul-x Inv-loop2 μ-loop2 Inv-loop μ-loop
@@ -110,7 +110,7 @@ loop2-again c =
       p .kept .0 ∙ i .inv .3,
       i .inv .4,
       i .inv .5,
-      put-turn (c .before .before .before .before .before .before .before .before .before .before .put-front .last .0) (i .s) _ (o .at + 10) (16 * o .t) (i .k) g.t4 _ (omega arith) (omega arith) (i .inv .6) (p .ensures),
+      put-turn (c .before .before .before .before .before .before .before .before .before .before .put-tile .last .0) (i .s) _ (o .at + 10) (16 * o .t) (i .k) g.t4 _ (omega arith) (omega arith) (i .inv .6) (p .ensures),
     )
 
 add-at : tie.Need-add-at Inv-loop2 μ-loop2 Inv-loop μ-loop
@@ -135,7 +135,7 @@ loop-again c =
     let w : l .t < g.c = c .before .before .before .before .before .before .before .before .loop-test .taken in
     let k : countAt g.t3 (l .t) ≤ 16 = l .inv .8 (l .t) w in
     let h : 16 * l .t + 16 ≤ length g.t4 = omega arith in
-    let p = c .before .before .before .before .before .put-front in
+    let p = c .before .before .before .before .before .put-tile in
     let i = c .before .loop2 in
     let z : i .k ≡ countAt g.t3 (l .t) = omega arith in
     let q : i .s ≡ put (p .last .0) (l .at + 10) (canistersBody (take (countAt g.t3 (l .t)) (drop (16 * l .t) g.t4))) = rw z at (i .inv .6) in (
@@ -171,8 +171,8 @@ put-tiles-spec =
     loop-holds
     mul-h
     array-copy-out-h
-    cast-put-front
-    put-front-requires
+    cast-put-tile
+    put-tile-requires
     cast-n
     loop2-holds
     mul-x

@@ -1,0 +1,5 @@
+pub mod Apart
+pub mod Order
+pub mod Merging
+pub mod Passing
+pub mod Marks
