@@ -2,15 +2,17 @@
 ghost use mathlib.Core.Path.{_≡_};
 ghost use Rattle.floor.specs.Calls.{freshAnswer, stopAnswer, repairAnswer, readAnswer, zeroReport, roundAnswer};
 ghost use Rattle.calls.specs.Refused.{unreadWith};
-pub use book::book;
-use changes::fresh_floor;
-use changes::read_refusal;
-use changes::repair_refusal;
-use changes::repaired_floor;
-use changes::stop_refusal;
-use changes::stopped_floor;
-use changes::tile_head;
-use changes::tile_members;
+pub use book_call::book;
+use call_parts::fresh_floor;
+use call_parts::read_refusal;
+use call_parts::repair_refusal;
+use call_parts::repaired_floor;
+use call_parts::stop_refusal;
+use call_parts::stopped_floor;
+use call_parts::tile_head;
+use call_parts::tile_members;
+use check_floor::well_formed;
+use check_settings::settings_refusal;
 use floor::Answer;
 use floor::Canister;
 use floor::Delivery;
@@ -23,12 +25,10 @@ use floor::Side;
 use floor::Tile;
 use floor::refusals;
 use floor::zero_floor;
-use motion::run_round;
-pub use named::forget;
-pub use named::keep;
-pub use named::recall;
-use settings::settings_refusal;
-use soundness::well_formed;
+pub use layout_calls::forget;
+pub use layout_calls::keep;
+pub use layout_calls::recall;
+use round_move::run_round;
 
 // A fresh floor; refused, the all-zero floor.
 pub fn fresh(settings: Settings) -> Answer

@@ -80,12 +80,12 @@ pub extern "C" fn ceromby_recall(floor: Floor, name: Name) -> Answer
 pub extern "C" fn ceromby_load(bytes: &[u8]) -> Answer
     ensures { λ r. ⌜ r ≡ loadAnswer (now (bytes .entry)) ⌝ }
 {
-    images::load(bytes)
+    image_calls::load(bytes)
 }
 
 #[no_mangle]
 pub extern "C" fn ceromby_write(floor: Floor, buffer: &mut [u8]) -> Written
     ensures { λ r. ⌜ (r ≡ writeAnswer floor (length (now (buffer .entry)))) × (now (buffer .exit) ≡ written floor (now (buffer .entry))) ⌝ }
 {
-    images::write(floor, buffer)
+    image_calls::write(floor, buffer)
 }

@@ -1,8 +1,8 @@
 // The console: reads calls line by line from standard input and answers each on standard output.
 ghost use Prim.Native.Nat.{_≤_, _<_};
 ghost use lib.ListN.{length};
+use console_session::Session;
 use libc::STDIN_FILENO;
-use typed::Session;
 
 // A session, and the place of the first byte not yet obeyed.
 struct Place {
@@ -14,14 +14,14 @@ struct Place {
 fn line_done(before: Session, line: &[u8]) -> Session {
     let mut s = before;
     s.lines = std::num::wrapping_add_u64(s.lines, 1);
-    if parse::is_remark(line) {
+    if console_parse::is_remark(line) {
         return s;
     }
     if 400 < line.len() {
-        say::too_long(s.lines);
+        console_say::too_long(s.lines);
         return s;
     }
-    typed::obey(s, line)
+    console_obey::obey(s, line)
 }
 
 // Obeys the whole lines of the text.
@@ -31,7 +31,7 @@ fn obey_lines(before: Session, text: &[u8]) -> Place
     let mut s = before;
     let mut at = 0;
     while s.going && at < text.len() {
-        let to = words::find(text, at, b'\n');
+        let to = console_words::find(text, at, b'\n');
         if to == text.len() {
             break;
         }
@@ -48,7 +48,7 @@ fn read_more(buf: &mut [u8], end: usize) -> usize
 {
     let got = libc::read(STDIN_FILENO, &mut buf[end..]);
     if got < 0 {
-        say::text(b"console: standard input can't be read any further\n");
+        console_say::text(b"console: standard input can't be read any further\n");
     }
     end + io::count(got, &buf[end..])
 }
@@ -75,7 +75,7 @@ fn turn(before: Session, buf: &mut [u8], kept: usize) -> After
     }
     let place = obey_lines(before, &buf[..end]);
     let s = place.session;
-    let left = lines::keep(buf, place.at, end);
+    let left = console_lines::keep(buf, place.at, end);
     After {
         session: s,
         kept: left,
@@ -86,9 +86,9 @@ fn turn(before: Session, buf: &mut [u8], kept: usize) -> After
 // The end of the input: a last line without its end is obeyed. `more`: there may be input, and no reads are left.
 fn finish(s: Session, rest: &[u8], more: bool) {
     if more {
-        say::text(b"console: no reads are left; the lines after line ");
-        say::number(s.lines);
-        say::text(b" are not read\n");
+        console_say::text(b"console: no reads are left; the lines after line ");
+        console_say::number(s.lines);
+        console_say::text(b" are not read\n");
         return;
     }
     if s.going && 0 < rest.len() {
@@ -100,7 +100,7 @@ fn finish(s: Session, rest: &[u8], more: bool) {
 fn converse(buf: &mut [u8])
     requires { ⌜ 401 < length (now buf) ⌝ }
 {
-    let mut s = typed::begin();
+    let mut s = console_session::begin();
     let mut kept: usize = 0;
     let mut more = true;
     let mut reads = u64::MAX;
@@ -116,7 +116,7 @@ fn converse(buf: &mut [u8])
 }
 
 fn main() {
-    say::text(b"console: begin with fresh; help lists the calls, quit ends\n");
+    console_say::text(b"console: begin with fresh; help lists the calls, quit ends\n");
     let mut buf = io::buffer();
     converse(&mut buf);
 }

@@ -79,6 +79,16 @@ opposite-five k (suc (suc (suc zero))) h e = omega arith
 opposite-five k (suc (suc (suc (suc zero)))) h e = omega arith
 opposite-five k (suc (suc (suc (suc (suc j))))) h e = omega arith
 
+-- and the other way round
+pub opposite-back : (k j : ℕ) → 0 < k → k ≡ opposite j → j ≡ opposite k
+unfolding opposite
+opposite-back k zero h e = absurd (omega arith)
+opposite-back k (suc zero) h e = rw e
+opposite-back k (suc (suc zero)) h e = rw e
+opposite-back k (suc (suc (suc zero))) h e = rw e
+opposite-back k (suc (suc (suc (suc zero)))) h e = rw e
+opposite-back k (suc (suc (suc (suc (suc j))))) h e = absurd (omega arith)
+
 pub five-opposite : (k j : ℕ) → 0 < k → k ≡ opposite j → k + j ≡ 5
 unfolding opposite
 five-opposite k zero h e = absurd (omega arith)

@@ -1,15 +1,14 @@
 -- Who moves into whom: a tile that grants takes in from the neighbour that it granted, and only that one moves into it.
 use mathlib.Core.Path.{_≡_, refl, sym, ap, _∙_, subst}
 use mathlib.Core.Logic.{_⊎_, inl, inr}
-use mathlib.Core.Bool.{Bool, true, false, cond, _&&_}
+use mathlib.Core.Bool.{Bool, true, false, cond}
 use mathlib.Core.List.{List, [], List·Memᴰ}
-use Prim.Native.Nat.{ℕ, _+_, _<_}
+use Prim.Native.Nat.{ℕ, _<_}
 use native.Mathlib.Omega.{arith}
 use native.Mathlib.Decide.{decLe}
 use lib.Dec.{ltb, eqb}
 use lib.ListN.{length}
 use borrow.Author.Tests.{ltb-true, eqb-true, lt-ltb, eq-eqb}
-use Rattle.laws.proofs.Tests.{and-right}
 use Rattle.floor.specs.declared.Canister.{Canister}
 use Rattle.floor.specs.declared.Signal.{Signal}
 use Rattle.floor.specs.Sides.{sides, opposite}
@@ -21,7 +20,8 @@ use Rattle.floor.specs.Signal.{requests, missing, signalBy, signalTile, 
 use Rattle.floor.specs.Move.{wayOf, leaving}
 use Rattle.floor.specs.Fairness.{wants}
 use Rattle.floor.proofs.Sound.{Sound}
-use Rattle.floor.proofs.Grid.{side-pos, opposite-side, opposite-sum, requests-side, requests-at, neighbour-none, neighbour-back}
+use Rattle.floor.proofs.GridBranches.{opposite-back}
+use Rattle.floor.proofs.Grid.{side-pos, opposite-side, requests-side, requests-at, neighbour-none, neighbour-back}
 use Rattle.floor.proofs.Routing.{Arrow, arrow}
 use Rattle.floor.proofs.Tables.{Whole, off-floor, run-on}
 use Rattle.floor.proofs.Nearest.{graphOf, route-running, route-token, route-members, route-routed, laid, formed}
@@ -110,17 +110,17 @@ module _ (m : Model) (w : Whole m) where
       (grant-some (m .settings) (runsOf m t) (tokenOf m t) (membersOf m t) (wants m t) r e (wants-none t) k (W .side) (wants-of t k W))
 
 -- ---- ways
-way-told : (a b : ℕ) → 0 < wayOf a b → (wayOf a b ≡ a) × (a + b ≡ 5)
+way-told : (a b : ℕ) → 0 < wayOf a b → (wayOf a b ≡ a) × (a ≡ opposite b)
 unfolding wayOf
-way-told a b h = go (ltb 0 a && eqb (a + b) 5) refl
+way-told a b h = go (eqb a (opposite b)) refl
   where
-    go : (c : Bool) → (ltb 0 a && eqb (a + b) 5) ≡ c → (cond (ltb 0 a && eqb (a + b) 5) a 0 ≡ a) × (a + b ≡ 5)
-    go true e = rw e (refl, eqb-true (a + b) 5 (and-right (ltb 0 a) (eqb (a + b) 5) e))
+    go : (c : Bool) → eqb a (opposite b) ≡ c → (cond (eqb a (opposite b)) a 0 ≡ a) × (a ≡ opposite b)
+    go true e = rw e (refl, eqb-true a (opposite b) e)
     go false e = absurd (omega (arith, rw e at h))
 
-pub way-of : (a b : ℕ) → 0 < a → a + b ≡ 5 → wayOf a b ≡ a
+pub way-of : (a b : ℕ) → a ≡ opposite b → wayOf a b ≡ a
 unfolding wayOf
-way-of a b h e = rw (lt-ltb 0 a h, eq-eqb (a + b) 5 e)
+way-of a b e = rw (eq-eqb a (opposite b) e)
 
 module _ (m : Model) (S : Sound m) where
   pub arrow-at : (t : ℕ) → 0 < nextOf (route m) t → Arrow (graphOf m) (distanceOf m) (distanceOf (route m)) (nextOf (route m)) t
@@ -139,7 +139,7 @@ module _ (m : Model) (S : Sound m) where
     pub to : neighbour (m .settings) (wayAt m t) t < total (m .settings)
     pub meets : grantOf (route m) (neighbour (m .settings) (wayAt m t) t) ≡ opposite (wayAt m t)
 
-  way-at : (t : ℕ) → 0 < wayAt m t → (wayAt m t ≡ nextOf (route m) t) × (nextOf (route m) t + grantOf (route m) (neighbour (m .settings) (nextOf (route m) t) t) ≡ 5)
+  way-at : (t : ℕ) → 0 < wayAt m t → (wayAt m t ≡ nextOf (route m) t) × (nextOf (route m) t ≡ opposite (grantOf (route m) (neighbour (m .settings) (nextOf (route m) t) t)))
   unfolding wayAt
   way-at t = way-told (nextOf (route m) t) (grantOf (route m) (neighbour (m .settings) (nextOf (route m) t) t))
 
@@ -155,7 +155,7 @@ module _ (m : Model) (S : Sound m) where
         ahead = run-ahead;
         on = run-on m (S .len) t (A .runs);
         to = run-on m (S .len) (neighbour (m .settings) (wayAt m t) t) run-ahead;
-        meets = rw (W .0) (omega (arith, W .1, opposite-sum (A .side)));
+        meets = rw (W .0) (opposite-back (nextOf (route m) t) (grantOf (route m) (neighbour (m .settings) (nextOf (route m) t) t)) (omega (arith, W .0)) (W .1));
       }
 
   -- a tile stands still or moves, grants nothing or something
@@ -174,9 +174,9 @@ module _ (m : Model) (S : Sound m) where
     pub on : neighbour (m .settings) (grantOf (route m) t) t < total (m .settings)
     pub takes : comes m t ≡ leaves m (neighbour (m .settings) (grantOf (route m) t) t)
 
-  way-is : (t u : ℕ) → neighbour (m .settings) (nextOf (route m) u) u ≡ t → 0 < nextOf (route m) u → nextOf (route m) u + grantOf (route m) t ≡ 5 → wayAt m u ≡ nextOf (route m) u
+  way-is : (t u : ℕ) → neighbour (m .settings) (nextOf (route m) u) u ≡ t → nextOf (route m) u ≡ opposite (grantOf (route m) t) → wayAt m u ≡ nextOf (route m) u
   unfolding wayAt
-  way-is t u ahead po five = way-of (nextOf (route m) u) (grantOf (route m) (neighbour (m .settings) (nextOf (route m) u) u)) po (omega (arith, five, ap (λ (x : ℕ). grantOf (route m) x) ahead))
+  way-is t u ahead e = way-of (nextOf (route m) u) (grantOf (route m) (neighbour (m .settings) (nextOf (route m) u) u)) (e ∙ ap (λ (x : ℕ). opposite (grantOf (route m) x)) (sym ahead))
 
   takes-is : (t : ℕ) → let u = neighbour (m .settings) (grantOf (route m) t) t in neighbour (m .settings) (nextOf (route m) u) u ≡ t → comes m t ≡ leaves m u
   unfolding comes leaves wayAt
@@ -195,7 +195,7 @@ module _ (m : Model) (S : Sound m) where
       let on : u < total (m .settings) = run-on m (S .len) u (arrow-at u po .runs) in
       let into : neighbour (m .settings) (opposite k) u ≡ t = back mk t (run-on m (S .len) t (G .runs)) on in
       let ahead : neighbour (m .settings) (nextOf (route m) u) u ≡ t = ap (λ (j : ℕ). neighbour (m .settings) j u) ar ∙ into in
-      record { grant = G; way = way-is t u ahead po (omega (arith, ar, opposite-sum mk)) ∙ ar; into = into; on = on; takes = takes-is t ahead }
+      record { grant = G; way = way-is t u ahead ar ∙ ar; into = into; on = on; takes = takes-is t ahead }
 
   pub takes-none : (t : ℕ) → grantOf (route m) t ≡ 0 → comes m t ≡ []
   unfolding comes

@@ -23,6 +23,7 @@ use Rattle.floor.specs.Signal.{lack, missing, granting, waiting, signalW
 use Rattle.floor.specs.Reasons.{reasonTests, aheadOf}
 use Rattle.floor.specs.Fairness.{wants, turnOf}
 use Rattle.floor.proofs.Sound.{Measured, Inside, Sound}
+use Rattle.floor.proofs.GridBranches.{opposite-five, five-opposite}
 use Rattle.floor.proofs.Grid.{opposite-sum}
 use Rattle.floor.proofs.Nearest.{route-running, route-members}
 use Rattle.floor.proofs.Fields.{wayAt}
@@ -140,13 +141,13 @@ module _ (m : Model) (S : Sound m) where
     abbrev pub reason : ℕ
     reason = refusal (reasonTests (tileOf (route m) t) (aheadOf (route m) t))
 
-    pub fits : Which (not (runsOf m t)) (eqb (length (membersOf m t)) 0) (eqb k 0) (not (eqb (k + y .turn) 5)) (ltb 0 (y .missing)) reason
+    pub fits : Which (not (runsOf m t)) (eqb (length (membersOf m t)) 0) (eqb k 0) (not (eqb k (opposite (y .turn)))) (ltb 0 (y .missing)) reason
     unfolding reasonTests aheadOf route
     fits =
         let r : runsOf (route m) t ≡ runsOf m t = ap (λ (n : ℕ). eqb n 1) (route-running m (S .len) t) in
-        subst (λ (l : List Canister). Which (not (runsOf m t)) (eqb (length l) 0) (eqb k 0) (not (eqb (k + y .turn) 5)) (ltb 0 (y .missing)) reason) (route-members m (S .len) t)
-        (subst (λ (b : Bool). Which (not b) (eqb (length (membersOf (route m) t)) 0) (eqb k 0) (not (eqb (k + y .turn) 5)) (ltb 0 (y .missing)) reason) r
-        (which (not (runsOf (route m) t)) (eqb (length (membersOf (route m) t)) 0) (eqb k 0) (not (eqb (k + y .turn) 5)) (ltb 0 (y .missing))))
+        subst (λ (l : List Canister). Which (not (runsOf m t)) (eqb (length l) 0) (eqb k 0) (not (eqb k (opposite (y .turn)))) (ltb 0 (y .missing)) reason) (route-members m (S .len) t)
+        (subst (λ (b : Bool). Which (not b) (eqb (length (membersOf (route m) t)) 0) (eqb k 0) (not (eqb k (opposite (y .turn)))) (ltb 0 (y .missing)) reason) r
+        (which (not (runsOf (route m) t)) (eqb (length (membersOf (route m) t)) 0) (eqb k 0) (not (eqb k (opposite (y .turn)))) (ltb 0 (y .missing))))
 
     -- where a test's number is the reason, and where it is an earlier one
     pub empty-first : runsOf m t ≡ true → membersOf m t ≡ [] → reason ≡ 2
@@ -163,30 +164,30 @@ module _ (m : Model) (S : Sound m) where
     ahead-runs h = arrow-at m S t h .ahead
 
     -- where the turn ahead is this tile's and nothing is missing, it moves
-    must-move : 0 < k → k + y .turn ≡ 5 → y .missing ≡ 0 → wayAt m t ≡ k
+    must-move : 0 < k → k ≡ opposite (y .turn) → y .missing ≡ 0 → wayAt m t ≡ k
     unfolding wayAt
-    must-move h e z = way-of k (y .grant) h (omega (arith, e, tells u .with-gap (ahead-runs h) (omega (arith, e, arrow-le)) z))
+    must-move h e z = way-of k (y .grant) (e ∙ ap opposite (sym (tells u .with-gap (ahead-runs h) (omega (arith, five-opposite k (y .turn) h e, arrow-le)) z)))
 
     -- a tile that moves passes the first five tests, if it has canisters
-    does-move : 0 < wayAt m t → (runsOf m t ≡ true) × (0 < k) × (k + y .turn ≡ 5) × (y .missing ≡ 0)
+    does-move : 0 < wayAt m t → (runsOf m t ≡ true) × (0 < k) × (k ≡ opposite (y .turn)) × (y .missing ≡ 0)
     does-move h =
         let M = moving m S t h in
         let g : grantOf (route m) u ≡ opposite k = subst (λ (j : ℕ). grantOf (route m) (neighbour (m .settings) j t) ≡ opposite j) (M .is) (M .meets) in
         let sum : k + opposite k ≡ 5 = subst (λ (j : ℕ). j + opposite j ≡ 5) (M .is) (opposite-sum (M .side)) in
         let T = tells u .granted-turn (omega (arith, g, sum, arrow-le)) in
-        (M .runs, omega (arith, M .is), omega (arith, T .0, g, sum), T .1)
+        (M .runs, omega (arith, M .is), opposite-five k (y .turn) arrow-le (omega (arith, T .0, g, sum)), T .1)
 
     pub reason-moves : reason ≡ 6 → (0 < length (membersOf m t)) × (0 < wayAt m t)
     reason-moves h =
         let l = length (membersOf m t) in
         let pos : 0 < k = omega (arith, eqb-false k 0 (fits .past-three (omega arith))) in
-        let sum : k + y .turn ≡ 5 = eqb-true (k + y .turn) 5 (not-false (eqb (k + y .turn) 5) (fits .past-four (omega arith))) in
-        (omega (arith, eqb-false l 0 (fits .past-two (omega arith))), omega (arith, pos, must-move pos sum (omega (arith, ltb-false 0 (y .missing) (fits .past-five (omega arith))))))
+        let facing : k ≡ opposite (y .turn) = eqb-true k (opposite (y .turn)) (not-false (eqb k (opposite (y .turn))) (fits .past-four (omega arith))) in
+        (omega (arith, eqb-false l 0 (fits .past-two (omega arith))), omega (arith, pos, must-move pos facing (omega (arith, ltb-false 0 (y .missing) (fits .past-five (omega arith))))))
 
     pub moves-reason : 0 < length (membersOf m t) → 0 < wayAt m t → reason ≡ 6
     moves-reason n h = go reason refl
       where
-        w : (runsOf m t ≡ true) × (0 < k) × (k + y .turn ≡ 5) × (y .missing ≡ 0)
+        w : (runsOf m t ≡ true) × (0 < k) × (k ≡ opposite (y .turn)) × (y .missing ≡ 0)
         w = does-move h
 
         go : (r : ℕ) → reason ≡ r → reason ≡ 6
@@ -194,7 +195,7 @@ module _ (m : Model) (S : Sound m) where
         go (suc zero) e = not-both (w .0) (not-true (runsOf m t) (fits .one e))
         go (suc (suc zero)) e = absurd (omega (arith, eqb-true (length (membersOf m t)) 0 (fits .two e)))
         go (suc (suc (suc zero))) e = absurd (omega (arith, w .1, eqb-true k 0 (fits .three e)))
-        go (suc (suc (suc (suc zero)))) e = absurd (eqb-false (k + y .turn) 5 (not-true (eqb (k + y .turn) 5) (fits .four e)) (w .2))
+        go (suc (suc (suc (suc zero)))) e = absurd (eqb-false k (opposite (y .turn)) (not-true (eqb k (opposite (y .turn))) (fits .four e)) (w .2))
         go (suc (suc (suc (suc (suc zero))))) e = absurd (omega (arith, w .3, ltb-true 0 (y .missing) (fits .five e)))
         go (suc (suc (suc (suc (suc (suc zero)))))) e = e
         go (suc (suc (suc (suc (suc (suc (suc r))))))) e = absurd (omega (arith, fits .some .1))

@@ -33,13 +33,14 @@ use Rattle.floor.specs.Demand3.{round, outcome}
 use Rattle.floor.specs.Fairness.{turnOf}
 use Rattle.floor.specs.Standing.{Shifts, Shifted, Stood, Fits, Standing, reasonAt, missingAt, WhyStood, HasGap, GapTest}
 use Rattle.floor.proofs.Sound.{Sound}
+use Rattle.floor.proofs.GridBranches.{opposite-five, five-opposite}
 use Rattle.floor.proofs.Grid.{each-side, opposite-sum}
 use Rattle.floor.proofs.Tables.{run-on}
 use Rattle.floor.proofs.Pack.{well-sound}
 use Rattle.floor.proofs.Fields.{wayAt, went, round-next}
 use Rattle.floor.proofs.Passing.{moving, arrow-at}
 use Rattle.floor.proofs.Lists.{round-report, round-reported, view-round}
-use Rattle.floor.proofs.Reasons.{Which, signal-most, turn-at, missing-at, k, u, y, reason, fits, empty-first, ahead-runs, reason-moves, moves-reason}
+use Rattle.floor.proofs.Reasons.{Which, signal-most, turn-at, missing-at, k, u, y, reason, fits, empty-first, ahead-runs, reason-moves, moves-reason, arrow-le}
 use Rattle.floor.proofs.Shifting.{has, shifts, still-stood, not-both as never-both}
 
 -- a member of a list that is not empty
@@ -76,15 +77,15 @@ module _ (m : Model) (S : Sound m) where
       go (yes h) = h
       go (no h) = absurd (omega (arith, off-reason t (omega arith)))
 
-  -- the turn ahead, by the sum of five
-  turn-other : (t : ℕ) → 0 < k m S t → k m S t + y m S t .turn ≢ 5 → turnOf m (u m S t) ≢ opposite (k m S t)
-  turn-other t h d e = d (omega (arith, turn-at m S (u m S t) (ahead-runs m S t h), e, opposite-sum (side t h)))
+  -- the turn ahead
+  turn-other : (t : ℕ) → 0 < k m S t → k m S t ≢ opposite (y m S t .turn) → turnOf m (u m S t) ≢ opposite (k m S t)
+  turn-other t h d e = d (opposite-five (k m S t) (y m S t .turn) (arrow-le m S t) (omega (arith, turn-at m S (u m S t) (ahead-runs m S t h), e, opposite-sum (side t h))))
 
-  turn-own : (t : ℕ) → 0 < k m S t → k m S t + y m S t .turn ≡ 5 → turnOf m (u m S t) ≡ opposite (k m S t)
-  turn-own t h d = omega (arith, d, turn-at m S (u m S t) (ahead-runs m S t h), opposite-sum (side t h))
+  turn-own : (t : ℕ) → 0 < k m S t → k m S t ≡ opposite (y m S t .turn) → turnOf m (u m S t) ≡ opposite (k m S t)
+  turn-own t h d = omega (arith, five-opposite (k m S t) (y m S t .turn) h d, turn-at m S (u m S t) (ahead-runs m S t h), opposite-sum (side t h))
 
   module _ (t : ℕ) where
-    F : Which (not (runsOf m t)) (eqb (length (membersOf m t)) 0) (eqb (k m S t) 0) (not (eqb (k m S t + y m S t .turn) 5)) (ltb 0 (y m S t .missing)) (reason m S t)
+    F : Which (not (runsOf m t)) (eqb (length (membersOf m t)) 0) (eqb (k m S t) 0) (not (eqb (k m S t) (opposite (y m S t .turn)))) (ltb 0 (y m S t .missing)) (reason m S t)
     F = fits m S t
 
     -- past the third test there is an arrow
@@ -109,7 +110,7 @@ module _ (m : Model) (S : Sound m) where
     fits-at (suc (suc zero)) e = no-length (membersOf m t) (eqb-true (length (membersOf m t)) 0 (F .two e))
     fits-at (suc (suc (suc zero))) e = arrow-is t ∙ eqb-true (k m S t) 0 (F .three e)
     fits-at (suc (suc (suc (suc zero)))) e = by-arrow (λ j. turnOf m (neighbour (m .settings) j t) ≢ opposite j) t
-        (turn-other t (arrow-pos (omega arith)) (eqb-false (k m S t + y m S t .turn) 5 (not-true (eqb (k m S t + y m S t .turn) 5) (F .four e))))
+        (turn-other t (arrow-pos (omega arith)) (eqb-false (k m S t) (opposite (y m S t .turn)) (not-true (eqb (k m S t) (opposite (y m S t .turn))) (F .four e))))
     fits-at (suc (suc (suc (suc (suc zero))))) e = by-arrow (λ j. 0 < missing (m .settings) (turnOf m (neighbour (m .settings) j t)) (membersOf m (neighbour (m .settings) j t))) t
         (omega (arith, ltb-true 0 (y m S t .missing) (F .five e), lacks (arrow-pos (omega arith))))
     fits-at (suc (suc (suc (suc (suc (suc zero)))))) e = moved-to e
@@ -121,7 +122,7 @@ module _ (m : Model) (S : Sound m) where
     before-at (suc (suc zero)) p h q = absurd (eqb-false (length (membersOf m t)) 0 (F .past-two h) (ap length q))
     before-at (suc (suc (suc zero))) p h q = absurd (eqb-false (k m S t) 0 (F .past-three h) (sym (arrow-is t) ∙ q))
     before-at (suc (suc (suc (suc zero)))) p h q =
-        q (by-arrow (λ j. turnOf m (neighbour (m .settings) j t) ≡ opposite j) t (turn-own t (arrow-pos (omega arith)) (eqb-true (k m S t + y m S t .turn) 5 (not-false (eqb (k m S t + y m S t .turn) 5) (F .past-four h)))))
+        q (by-arrow (λ j. turnOf m (neighbour (m .settings) j t) ≡ opposite j) t (turn-own t (arrow-pos (omega arith)) (eqb-true (k m S t) (opposite (y m S t .turn)) (not-false (eqb (k m S t) (opposite (y m S t .turn))) (F .past-four h)))))
     before-at (suc (suc (suc (suc (suc zero))))) p h q =
         let z : 0 < missing (m .settings) (turnOf m (u m S t)) (membersOf m (u m S t)) = subst (λ (j : ℕ). 0 < missing (m .settings) (turnOf m (neighbour (m .settings) j t)) (membersOf m (neighbour (m .settings) j t))) (arrow-is t) q in
         absurd (omega (arith, z, lacks (arrow-pos (omega arith)), ltb-false 0 (y m S t .missing) (F .past-five h)))

@@ -1,5 +1,5 @@
 -- Move.
-use mathlib.Core.Bool.{Bool, false, cond, not, _&&_}
+use mathlib.Core.Bool.{Bool, false, cond, not}
 use mathlib.Core.List.{List, [], _∷_, map}
 use Prim.Native.Nat.{ℕ, _+_, _-_}
 use lib.Dec.{leb, ltb, eqb}
@@ -8,14 +8,14 @@ use Rattle.laws.specs.Define.{tab, keep}
 use Rattle.floor.specs.declared.Canister.{Canister}
 use Rattle.floor.specs.declared.Settings.{Settings}
 use Rattle.floor.specs.declared.Counters.{Counters}
-use Rattle.floor.specs.Sides.{bySide}
+use Rattle.floor.specs.Sides.{bySide, opposite}
 use Rattle.floor.specs.Settings.{total, span, isHopper, hoppersOf}
 use Rattle.floor.specs.Grid.{neighbour}
 use Rattle.floor.specs.Model.{TileState, Model, tileOf, nextOf, membersOf, withTiles, withCounters, withMembers, numbers}
 
--- "A tile whose arrow leads to a tile that granted it": the side along which it moves, none where it stands still; `ahead` is the grant of the tile that the arrow leads to, and opposite sides add up to five: grant and arrow then face each other
+-- "A tile whose arrow leads to a tile that granted it": the side along which it moves, none where it stands still; `ahead` is the grant of the tile that the arrow leads to: grant and arrow face each other where they are opposite sides
 unfoldable pub wayOf : ℕ → ℕ → ℕ
-wayOf next ahead = cond (ltb 0 next && eqb (next + ahead) 5) next 0
+wayOf next ahead = cond (eqb next (opposite ahead)) next 0
 
 abbrev pub at : Canister → ℕ → ℕ → Canister
 at c a b = record { number = c .number; a = a; b = b }

@@ -1,11 +1,12 @@
 -- Why each tile stood: "one reason for each tile in a round's report, the first that fits".
 use mathlib.Core.Bool.{Bool, true, cond, not}
 use mathlib.Core.List.{List, [], _∷_}
-use Prim.Native.Nat.{ℕ, _+_}
+use Prim.Native.Nat.{ℕ}
 use lib.Dec.{ltb, eqb}
 use lib.ListN.{length}
 use Rattle.laws.specs.Define.{refusal}
 use Rattle.floor.specs.declared.Signal.{Signal}
+use Rattle.floor.specs.Sides.{opposite}
 use Rattle.floor.specs.Settings.{total}
 use Rattle.floor.specs.Grid.{neighbour}
 use Rattle.floor.specs.Model.{TileState, Model, tileOf, runs}
@@ -15,7 +16,7 @@ use Rattle.floor.specs.Signal.{signalOf}
 unfoldable pub reasonTests : TileState → Signal → List (Bool × ℕ)
 reasonTests x y =
     (not (runs x), 1) ∷ (eqb (length (x .members)) 0, 2) ∷ (eqb (x .next) 0, 3)
-    ∷ (not (eqb (x .next + y .turn) 5), 4) ∷ (ltb 0 (y .missing), 5) ∷ (true, 6) ∷ []
+    ∷ (not (eqb (x .next) (opposite (y .turn))), 4) ∷ (ltb 0 (y .missing), 5) ∷ (true, 6) ∷ []
 
 -- what Signal gave the tile ahead of t; r is the floor after Route
 unfoldable pub aheadOf : Model → ℕ → Signal

@@ -13,12 +13,24 @@ bySide z w s n e (suc (suc (suc zero))) = n
 bySide z w s n e (suc (suc (suc (suc zero)))) = e
 bySide z w s n e (suc (suc (suc (suc (suc k))))) = z
 
+abbrev pub west : ℕ
+west = 1
+
+abbrev pub south : ℕ
+south = 2
+
+abbrev pub north : ℕ
+north = 3
+
+abbrev pub east : ℕ
+east = 4
+
 unfoldable pub sides : List ℕ
-sides = 1 ∷ 2 ∷ 3 ∷ 4 ∷ []
+sides = west ∷ south ∷ north ∷ east ∷ []
 
 -- the side that a neighbour has here
 unfoldable pub opposite : ℕ → ℕ
-opposite k = bySide 0 4 3 2 1 k
+opposite k = bySide 0 east north south west k
 
 -- the sides strictly after k in cyclic order, coming round to k; after none, from west
 unfoldable pub after : ℕ → List ℕ

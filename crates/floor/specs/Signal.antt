@@ -8,7 +8,7 @@ use Rattle.laws.specs.Define.{tab}
 use Rattle.floor.specs.declared.Canister.{Canister}
 use Rattle.floor.specs.declared.Settings.{Settings}
 use Rattle.floor.specs.declared.Signal.{Signal}
-use Rattle.floor.specs.Sides.{bySide, following, chosen}
+use Rattle.floor.specs.Sides.{west, south, north, east, bySide, following, chosen}
 use Rattle.floor.specs.Settings.{total, spacing}
 use Rattle.floor.specs.Grid.{around}
 use Rattle.floor.specs.Model.{TileState, Model, tileOf, runs, withTiles}
@@ -19,7 +19,7 @@ shownNext count next = cond (ltb 0 count) next 0
 
 -- "A side wants if the neighbour there has canisters and its new arrow faces here": which sides do, from what the neighbours show
 unfoldable pub requests : ℕ → ℕ → ℕ → ℕ → ℕ → Bool
-requests west south north east = bySide false (eqb west 4) (eqb south 3) (eqb north 2) (eqb east 1)
+requests atWest atSouth atNorth atEast = bySide false (eqb atWest east) (eqb atSouth north) (eqb atNorth south) (eqb atEast west)
 
 -- how many millimetres a canister is short of the gap at side k: "a ≥ d for a west turn, b ≥ d for south, b + l + d ≤ U for north, a + l + d ≤ U for east"
 unfoldable pub lack : Settings → ℕ → Canister → ℕ

@@ -5,7 +5,7 @@ use mathlib.Core.List.{List, [], _∷_, _++_}
 use Prim.Native.Nat.{ℕ}
 use lib.ListN.{length, getD}
 use Rattle.laws.specs.Define.{tab}
-use Rattle.wire.specs.Bytes.{bytesOf}
+use Rattle.image_bytes.specs.Bytes.{bytesOf}
 use Rattle.floor.specs.declared.Settings.{Settings}
 use Rattle.floor.specs.declared.Counters.{Counters}
 use Rattle.floor.specs.declared.Floor.{Floor}

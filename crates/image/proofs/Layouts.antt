@@ -16,7 +16,8 @@ use borrow.Author.Tests.{le-leb, eq-eqb}
 use Rattle.laws.specs.Define.{refusal}
 use Rattle.laws.specs.Every.{All}
 use Rattle.laws.proofs.Tests.{by-test, and-true, test-none}
-use Rattle.wire.specs.Bytes.{le, bytes, Bytes, le-bytes, bytes-le, bytes-drop}
+use Rattle.image_bytes.specs.Bytes.{le, bytes, Bytes}
+use Rattle.image_bytes.proofs.ByteLaws.{le-bytes, bytes-le, bytes-drop}
 use Rattle.floor.specs.declared.Layout.{Layout}
 use Rattle.floor.specs.Layouts.{nameNumber, letters}
 use Rattle.floor.proofs.Names.{spelling}

@@ -11,7 +11,8 @@ use lib.ListN.{length, take, drop, length-drop, drop-of-length-le}
 use lib.Seq.{take-add}
 use Rattle.laws.specs.Define.{tab}
 use Rattle.laws.proofs.Tests.{test-none, by-test, or-case}
-use Rattle.wire.specs.Bytes.{fieldsOf, bytesOf, field, width, Bytes, bytes-drop, bytes-fields}
+use Rattle.image_bytes.specs.Bytes.{fieldsOf, bytesOf, field, width, Bytes}
+use Rattle.image_bytes.proofs.ByteLaws.{bytes-drop, bytes-fields}
 use Rattle.floor.proofs.Sound.{Measured}
 use Rattle.image.specs.Image.{lowest, hopperCount, several, byteWrong, settingsWidths, settingsValues, countersWidths, countersValues, tileWidths, tileValues, canisterWidths, canisterValues, recordOf, settingsBody, countersBody, canistersBody, tileBody, tilesBytes, encode, lengthIn, bodyIn, restIn, settingsIn, countersIn, canisterIn, canistersIn, tileIn, tilesIn, afterLayouts, modelIn, settingsFaults, countersFaults, tileFaults, endFaults, ownFaults, recordFault, endFault, tilesFault, laidFault, fault}
 use Rattle.image.proofs.Hoppers.{no-hoppers, spliced-none, byte-again, not-several}

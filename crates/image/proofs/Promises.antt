@@ -12,8 +12,8 @@ use lib.ListN.{length, take, drop, length-append}
 use lib.Seq.{take-append-seam, length-take-le}
 use Rattle.laws.specs.Define.{bit, bitsBelow, anyOf, refusal}
 use Rattle.laws.proofs.Tests.{by-test, not-both, and-left, and-right, test-none}
-use Rattle.wire.specs.Bytes.{Bytes}
-use Rattle.wire.specs.Put.{put}
+use Rattle.image_bytes.specs.Bytes.{Bytes}
+use Rattle.image_bytes.specs.Put.{put}
 use Rattle.floor.specs.declared.Floor.{Floor}
 use Rattle.floor.specs.declared.Answer.{Answer}
 use Rattle.floor.specs.Settings.{hoppersOf, settingsTests, settingsRefusal}

@@ -10,7 +10,7 @@ use lib.ListN.{length, drop, getD}
 use borrow.Author.Tests.{ltb-true, lt-ltb}
 use Rattle.laws.proofs.Lists.{all-imp, all-true, true-all}
 use Rattle.laws.proofs.Tests.{and-yes, and-right}
-use Rattle.wire.specs.Bytes.{field}
+use Rattle.image_bytes.specs.Bytes.{field}
 use Rattle.floor.specs.Settings.{total}
 use Rattle.floor.specs.Layouts.{layoutsSound}
 use Rattle.floor.specs.Model.{Model, noTile, membersOf}

@@ -11,7 +11,8 @@ use lib.ListN.{length, take, drop, length-append, length-drop, take-append-drop}
 use lib.Seq.{drop-at, drop-drop, length-take-le, take-append-add}
 use Rattle.laws.specs.Define.{refusal}
 use Rattle.laws.proofs.Tests.{test-none}
-use Rattle.wire.specs.Bytes.{le, bytes, Bytes, bytes-length, le-bytes, bytes-le, bytes-drop}
+use Rattle.image_bytes.specs.Bytes.{le, bytes, Bytes}
+use Rattle.image_bytes.proofs.ByteLaws.{bytes-length, le-bytes, bytes-le, bytes-drop}
 use Rattle.image.specs.Image.{recordOf, lengthIn, kindIn, bodyIn, restIn, ownFaults, recordFault, orElse}
 
 -- ---- tests and their numbers

@@ -9,7 +9,8 @@ use borrow.Author.Tests.{ltb-true, ltb-false}
 use lib.ListN.{length, getD, replicate, length-append, length-replicate}
 use Rattle.laws.specs.Define.{tab, sum, bit, bitsBelow}
 use Rattle.laws.proofs.Tables.{tab-length}
-use Rattle.wire.specs.Bytes.{bytes, bytesOf, width, row-length}
+use Rattle.image_bytes.specs.Bytes.{bytes, bytesOf, width}
+use Rattle.image_bytes.proofs.ByteLaws.{row-length}
 use Rattle.floor.specs.declared.Canister.{Canister}
 use Rattle.floor.specs.declared.Settings.{Settings}
 use Rattle.floor.specs.declared.Counters.{Counters}

@@ -6,7 +6,7 @@ use Prim.Native.Nat.{ℕ, _+_}
 use lib.Dec.{eqb}
 use lib.ListN.{length, set, take, drop, replicate}
 use Rattle.laws.specs.Define.{tab, allOf, join}
-use Rattle.wire.specs.Bytes.{le, bytes, fieldsOf, bytesOf}
+use Rattle.image_bytes.specs.Bytes.{le, bytes, fieldsOf, bytesOf}
 use Rattle.floor.specs.declared.Floor.{Floor}
 use Rattle.floor.specs.Memory.{zeroFloor, view}
 use Rattle.floor.specs.Calls.{freshAnswer}

@@ -12,7 +12,8 @@ use lib.Seq.{drop-at}
 use Rattle.laws.specs.Define.{tab, refusal}
 use Rattle.laws.proofs.Tables.{tab-at, tab-off, filled}
 use Rattle.laws.specs.Every.{All}
-use Rattle.wire.specs.Bytes.{fieldsOf, bytesOf, field, Fit, row-length, fields-bytes}
+use Rattle.image_bytes.specs.Bytes.{fieldsOf, bytesOf, field, Fit}
+use Rattle.image_bytes.proofs.ByteLaws.{row-length, fields-bytes}
 use Rattle.floor.specs.declared.Canister.{Canister}
 use Rattle.floor.specs.declared.Settings.{Settings}
 use Rattle.floor.specs.declared.Counters.{Counters}

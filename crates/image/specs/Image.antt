@@ -5,7 +5,7 @@ use Prim.Native.Nat.{ℕ, zero, suc, _+_, _*_, _^_}
 use lib.Dec.{leb, ltb, eqb}
 use lib.ListN.{length, getD, take, drop, replicate}
 use Rattle.laws.specs.Define.{tab, allOf, bitsBelow, refusal}
-use Rattle.wire.specs.Bytes.{le, bytes, bytesOf, field}
+use Rattle.image_bytes.specs.Bytes.{le, bytes, bytesOf, field}
 use Rattle.floor.specs.declared.Canister.{Canister}
 use Rattle.floor.specs.declared.Settings.{Settings}
 use Rattle.floor.specs.declared.Counters.{Counters}

@@ -1,7 +1,7 @@
 // A floor with three hoppers, and what makes it malformed.
 use floor::Floor;
-use tally::Tally;
-use tally::floors;
+use trials_tally::Tally;
+use trials_tally::floors;
 
 // W 3, H 2, hoppers 0, 1 and 5, canisters 3 and 4 on tile 2, the only fill tile; two rounds gone, in which hopper 0 took 3.
 pub fn sound_floor() -> Floor {
@@ -25,7 +25,7 @@ pub fn accepted(t: Tally, f: Floor) -> Tally {
         floors::wide(c.delivered[0]),
         floors::first(f, 0, 2),
     ];
-    tally::trial(
+    trials_tally::trial(
         t,
         b"the floor with three hoppers: accepted",
         gave,
@@ -109,14 +109,14 @@ pub fn damaged(f: Floor, kind: u8) -> Floor {
 
 pub fn name(kind: u8) {
     match kind {
-        0 => tally::text(b"five hoppers"),
-        1 => tally::text(b"no hopper"),
-        2 => tally::text(b"a hopper off the floor"),
-        3 => tally::text(b"the second hopper in the fill set"),
-        4 => tally::text(b"a counter of no hopper not zero"),
-        5 => tally::text(b"the second hopper stopped"),
-        6 => tally::text(b"the second hopper with distance 1"),
-        7 => tally::text(b"the second hopper with a canister"),
-        _ => tally::text(b"the second hopper with an arrow"),
+        0 => trials_tally::text(b"five hoppers"),
+        1 => trials_tally::text(b"no hopper"),
+        2 => trials_tally::text(b"a hopper off the floor"),
+        3 => trials_tally::text(b"the second hopper in the fill set"),
+        4 => trials_tally::text(b"a counter of no hopper not zero"),
+        5 => trials_tally::text(b"the second hopper stopped"),
+        6 => trials_tally::text(b"the second hopper with distance 1"),
+        7 => trials_tally::text(b"the second hopper with a canister"),
+        _ => trials_tally::text(b"the second hopper with an arrow"),
     }
 }

@@ -2,8 +2,8 @@
 use floor::Floor;
 use floor::Layout;
 use floor::Name;
-use tally::Tally;
-use tally::floors;
+use trials_tally::Tally;
+use trials_tally::floors;
 
 // The names A and B as numbers; their first letter stands in the highest byte.
 const A: u64 = 4683743612465315840;
@@ -34,7 +34,7 @@ pub fn accepted(t: Tally, f: Floor) -> Tally {
         first.set,
         second.set,
     ];
-    tally::trial(
+    trials_tally::trial(
         t,
         b"the floor with two layouts: accepted",
         gave,
@@ -91,14 +91,14 @@ pub fn damaged(f: Floor, kind: u8) -> Floor {
 
 pub fn name(kind: u8) {
     match kind {
-        0 => tally::text(b"layouts not by rising name"),
-        1 => tally::text(b"a name twice"),
-        2 => tally::text(b"a free place before a layout"),
-        3 => tally::text(b"a small letter in a name"),
-        4 => tally::text(b"a letter after a zero in a name"),
-        5 => tally::text(b"a set without a name"),
-        6 => tally::text(b"a layout with the second hopper stopped"),
-        7 => tally::text(b"a layout with a bit for no tile"),
-        _ => tally::text(b"a layout of no tile"),
+        0 => trials_tally::text(b"layouts not by rising name"),
+        1 => trials_tally::text(b"a name twice"),
+        2 => trials_tally::text(b"a free place before a layout"),
+        3 => trials_tally::text(b"a small letter in a name"),
+        4 => trials_tally::text(b"a letter after a zero in a name"),
+        5 => trials_tally::text(b"a set without a name"),
+        6 => trials_tally::text(b"a layout with the second hopper stopped"),
+        7 => trials_tally::text(b"a layout with a bit for no tile"),
+        _ => trials_tally::text(b"a layout of no tile"),
     }
 }

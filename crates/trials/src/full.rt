@@ -2,10 +2,10 @@
 ghost use Prim.Native.Nat.{_<_};
 use floor::Floor;
 use floor::Settings;
-use tally::Tally;
-use tally::floors;
-use tally::floors::wide;
-use tally::trial;
+use trials_tally::Tally;
+use trials_tally::floors;
+use trials_tally::floors::wide;
+use trials_tally::trial;
 
 // d = 30 and (100 - 10) div 30 = 3: four places along each axis. The hopper is tile 27.
 fn wide_floor() -> Floor {

@@ -1,10 +1,10 @@
 // Document 01's trials on small floors, through the compiled calls.
 use floor::Settings;
-use tally::Tally;
-use tally::floors;
-use tally::floors::place;
-use tally::floors::wide;
-use tally::trial;
+use trials_tally::Tally;
+use trials_tally::floors;
+use trials_tally::floors::place;
+use trials_tally::floors::wide;
+use trials_tally::trial;
 
 // W 2, hopper 1: canister 5 at (a, 0) on tile 0, and the rounds up to its delivery.
 fn one_canister(t: Tally, name: &[u8], a: u16, due: [u64; 6]) -> Tally {
@@ -188,10 +188,10 @@ fn reasons(t: Tally) -> Tally {
 fn image(t: Tally) -> Tally {
     let f = floors::fresh(2, 1, 1, 1);
     let mut bytes = [7u8; 64];
-    let one = images::load(&bytes[..1]);
-    let three = images::load(&bytes[..3]);
-    let written = images::write(f, &mut bytes);
-    let whole = images::load(&bytes);
+    let one = image_calls::load(&bytes[..1]);
+    let three = image_calls::load(&bytes[..3]);
+    let written = image_calls::write(f, &mut bytes);
+    let whole = image_calls::load(&bytes);
     let gave = [
         written.refusal as u64,
         wide(written.length),
@@ -211,9 +211,9 @@ fn image(t: Tally) -> Tally {
 // [9]: "Zero bytes now load the standard floor, fresh: W 4, H 4, hopper 10, fill tile 4, U 1,000, l 250, r 50, v 200."
 fn blank(t: Tally) -> Tally {
     let mut bytes = [7u8; 204];
-    let empty = images::load(&bytes[..0]);
+    let empty = image_calls::load(&bytes[..0]);
     let s = empty.floor.settings;
-    let written = images::write(empty.floor, &mut bytes);
+    let written = image_calls::write(empty.floor, &mut bytes);
     let sets = trial(
         t,
         b"zero bytes load 4 x 4, hopper 10, fill tile 4",

@@ -3,7 +3,7 @@ use native.Mathlib.Omega.{arith}
 use borrow.Author.Tests.{not-true, not-false}
 use Rattle.floor.specs.Memory.{view}
 use Rattle.floor.specs.Calls.{readTests}
-use Rattle.changes.proofs.Tests.{read-on}
+use Rattle.call_parts.proofs.Tests.{read-on}
 use Rattle.floor.proofs.Answers.{malformed, formed}
 use Rattle.calls.proofs.Answers.{read-refused, read-accepted}
 use borrow.Author.Needs.{needs}
@@ -12,10 +12,10 @@ use Rattle.calls.proofs.read.Tie as tie
 use Rattle.calls.proofs.read.Reads as reads
 use Rattle.calls.proofs.read.Lts as lts
 use Rattle.calls.proofs.unread.Reads as unread-reads
-use Rattle.changes.proofs.read_refusal.Reads as read-refusal-reads
-use Rattle.changes.proofs.tile_head.Reads as tile-head-reads
-use Rattle.changes.proofs.tile_members.Reads as tile-members-reads
-use Rattle.soundness.proofs.well_formed.Reads as well-formed-reads
+use Rattle.call_parts.proofs.read_refusal.Reads as read-refusal-reads
+use Rattle.call_parts.proofs.tile_head.Reads as tile-head-reads
+use Rattle.call_parts.proofs.tile_members.Reads as tile-members-reads
+use Rattle.check_floor.proofs.well_formed.Reads as well-formed-reads
 
 well-formed-requires : tie.Need-well-formed-requires
 well-formed-requires c κs = search needs

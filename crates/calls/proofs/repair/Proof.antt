@@ -10,9 +10,9 @@ use Rattle.calls.proofs.repair.Statement.{statement}
 use Rattle.calls.proofs.repair.Tie as tie
 use Rattle.calls.proofs.repair.Reads as reads
 use Rattle.calls.proofs.repair.Lts as lts
-use Rattle.changes.proofs.repair_refusal.Reads as repair-refusal-reads
-use Rattle.changes.proofs.repaired_floor.Reads as repaired-floor-reads
-use Rattle.soundness.proofs.well_formed.Reads as well-formed-reads
+use Rattle.call_parts.proofs.repair_refusal.Reads as repair-refusal-reads
+use Rattle.call_parts.proofs.repaired_floor.Reads as repaired-floor-reads
+use Rattle.check_floor.proofs.well_formed.Reads as well-formed-reads
 
 well-formed-requires : tie.Need-well-formed-requires
 well-formed-requires c κs = search needs

@@ -7,8 +7,8 @@ use Rattle.calls.proofs.round.Tie as tie
 use Rattle.calls.proofs.round.Reads as reads
 use Rattle.calls.proofs.round.Lts as lts
 use Rattle.calls.proofs.no_report.Reads as no-report-reads
-use Rattle.motion.proofs.run_round.Reads as run-round-reads
-use Rattle.soundness.proofs.well_formed.Reads as well-formed-reads
+use Rattle.round_move.proofs.run_round.Reads as run-round-reads
+use Rattle.check_floor.proofs.well_formed.Reads as well-formed-reads
 
 well-formed-requires : tie.Need-well-formed-requires
 well-formed-requires c κs = search needs

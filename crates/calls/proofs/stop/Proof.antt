@@ -10,9 +10,9 @@ use Rattle.calls.proofs.stop.Statement.{statement}
 use Rattle.calls.proofs.stop.Tie as tie
 use Rattle.calls.proofs.stop.Reads as reads
 use Rattle.calls.proofs.stop.Lts as lts
-use Rattle.changes.proofs.stop_refusal.Reads as stop-refusal-reads
-use Rattle.changes.proofs.stopped_floor.Reads as stopped-floor-reads
-use Rattle.soundness.proofs.well_formed.Reads as well-formed-reads
+use Rattle.call_parts.proofs.stop_refusal.Reads as stop-refusal-reads
+use Rattle.call_parts.proofs.stopped_floor.Reads as stopped-floor-reads
+use Rattle.check_floor.proofs.well_formed.Reads as well-formed-reads
 
 well-formed-requires : tie.Need-well-formed-requires
 well-formed-requires c κs = search needs

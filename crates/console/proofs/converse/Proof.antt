@@ -10,7 +10,7 @@ use Rattle.console.proofs.converse.Reads as reads
 use Rattle.console.proofs.converse.Lts as lts
 use Rattle.console.proofs.finish.Reads as finish-reads
 use Rattle.console.proofs.turn.Reads as turn-reads
-use Rattle.typed.proofs.begin.Reads as begin-reads
+use Rattle.console_session.proofs.begin.Reads as begin-reads
 
 abbrev Inv-loop : tie.InvT-loop
 Inv-loop buf₀ s₀ kept₀ more₀ reads₀ buf s kept more reads = (kept ≤ 401) × (length buf ≡ length buf₀)

@@ -6,7 +6,7 @@ use Rattle.console.proofs.obey_lines.Tie as tie
 use Rattle.console.proofs.obey_lines.Reads as reads
 use Rattle.console.proofs.obey_lines.Lts as lts
 use Rattle.console.proofs.line_done.Reads as line-done-reads
-use Rattle.words.proofs.find.Reads as find-reads
+use Rattle.console_words.proofs.find.Reads as find-reads
 
 abbrev Inv-loop : tie.InvT-loop
 Inv-loop text s₀ at₀ s at = at ≤ length text

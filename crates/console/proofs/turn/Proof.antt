@@ -9,7 +9,7 @@ use Rattle.console.proofs.turn.Reads as reads
 use Rattle.console.proofs.turn.Lts as lts
 use Rattle.console.proofs.obey_lines.Reads as obey-lines-reads
 use Rattle.console.proofs.read_more.Reads as read-more-reads
-use Rattle.lines.proofs.keep.Reads as keep-reads
+use Rattle.console_lines.proofs.keep.Reads as keep-reads
 
 read-more-requires : tie.Need-read-more-requires
 read-more-requires c κs = search needs

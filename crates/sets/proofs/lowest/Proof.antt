@@ -1,7 +1,7 @@
 use native.Mathlib.Nat.{lt-of-le-of-lt}
 use lib.Dec.{lit<}
 use lib.Count.{trailing-le}
-use Rattle.sets.specs.Lowest.{trailing-first}
+use Rattle.sets.proofs.TrailingZeros.{trailing-first}
 use Rattle.sets.proofs.lowest.Statement.{statement}
 use Rattle.sets.proofs.lowest.Tie as tie
 use Rattle.sets.proofs.lowest.Reads as reads

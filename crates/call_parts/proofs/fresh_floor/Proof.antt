@@ -1,0 +1,85 @@
+use Rattle.floor.specs.Settings.{total}
+use mathlib.Core.Path.{_≡_, _∙_}
+use Prim.Native.Nat.{_-_, _≤_}
+use native.Mathlib.Omega.{arith}
+use lib.ListN.{length, length-set}
+use Rattle.laws.specs.Filled.{Upto, From}
+use Rattle.laws.proofs.Tables.{upto-turn, rest-turn}
+use Rattle.floor.specs.Memory.{zeroTile, head}
+use Rattle.floor.specs.Calls.{freshTile}
+use Rattle.floor.proofs.Sized.{tiles-length}
+use Rattle.call_parts.proofs.Packed.{zero-tiles, fresh-few, fresh-pack}
+use borrow.Author.Needs.{needs}
+use Rattle.call_parts.proofs.fresh_floor.Statement.{statement}
+use Rattle.call_parts.proofs.fresh_floor.Tie as tie
+use Rattle.call_parts.proofs.fresh_floor.Reads as reads
+use Rattle.call_parts.proofs.fresh_floor.Lts as lts
+use Rattle.call_parts.proofs.fresh_tile.Reads as fresh-tile-reads
+use Rattle.floor.proofs.zero_floor.Reads as zero-floor-reads
+use Rattle.floor.proofs.Settings.tile_count.Reads as tile-count-reads
+
+abbrev Inv-loop : tie.InvT-loop
+Inv-loop s all next tiles₀ t₀ tiles t = (t ≤ all) × (all ≤ 64) × (length tiles ≡ 64) × Upto t (λ k. head (freshTile s k)) zeroTile tiles × From t (λ k. zeroTile) zeroTile tiles
+
+abbrev μ-loop : tie.MeasureT-loop
+μ-loop s all next tiles₀ t₀ tiles t = all - t
+
+tile-count-requires : tie.Need-tile-count-requires Inv-loop μ-loop
+tile-count-requires c κs = search needs
+
+zero-floor-requires : tie.Need-zero-floor-requires Inv-loop μ-loop
+zero-floor-requires c κs = search needs
+
+loop-holds : tie.Need-loop-holds Inv-loop μ-loop
+loop-holds c = let z = c .before .zero-floor in
+    let few = fresh-few (c .before .before .before .args .s) (c .before .before .before .pre) in
+    (omega arith, omega (arith, few, c .before .before .tile-count .ensures), tiles-length (z .result) _ (z .ok), λ i h. absurd (omega arith), λ i h. zero-tiles (z .result) (z .ensures) i)
+
+fresh-tile-requires : tie.Need-fresh-tile-requires Inv-loop μ-loop
+fresh-tile-requires c κs = search needs
+
+mul-tiles : tie.Need-mul-tiles Inv-loop μ-loop
+mul-tiles c = search needs
+
+array-set-from-tiles : tie.Need-array-set-from-tiles Inv-loop μ-loop
+array-set-from-tiles c = search needs
+
+add-t : tie.Need-add-t Inv-loop μ-loop
+add-t c = search needs
+
+loop-less : tie.Need-loop-less Inv-loop μ-loop
+loop-less c = search needs
+
+loop-again : tie.Need-loop-again Inv-loop μ-loop
+loop-again c = let l = c .before .before .loop in
+    let g = c .before .before .before .before .before .before .args in (
+      omega arith,
+      l .inv .1,
+      length-set (l .tiles) (l .t) _ ∙ l .inv .2,
+      upto-turn (l .t) (λ k. head (freshTile g.s k)) zeroTile (l .tiles) _ (omega arith) (l .inv .3) (c .fresh-tile .ensures),
+      rest-turn (l .t) (λ k. zeroTile) zeroTile (l .tiles) _ (l .inv .4),
+    )
+
+returns : tie.Need-returns Inv-loop μ-loop
+returns c = let l = c .before .loop in
+    let g = c .before .before .before .before .before .args in
+    let z = c .before .before .before .zero-floor in
+    let n : l .t ≡ total g.s = omega (arith, c .before .before .before .before .tile-count .ensures, l .inv .0) in
+    fresh-pack g.s (z .result) (l .tiles) (z .ensures) (l .inv .2) (rw n at (l .inv .3)) (rw n at (l .inv .4))
+
+pub fresh-floor-spec : {M : Type 1} → statement M
+fresh-floor-spec =
+    tie.close
+    (tie.spec
+    Inv-loop
+    μ-loop
+    tile-count-requires
+    zero-floor-requires
+    loop-holds
+    fresh-tile-requires
+    mul-tiles
+    array-set-from-tiles
+    add-t
+    loop-less
+    loop-again
+    returns)

@@ -1,0 +1,89 @@
+-- The test of one tile branch by branch.
+use mathlib.Core.Path.{_≡_, refl, sym, ap, _∙_}
+use mathlib.Core.Bool.{Bool, true, false, not, _&&_, _||_}
+use mathlib.Core.List.{List}
+use Prim.Native.Nat.{ℕ, _≤_, _<_}
+use native.Mathlib.Omega.{arith}
+use native.Mathlib.Decide.{decLe}
+use lib.ListN.{take, drop}
+use lib.Dec.{ltb}
+use borrow.Author.Tests.{leb-true, le-leb, lt-leb, lt-ltb, le-ltb}
+use Rattle.laws.specs.Define.{allOf, pairsOf}
+use Rattle.laws.proofs.Tests.{and-yes}
+use Rattle.floor.specs.declared.Canister.{Canister}
+use Rattle.floor.specs.declared.Settings.{Settings}
+use Rattle.floor.specs.declared.Tile.{Tile}
+use Rattle.floor.specs.Settings.{total}
+use Rattle.floor.specs.Memory.{zeroTile, isZeroCanister, headFits, tileFits}
+use Rattle.floor.specs.Well.{headSound, inOrder}
+use Rattle.floor.proofs.Rows.{zero-tile}
+use Rattle.check_places.specs.Place.{memberSound}
+use Rattle.check_floor.specs.Tile.{usedSound, tileTest, headTest, placesTest}
+
+pub count-on : (s : Settings) (t : ℕ) (h : Tile) → headFits s t h ≡ true → t < total s → h .count ≤ 16
+unfolding headFits
+count-on s t h p on = leb-true (h .count) 16 (rw (lt-ltb t (total s) on) at p)
+
+pub zero-off : (s : Settings) (t : ℕ) (h : Tile) → headFits s t h ≡ true → total s ≤ t → h ≡ zeroTile
+unfolding headFits
+zero-off s t h p off = zero-tile h (rw (le-ltb t (total s) off) at p)
+
+pub count-fits : (s : Settings) (t : ℕ) (h : Tile) → headFits s t h ≡ true → h .count ≤ 16
+count-fits s t h p = go (decLe (total s) t)
+  where
+    go : Dec (total s ≤ t) → h .count ≤ 16
+    go (yes off) = let e : h .count ≡ 0 = ap (λ (x : Tile). x .count) (zero-off s t h p off) in omega arith
+    go (no on) = count-on s t h p (omega arith)
+
+-- ---- the code's parts
+pub head-off : (s : Settings) (t : ℕ) (h : Tile) → total s ≤ t → headFits s t h ≡ headTest s t h
+unfolding headTest
+head-off s t h off = rw (le-ltb t (total s) off) (sym (and-yes (headFits s t h)))
+
+pub head-on : (s : Settings) (t : ℕ) (h : Tile) → t < total s → (headFits s t h && headSound s t h) ≡ headTest s t h
+unfolding headTest
+head-on s t h on = rw (lt-ltb t (total s) on)
+
+pub places-many : (s : Settings) (last n : ℕ) (l : List Canister) → 16 < n → false ≡ placesTest s last n l
+unfolding placesTest
+places-many s last n l h = rw (lt-leb n 16 h)
+
+pub places-few : (s : Settings) (last n : ℕ) (l : List Canister) → n ≤ 16
+    → (allOf isZeroCanister (drop n l) && (allOf (memberSound s last) (take n l) && pairsOf (inOrder s) (take n l))) ≡ placesTest s last n l
+unfolding placesTest usedSound
+places-few s last n l h = rw (le-leb n 16 h)
+
+-- ---- a tile is tested by its parts
+and-moved : (a b c : Bool) → (a && (b && c)) ≡ (b && (a && c))
+and-moved true b c = refl
+and-moved false true c = refl
+and-moved false false c = refl
+
+none-used : (s : Settings) (last : ℕ) (l : List Canister) → usedSound s last 0 l ≡ true
+unfolding usedSound allOf pairsOf
+none-used s last l = refl
+
+pub test-empty : (s : Settings) (last t : ℕ) (h : Tile) (l : List Canister) → h .count ≡ 0 → (headTest s t h && allOf isZeroCanister l) ≡ tileTest s last t h l
+unfolding tileTest tileFits headTest
+test-empty s last t h l e =
+    let d : drop (h .count) l ≡ l = ap (λ (n : ℕ). drop n l) e in
+    let u : usedSound s last (h .count) l ≡ true = ap (λ (n : ℕ). usedSound s last n l) e ∙ none-used s last l in
+    rw (d, u) (go (headFits s t h) (allOf isZeroCanister l) (not (ltb t (total s))) (headSound s t h))
+  where
+    go : (a b c d : Bool) → ((a && (c || d)) && b) ≡ ((a && b) && (c || (d && true)))
+    go true true c d = rw (and-yes d, and-yes (c || d))
+    go true false true d = refl
+    go true false false true = refl
+    go true false false false = refl
+    go false b c d = refl
+
+pub test-used : (s : Settings) (last t : ℕ) (h : Tile) (l : List Canister) → (h .count ≡ 0 → ⊥) → (headTest s t h && placesTest s last (h .count) l) ≡ tileTest s last t h l
+unfolding tileTest tileFits headTest placesTest
+test-used s last t h l ne = go (headFits s t h) refl (decLe (total s) t)
+  where
+    go : (a : Bool) → headFits s t h ≡ a → Dec (total s ≤ t) → (headTest s t h && placesTest s last (h .count) l) ≡ tileTest s last t h l
+    go false p w = rw p
+    go true p (yes off) = absurd (ne (ap (λ (x : Tile). x .count) (zero-off s t h p off)))
+    go true p (no on) =
+        let k : t < total s = omega arith in
+        rw (p, lt-ltb t (total s) k, le-leb (h .count) 16 (count-on s t h p k)) (and-moved (headSound s t h) (allOf isZeroCanister (drop (h .count) l)) (usedSound s last (h .count) l))

@@ -1,0 +1,369 @@
+use mathlib.Core.Path.{_≡_, refl, sym, ap, _∙_, subst}
+use mathlib.Core.Logic.{⊎-elim}
+use mathlib.Core.Bool.{true}
+use mathlib.Core.List.{List}
+use Prim.Native.Nat.{ℕ, _+_, _-_, _*_, _<_}
+use native.Mathlib.Omega.{arith}
+use lib.ListN.{length, getD, length-set}
+use borrow.Author.Tests.{not-true, not-false}
+use Rattle.laws.specs.Define.{allBelow}
+use Rattle.laws.proofs.Tables.{upto-turn, below-zero, below-step, ended, with-zero, with-step}
+use Rattle.floor.specs.Model.{numbers}
+use Rattle.floor.specs.Memory.{zeroCanister, isZeroCanister, block}
+use Rattle.floor.proofs.Sized.{tiles-length, canisters-length}
+use Rattle.check_unique.specs.Differ.{Runs}
+use Rattle.check_floor.specs.Code.{counted}
+use Rattle.check_floor.proofs.WellCode.{testOf, fit-each, keys-run, well-unlike, well-tiled, well-empty, pass-sized}
+use Rattle.check_floor.proofs.Blocks.{block-length, block-at}
+use Rattle.check_floor.proofs.Loops.{headed, after-empty, after-used, Scanned, Emptied, Copied, Listed, ListedTo}
+use Rattle.check_floor.proofs.Keys.{Keyed, keyed-start, keyed-first, keyed-turn, keyed-last, keyed-empty, keyed-end}
+use borrow.Author.Needs.{needs}
+use Rattle.check_floor.proofs.scan.Statement.{statement}
+use Rattle.check_floor.proofs.scan.Tie as tie
+use Rattle.check_floor.proofs.scan.Reads as reads
+use Rattle.check_floor.proofs.scan.Lts as lts
+use Rattle.check_numbers.proofs.numbers_differ.Reads as numbers-differ-reads
+use Rattle.check_places.proofs.is_zero_canister.Reads as is-zero-canister-reads
+use Rattle.check_floor.proofs.count_all.Reads as count-all-reads
+use Rattle.check_floor.proofs.counters_ok.Reads as counters-ok-reads
+use Rattle.check_floor.proofs.head_test.Reads as head-test-reads
+use Rattle.check_floor.proofs.places_test.Reads as places-test-reads
+
+abbrev Inv-loop2 : tie.InvT-loop2
+Inv-loop2 f s counters t ok₀ k₀ ok k = Emptied f t ok k
+
+abbrev μ-loop2 : tie.MeasureT-loop2
+μ-loop2 f s counters t ok₀ k₀ ok k = 16 - k
+
+abbrev Inv-loop3 : tie.InvT-loop3
+Inv-loop3 f s counters t h ok items₀ i₀ items i = Copied f t items i
+
+abbrev μ-loop3 : tie.MeasureT-loop3
+μ-loop3 f s counters t h ok items₀ i₀ items i = 16 - i
+
+abbrev Inv-loop : tie.InvT-loop
+Inv-loop f s counters t₀ t = Scanned f t
+
+abbrev μ-loop : tie.MeasureT-loop
+μ-loop f s counters t₀ t = 64 - t
+
+abbrev Inv-loop5 : tie.InvT-loop5
+Inv-loop5 f n added keys₀ u j₀ keys j = Listed f u keys j
+
+abbrev μ-loop5 : tie.MeasureT-loop5
+μ-loop5 f n added keys₀ u j₀ keys j = 16 - j
+
+abbrev Inv-loop4 : tie.InvT-loop4
+Inv-loop4 f n added keys₀ u₀ keys u = ListedTo f keys u
+
+abbrev μ-loop4 : tie.MeasureT-loop4
+μ-loop4 f n added keys₀ u₀ keys u = 64 - u
+
+loop-holds : tie.Need-loop-holds Inv-loop2 μ-loop2 Inv-loop3 μ-loop3 Inv-loop μ-loop Inv-loop5 μ-loop5 Inv-loop4 μ-loop4
+loop-holds c = record { below = omega arith; tested = sym (below-zero (testOf (c .before .before .args .t1))) }
+
+mul-h : tie.Need-mul-h Inv-loop2 μ-loop2 Inv-loop3 μ-loop3 Inv-loop μ-loop Inv-loop5 μ-loop5 Inv-loop4 μ-loop4
+mul-h c = search needs
+
+element-copy-out-h : tie.Need-element-copy-out-h Inv-loop2 μ-loop2 Inv-loop3 μ-loop3 Inv-loop μ-loop Inv-loop5 μ-loop5 Inv-loop4 μ-loop4
+element-copy-out-h c = search needs
+
+head-test-requires : tie.Need-head-test-requires Inv-loop2 μ-loop2 Inv-loop3 μ-loop3 Inv-loop μ-loop Inv-loop5 μ-loop5 Inv-loop4 μ-loop4
+head-test-requires c κs = let S = c .before .before .before .before .before in pass-sized (S .args .t1 .settings) (S .pre) .0
+
+loop2-holds : tie.Need-loop2-holds Inv-loop2 μ-loop2 Inv-loop3 μ-loop3 Inv-loop μ-loop Inv-loop5 μ-loop5 Inv-loop4 μ-loop4
+loop2-holds c =
+    let f = c .before .before .before .before .before .before .before .before .args .t1 in
+    let o = c .before .before .before .before .before .loop in
+    record { below = omega arith; here = omega arith; tested = with-zero isZeroCanister (block (f .canisters) (o .t)) (c .before .before .head-test .ensures) }
+
+mul-is-zero-canister : tie.Need-mul-is-zero-canister Inv-loop2 μ-loop2 Inv-loop3 μ-loop3 Inv-loop μ-loop Inv-loop5 μ-loop5 Inv-loop4 μ-loop4
+mul-is-zero-canister c = search needs
+
+add-is-zero-canister : tie.Need-add-is-zero-canister Inv-loop2 μ-loop2 Inv-loop3 μ-loop3 Inv-loop μ-loop Inv-loop5 μ-loop5 Inv-loop4 μ-loop4
+add-is-zero-canister c = search needs
+
+mul-is-zero-canister-2 : tie.Need-mul-is-zero-canister-2 Inv-loop2 μ-loop2 Inv-loop3 μ-loop3 Inv-loop μ-loop Inv-loop5 μ-loop5 Inv-loop4 μ-loop4
+mul-is-zero-canister-2 c = search needs
+
+element-copy-out-is-zero-canister : tie.Need-element-copy-out-is-zero-canister Inv-loop2 μ-loop2 Inv-loop3 μ-loop3 Inv-loop μ-loop Inv-loop5 μ-loop5 Inv-loop4 μ-loop4
+element-copy-out-is-zero-canister c = search needs
+
+is-zero-canister-requires : tie.Need-is-zero-canister-requires Inv-loop2 μ-loop2 Inv-loop3 μ-loop3 Inv-loop μ-loop Inv-loop5 μ-loop5 Inv-loop4 μ-loop4
+is-zero-canister-requires c κs = search needs
+
+add-k : tie.Need-add-k Inv-loop2 μ-loop2 Inv-loop3 μ-loop3 Inv-loop μ-loop Inv-loop5 μ-loop5 Inv-loop4 μ-loop4
+add-k c = search needs
+
+loop2-less : tie.Need-loop2-less Inv-loop2 μ-loop2 Inv-loop3 μ-loop3 Inv-loop μ-loop Inv-loop5 μ-loop5 Inv-loop4 μ-loop4
+loop2-less c = search needs
+
+loop2-again : tie.Need-loop2-again Inv-loop2 μ-loop2 Inv-loop3 μ-loop3 Inv-loop μ-loop Inv-loop5 μ-loop5 Inv-loop4 μ-loop4
+loop2-again c =
+    let S = c .before .before .before .before .before .before .before .before .before .before .before .before in
+    let f = S .args .t1 in
+    let o = c .before .before .before .before .before .before .before .before .before .loop in
+    let l = c .before .before .before .loop2 in
+    let cs = f .canisters in
+    let on : l .k < 16 = omega arith in
+    let v = l .inv in
+    record {
+      below = omega arith;
+      here = v .here;
+      tested = with-step (headed f (o .t)) isZeroCanister (block cs (o .t)) (l .k) zeroCanister (rw (block-length cs (o .t) (canisters-length f _ (S .good .0)) (v .here)) on) (v .tested) (c .is-zero-canister .ensures ∙ ap isZeroCanister (sym (block-at cs (o .t) (l .k) on)));
+    }
+
+loop3-holds : tie.Need-loop3-holds Inv-loop2 μ-loop2 Inv-loop3 μ-loop3 Inv-loop μ-loop Inv-loop5 μ-loop5 Inv-loop4 μ-loop4
+loop3-holds c = record { below = omega arith; items-length = refl; copied = λ i h. absurd (omega arith) }
+
+mul-items : tie.Need-mul-items Inv-loop2 μ-loop2 Inv-loop3 μ-loop3 Inv-loop μ-loop Inv-loop5 μ-loop5 Inv-loop4 μ-loop4
+mul-items c = search needs
+
+add-items : tie.Need-add-items Inv-loop2 μ-loop2 Inv-loop3 μ-loop3 Inv-loop μ-loop Inv-loop5 μ-loop5 Inv-loop4 μ-loop4
+add-items c = search needs
+
+mul-items-2 : tie.Need-mul-items-2 Inv-loop2 μ-loop2 Inv-loop3 μ-loop3 Inv-loop μ-loop Inv-loop5 μ-loop5 Inv-loop4 μ-loop4
+mul-items-2 c = search needs
+
+element-copy-out-items : tie.Need-element-copy-out-items Inv-loop2 μ-loop2 Inv-loop3 μ-loop3 Inv-loop μ-loop Inv-loop5 μ-loop5 Inv-loop4 μ-loop4
+element-copy-out-items c = search needs
+
+mul-items-3 : tie.Need-mul-items-3 Inv-loop2 μ-loop2 Inv-loop3 μ-loop3 Inv-loop μ-loop Inv-loop5 μ-loop5 Inv-loop4 μ-loop4
+mul-items-3 c = search needs
+
+array-set-from-items : tie.Need-array-set-from-items Inv-loop2 μ-loop2 Inv-loop3 μ-loop3 Inv-loop μ-loop Inv-loop5 μ-loop5 Inv-loop4 μ-loop4
+array-set-from-items c = search needs
+
+add-i : tie.Need-add-i Inv-loop2 μ-loop2 Inv-loop3 μ-loop3 Inv-loop μ-loop Inv-loop5 μ-loop5 Inv-loop4 μ-loop4
+add-i c = search needs
+
+loop3-less : tie.Need-loop3-less Inv-loop2 μ-loop2 Inv-loop3 μ-loop3 Inv-loop μ-loop Inv-loop5 μ-loop5 Inv-loop4 μ-loop4
+loop3-less c = search needs
+
+loop3-again : tie.Need-loop3-again Inv-loop2 μ-loop2 Inv-loop3 μ-loop3 Inv-loop μ-loop Inv-loop5 μ-loop5 Inv-loop4 μ-loop4
+loop3-again c =
+    let f = c .before .before .before .before .before .before .before .before .before .before .before .args .t1 in
+    let o = c .before .before .before .before .before .before .before .before .loop in
+    let l = c .before .before .loop3 in
+    record {
+      below = omega arith;
+      items-length = simp length-set (l .inv .items-length);
+      copied = upto-turn (l .i) (λ j. getD (f .canisters) (16 * o .t + j) zeroCanister) zeroCanister (l .items) (getD (f .canisters) (16 * o .t + l .i) zeroCanister) (omega arith) (l .inv .copied) refl;
+    }
+
+places-test-requires : tie.Need-places-test-requires Inv-loop2 μ-loop2 Inv-loop3 μ-loop3 Inv-loop μ-loop Inv-loop5 μ-loop5 Inv-loop4 μ-loop4
+places-test-requires c κs = let S = c .before .before .before .before .before .before .before .before .before .before in pass-sized (S .args .t1 .settings) (S .pre) .1
+
+returns : tie.Need-returns Inv-loop2 μ-loop2 Inv-loop3 μ-loop3 Inv-loop μ-loop Inv-loop5 μ-loop5 Inv-loop4 μ-loop4
+returns c =
+    let S = c .before .before .before .before .before .before .before .before .before in
+    let f = S .args .t1 in
+    let g = S .good .0 in
+    let lc = canisters-length f _ g in
+    let o = c .before .before .before .before .before .before .loop in
+    let on : o .t < 64 = omega arith in
+    let j = c .before .if1 in
+    let tested : j .ok ≡ testOf f (o .t) = ⊎-elim
+    (λ w. w .3 ∙ after-empty f (o .t) (w .1 .k) lc on (w .0 .taken) (w .2 .left) (w .1 .inv .tested))
+    (λ w. w .4 ∙ after-used f (o .t) (w .1 .i) (w .1 .items) lc on (w .0 .left) (w .2 .left) (w .1 .inv .items-length) (w .1 .inv .copied) (c .before .before .before .head-test .ensures) (w .3 .ensures))
+    (j .came) in
+    well-unlike f (tiles-length f _ g) lc (S .pre) (o .t) on (sym tested ∙ not-true _ (c .if2 .taken))
+
+add-t : tie.Need-add-t Inv-loop2 μ-loop2 Inv-loop3 μ-loop3 Inv-loop μ-loop Inv-loop5 μ-loop5 Inv-loop4 μ-loop4
+add-t c = search needs
+
+loop-less : tie.Need-loop-less Inv-loop2 μ-loop2 Inv-loop3 μ-loop3 Inv-loop μ-loop Inv-loop5 μ-loop5 Inv-loop4 μ-loop4
+loop-less c = search needs
+
+loop-again : tie.Need-loop-again Inv-loop2 μ-loop2 Inv-loop3 μ-loop3 Inv-loop μ-loop Inv-loop5 μ-loop5 Inv-loop4 μ-loop4
+loop-again c =
+    let S = c .before .before .before .before .before .before .before .before .before in
+    let f = S .args .t1 in
+    let lc = canisters-length f _ (S .good .0) in
+    let o = c .before .before .before .before .before .before .loop in
+    let on : o .t < 64 = omega arith in
+    let j = c .before .if1 in
+    let tested : j .ok ≡ testOf f (o .t) = ⊎-elim
+    (λ w. w .3 ∙ after-empty f (o .t) (w .1 .k) lc on (w .0 .taken) (w .2 .left) (w .1 .inv .tested))
+    (λ w. w .4 ∙ after-used f (o .t) (w .1 .i) (w .1 .items) lc on (w .0 .left) (w .2 .left) (w .1 .inv .items-length) (w .1 .inv .copied) (c .before .before .before .head-test .ensures) (w .3 .ensures))
+    (j .came) in
+    record { below = omega arith; tested = below-step (testOf f) (o .t) (o .inv .tested) (sym (not-false _ (c .if2 .left)) ∙ tested) }
+
+count-all-requires : tie.Need-count-all-requires Inv-loop2 μ-loop2 Inv-loop3 μ-loop3 Inv-loop μ-loop Inv-loop5 μ-loop5 Inv-loop4 μ-loop4
+count-all-requires c κs = search needs
+
+counters-ok-requires : tie.Need-counters-ok-requires Inv-loop2 μ-loop2 Inv-loop3 μ-loop3 Inv-loop μ-loop Inv-loop5 μ-loop5 Inv-loop4 μ-loop4
+counters-ok-requires c κs = search needs
+
+returns-2 : tie.Need-returns-2 Inv-loop2 μ-loop2 Inv-loop3 μ-loop3 Inv-loop μ-loop Inv-loop5 μ-loop5 Inv-loop4 μ-loop4
+returns-2 c =
+    let S = c .before .before .before .before .before .before .before .before in
+    let f = S .args .t1 in
+    let g = S .good .0 in
+    let o = c .before .before .before .before .before .loop in
+    let all : allBelow (testOf f) 64 ≡ true = sym (ended (allBelow (testOf f)) (c .before .before .before .before .loop-test .left) (o .inv .below) (o .inv .tested)) in
+    let none : counted (f .tiles) 64 ≡ 0 = sym (c .before .before .count-all .ensures) ∙ c .if3 .taken in
+    rw (c .before .counters-ok .ensures, c .before .before .count-all .ensures) (well-empty f (tiles-length f _ g) (canisters-length f _ g) (S .pre) all none)
+
+loop4-holds : tie.Need-loop4-holds Inv-loop2 μ-loop2 Inv-loop3 μ-loop3 Inv-loop μ-loop Inv-loop5 μ-loop5 Inv-loop4 μ-loop4
+loop4-holds c = record { below = omega arith; keys-length = refl; keyed = keyed-start (c .before .before .before .before .before .before .before .before .args .t1) }
+
+mul-h-2 : tie.Need-mul-h-2 Inv-loop2 μ-loop2 Inv-loop3 μ-loop3 Inv-loop μ-loop Inv-loop5 μ-loop5 Inv-loop4 μ-loop4
+mul-h-2 c = search needs
+
+element-copy-out-h-2 : tie.Need-element-copy-out-h-2 Inv-loop2 μ-loop2 Inv-loop3 μ-loop3 Inv-loop μ-loop Inv-loop5 μ-loop5 Inv-loop4 μ-loop4
+element-copy-out-h-2 c = search needs
+
+loop5-holds : tie.Need-loop5-holds Inv-loop2 μ-loop2 Inv-loop3 μ-loop3 Inv-loop μ-loop Inv-loop5 μ-loop5 Inv-loop4 μ-loop4
+loop5-holds c = let x = c .before .before .before .before .loop4 in record { below = omega arith; keys-length = x .inv .keys-length; keyed = keyed-first (c .before .before .before .before .before .before .before .before .before .before .before .before .before .args .t1) (x .u) (x .keys) (x .inv .keyed) }
+
+mul-c : tie.Need-mul-c Inv-loop2 μ-loop2 Inv-loop3 μ-loop3 Inv-loop μ-loop Inv-loop5 μ-loop5 Inv-loop4 μ-loop4
+mul-c c = search needs
+
+add-c : tie.Need-add-c Inv-loop2 μ-loop2 Inv-loop3 μ-loop3 Inv-loop μ-loop Inv-loop5 μ-loop5 Inv-loop4 μ-loop4
+add-c c = search needs
+
+mul-c-2 : tie.Need-mul-c-2 Inv-loop2 μ-loop2 Inv-loop3 μ-loop3 Inv-loop μ-loop Inv-loop5 μ-loop5 Inv-loop4 μ-loop4
+mul-c-2 c = search needs
+
+element-copy-out-c : tie.Need-element-copy-out-c Inv-loop2 μ-loop2 Inv-loop3 μ-loop3 Inv-loop μ-loop Inv-loop5 μ-loop5 Inv-loop4 μ-loop4
+element-copy-out-c c = search needs
+
+mul-keys : tie.Need-mul-keys Inv-loop2 μ-loop2 Inv-loop3 μ-loop3 Inv-loop μ-loop Inv-loop5 μ-loop5 Inv-loop4 μ-loop4
+mul-keys c = search needs
+
+add-keys : tie.Need-add-keys Inv-loop2 μ-loop2 Inv-loop3 μ-loop3 Inv-loop μ-loop Inv-loop5 μ-loop5 Inv-loop4 μ-loop4
+add-keys c = search needs
+
+mul-keys-2 : tie.Need-mul-keys-2 Inv-loop2 μ-loop2 Inv-loop3 μ-loop3 Inv-loop μ-loop Inv-loop5 μ-loop5 Inv-loop4 μ-loop4
+mul-keys-2 c = search needs
+
+array-write-keys : tie.Need-array-write-keys Inv-loop2 μ-loop2 Inv-loop3 μ-loop3 Inv-loop μ-loop Inv-loop5 μ-loop5 Inv-loop4 μ-loop4
+array-write-keys c = search needs
+
+add-j : tie.Need-add-j Inv-loop2 μ-loop2 Inv-loop3 μ-loop3 Inv-loop μ-loop Inv-loop5 μ-loop5 Inv-loop4 μ-loop4
+add-j c = search needs
+
+loop5-less : tie.Need-loop5-less Inv-loop2 μ-loop2 Inv-loop3 μ-loop3 Inv-loop μ-loop Inv-loop5 μ-loop5 Inv-loop4 μ-loop4
+loop5-less c = search needs
+
+loop5-again : tie.Need-loop5-again Inv-loop2 μ-loop2 Inv-loop3 μ-loop3 Inv-loop μ-loop Inv-loop5 μ-loop5 Inv-loop4 μ-loop4
+loop5-again c =
+    let x = c .before .before .before .before .before .before .before .loop4 in
+    let l = c .before .before .loop5 in
+    record { below = omega arith; keys-length = simp length-set (l .inv .keys-length); keyed = keyed-turn (c .before .before .before .before .before .before .before .before .before .before .before .before .before .before .before .before .args .t1) (x .u) (l .j) (l .keys) (omega arith) (l .inv .keyed) }
+
+add-u : tie.Need-add-u Inv-loop2 μ-loop2 Inv-loop3 μ-loop3 Inv-loop μ-loop Inv-loop5 μ-loop5 Inv-loop4 μ-loop4
+add-u c = search needs
+
+loop4-less : tie.Need-loop4-less Inv-loop2 μ-loop2 Inv-loop3 μ-loop3 Inv-loop μ-loop Inv-loop5 μ-loop5 Inv-loop4 μ-loop4
+loop4-less c = search needs
+
+loop4-again : tie.Need-loop4-again Inv-loop2 μ-loop2 Inv-loop3 μ-loop3 Inv-loop μ-loop Inv-loop5 μ-loop5 Inv-loop4 μ-loop4
+loop4-again c =
+    let S = c .before .before .before .before .before .before .before .before .before .before .before .before .before in
+    let f = S .args .t1 in
+    let lc = canisters-length f _ (S .good .0) in
+    let o = c .before .before .before .before .before .before .before .before .before .before .loop in
+    let all : allBelow (testOf f) 64 ≡ true = sym (ended (allBelow (testOf f)) (c .before .before .before .before .before .before .before .before .before .loop-test .left) (o .inv .below) (o .inv .tested)) in
+    let x = c .before .before .before .before .loop4 in
+    let on : x .u < 64 = c .before .before .before .loop4-test .taken in
+    let j = c .if4 in
+    let len : length (j .keys) ≡ 1024 = ⊎-elim (λ w. ap length (w .3) ∙ w .1 .inv .keys-length) (λ w. ap length (w .1) ∙ x .inv .keys-length) (j .came) in
+    let keyed : Keyed f (16 * (x .u + 1)) (j .keys)
+    = ⊎-elim
+    (λ w. subst (λ (l : List ℕ). Keyed f (16 * (x .u + 1)) l) (sym (w .3)) (keyed-last f (x .u) (w .1 .j) (w .1 .keys) (omega (arith, w .1 .inv .below, w .2 .left)) (w .1 .inv .keyed)))
+    (λ w. subst (λ (l : List ℕ). Keyed f (16 * (x .u + 1)) l) (sym (w .1)) (keyed-empty f lc (x .u) (x .keys) on (fit-each f all (x .u) on) (w .0 .left) (x .inv .keyed)))
+    (j .came) in
+    record { below = omega arith; keys-length = len; keyed = keyed }
+
+numbers-differ-requires : tie.Need-numbers-differ-requires Inv-loop2 μ-loop2 Inv-loop3 μ-loop3 Inv-loop μ-loop Inv-loop5 μ-loop5 Inv-loop4 μ-loop4
+numbers-differ-requires c κs =
+    let S = c .before .before .before .before .before .before .before .before .before .before in
+    let f = S .args .t1 in
+    let lc = canisters-length f _ (S .good .0) in
+    let o = c .before .before .before .before .before .before .before .loop in
+    let all : allBelow (testOf f) 64 ≡ true = sym (ended (allBelow (testOf f)) (c .before .before .before .before .before .before .loop-test .left) (o .inv .below) (o .inv .tested)) in
+    let x = c .before .loop4 in
+    let u : x .u ≡ 64 = omega (arith, c .loop4-test .left, x .inv .below) in
+    subst (λ (l : List ℕ). Runs l) (sym (keyed-end f lc (x .u) (x .keys) u (x .inv .keys-length) (x .inv .keyed))) (keys-run f all lc)
+
+returns-3 : tie.Need-returns-3 Inv-loop2 μ-loop2 Inv-loop3 μ-loop3 Inv-loop μ-loop Inv-loop5 μ-loop5 Inv-loop4 μ-loop4
+returns-3 c =
+    let S = c .before .before .before .before .before .before .before .before .before .before .before in
+    let f = S .args .t1 in
+    let g = S .good .0 in
+    let lc = canisters-length f _ g in
+    let o = c .before .before .before .before .before .before .before .before .loop in
+    let all : allBelow (testOf f) 64 ≡ true = sym (ended (allBelow (testOf f)) (c .before .before .before .before .before .before .before .loop-test .left) (o .inv .below) (o .inv .tested)) in
+    let x = c .before .before .loop4 in
+    let u : x .u ≡ 64 = omega (arith, c .before .loop4-test .left, x .inv .below) in
+    let keys : x .keys ≡ numbers (f .canisters) = keyed-end f lc (x .u) (x .keys) u (x .inv .keys-length) (x .inv .keyed) in
+    rw (c .before .before .before .before .counters-ok .ensures, c .before .before .before .before .before .count-all .ensures, c .numbers-differ .ensures, keys)
+    (well-tiled f (tiles-length f _ g) lc (S .pre) all)
+
+pub scan-spec : {M : Type 1} → statement M
+scan-spec =
+    tie.close
+    (tie.spec
+    Inv-loop2
+    μ-loop2
+    Inv-loop3
+    μ-loop3
+    Inv-loop
+    μ-loop
+    Inv-loop5
+    μ-loop5
+    Inv-loop4
+    μ-loop4
+    loop-holds
+    mul-h
+    element-copy-out-h
+    head-test-requires
+    loop2-holds
+    mul-is-zero-canister
+    add-is-zero-canister
+    mul-is-zero-canister-2
+    element-copy-out-is-zero-canister
+    is-zero-canister-requires
+    add-k
+    loop2-less
+    loop2-again
+    loop3-holds
+    mul-items
+    add-items
+    mul-items-2
+    element-copy-out-items
+    mul-items-3
+    array-set-from-items
+    add-i
+    loop3-less
+    loop3-again
+    places-test-requires
+    returns
+    add-t
+    loop-less
+    loop-again
+    count-all-requires
+    counters-ok-requires
+    returns-2
+    loop4-holds
+    mul-h-2
+    element-copy-out-h-2
+    loop5-holds
+    mul-c
+    add-c
+    mul-c-2
+    element-copy-out-c
+    mul-keys
+    add-keys
+    mul-keys-2
+    array-write-keys
+    add-j
+    loop5-less
+    loop5-again
+    add-u
+    loop4-less
+    loop4-again
+    numbers-differ-requires
+    returns-3)

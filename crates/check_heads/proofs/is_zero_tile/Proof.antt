@@ -1,0 +1,13 @@
+use mathlib.Core.Path.{refl}
+use Rattle.floor.specs.Memory.{isZeroTile}
+use Rattle.check_heads.proofs.is_zero_tile.Statement.{statement}
+use Rattle.check_heads.proofs.is_zero_tile.Tie as tie
+use Rattle.check_heads.proofs.is_zero_tile.Reads as reads
+use Rattle.check_heads.proofs.is_zero_tile.Lts as lts
+
+returns : tie.Need-returns
+unfolding isZeroTile
+returns c = refl
+
+pub is-zero-tile-spec : {M : Type 1} → statement M
+is-zero-tile-spec = tie.close (tie.spec returns)

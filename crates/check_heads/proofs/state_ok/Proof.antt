@@ -1,0 +1,61 @@
+use mathlib.Core.Path.{sym, _∙_}
+use lib.Dec.{eqb}
+use borrow.Author.Tests.{eq-eqb, ne-eqb}
+use Rattle.laws.proofs.Tests.{pick-yes, pick-no}
+use mathlib.Core.Bool.{cond}
+use Rattle.floor.specs.Settings.{isHopper}
+use Rattle.floor.specs.Well.{hopperSound, runningSound, stoppedSound}
+use Rattle.check_heads.specs.Head.{stateSound}
+use borrow.Author.Needs.{needs}
+use Rattle.check_heads.proofs.state_ok.Statement.{statement}
+use Rattle.check_heads.proofs.state_ok.Tie as tie
+use Rattle.check_heads.proofs.state_ok.Reads as reads
+use Rattle.check_heads.proofs.state_ok.Lts as lts
+use Rattle.sets.proofs.holds.Reads as holds-reads
+use Rattle.check_heads.proofs.hopper_ok.Reads as hopper-ok-reads
+use Rattle.check_heads.proofs.running_ok.Reads as running-ok-reads
+use Rattle.check_heads.proofs.stopped_ok.Reads as stopped-ok-reads
+
+holds-requires : tie.Need-holds-requires
+holds-requires c κs = search needs
+
+hopper-ok-requires : tie.Need-hopper-ok-requires
+hopper-ok-requires c κs = search needs
+
+returns : tie.Need-returns
+unfolding stateSound isHopper
+returns c =
+    let g = c .before .before .before .args in
+    c .hopper-ok .ensures ∙ pick-yes (hopperSound g.h) (cond (eqb (g.h .running) 1) (runningSound g.s g.h) (stoppedSound g.h)) (sym (c .before .before .holds .ensures) ∙ c .before .if1 .taken)
+
+running-ok-requires : tie.Need-running-ok-requires
+running-ok-requires c κs = search needs
+
+returns-2 : tie.Need-returns-2
+unfolding stateSound isHopper
+returns-2 c =
+    let g = c .before .before .before .before .before .args in
+    c .running-ok .ensures ∙ pick-yes (runningSound g.s g.h) (stoppedSound g.h) (eq-eqb (g.h .running) 1 (c .before .if2 .taken))
+    ∙ pick-no (hopperSound g.h) (cond (eqb (g.h .running) 1) (runningSound g.s g.h) (stoppedSound g.h)) (sym (c .before .before .before .before .holds .ensures) ∙ c .before .before .before .if1 .left)
+
+stopped-ok-requires : tie.Need-stopped-ok-requires
+stopped-ok-requires c κs = search needs
+
+returns-3 : tie.Need-returns-3
+unfolding stateSound isHopper
+returns-3 c =
+    let g = c .before .before .before .before .before .args in
+    c .stopped-ok .ensures ∙ pick-no (runningSound g.s g.h) (stoppedSound g.h) (ne-eqb (g.h .running) 1 (c .before .if2 .left))
+    ∙ pick-no (hopperSound g.h) (cond (eqb (g.h .running) 1) (runningSound g.s g.h) (stoppedSound g.h)) (sym (c .before .before .before .before .holds .ensures) ∙ c .before .before .before .if1 .left)
+
+pub state-ok-spec : {M : Type 1} → statement M
+state-ok-spec =
+    tie.close
+    (tie.spec
+    holds-requires
+    hopper-ok-requires
+    returns
+    running-ok-requires
+    returns-2
+    stopped-ok-requires
+    returns-3)

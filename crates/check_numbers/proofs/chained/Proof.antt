@@ -1,0 +1,231 @@
+use mathlib.Core.Path.{_≡_, refl, sym, subst}
+use Prim.Native.Nat.{ℕ, _+_, _-_, _*_, _/_, _<_}
+use native.Mathlib.Omega.{arith}
+use lib.ListN.{length, length-set}
+use Rattle.check_numbers.proofs.Chain.{at, Unlike, Unseen, Linked, Following, heads-none, prev-below, run-empty, unseen-start, unseen-step, heads-zero, prevs-zero, unlike-zero, heads-step, prevs-step, unlike-step, told-unlike, told-equal}
+use borrow.Author.Needs.{needs}
+use Rattle.check_numbers.proofs.chained.Statement.{statement}
+use Rattle.check_numbers.proofs.chained.Tie as tie
+use Rattle.check_numbers.proofs.chained.Reads as reads
+use Rattle.check_numbers.proofs.chained.Lts as lts
+use Rattle.check_numbers.proofs.wide.Reads as wide-reads
+
+abbrev Inv-loop2 : tie.InvT-loop2
+Inv-loop2 keys heads prev left₀ i n h first p₀ left p = Following keys heads prev n p i
+
+abbrev μ-loop2 : tie.MeasureT-loop2
+μ-loop2 keys heads prev left₀ i n h first p₀ left p = p
+
+abbrev Inv-loop : tie.InvT-loop
+Inv-loop keys heads₀ prev₀ left₀ i₀ heads prev left i = Linked keys heads prev i
+
+abbrev μ-loop : tie.MeasureT-loop
+μ-loop keys heads₀ prev₀ left₀ i₀ heads prev left i = 1024 - i
+
+loop-holds : tie.Need-loop-holds Inv-loop2 μ-loop2 Inv-loop μ-loop
+loop-holds c = record {
+  below = omega arith;
+  keys-length = c .good .0 .1 .0 .1;
+  heads-length = refl;
+  prev-length = refl;
+  heads = heads-none (c .args .t1);
+  prevs = λ j h. absurd (omega arith);
+  unlike = λ j k a b. absurd (omega arith);
+}
+
+mul-n : tie.Need-mul-n Inv-loop2 μ-loop2 Inv-loop μ-loop
+mul-n c = search needs
+
+array-read-n : tie.Need-array-read-n Inv-loop2 μ-loop2 Inv-loop μ-loop
+array-read-n c = search needs
+
+mul-i : tie.Need-mul-i Inv-loop2 μ-loop2 Inv-loop μ-loop
+mul-i c = search needs
+
+add-i : tie.Need-add-i Inv-loop2 μ-loop2 Inv-loop μ-loop
+add-i c = search needs
+
+loop-less : tie.Need-loop-less Inv-loop2 μ-loop2 Inv-loop μ-loop
+loop-less c = search needs
+
+loop-again : tie.Need-loop-again Inv-loop2 μ-loop2 Inv-loop μ-loop
+loop-again c =
+    let l = c .before .before .loop in
+    let g = c .before .before .before .args in
+    let z = run-empty g.t1 (l .i) (c .before .before .before .pre) (omega arith) (c .if1 .taken) in
+    let n = l .i / 16 * 16 + 16 in
+    let v = l .inv in
+    record {
+      below = omega arith;
+      keys-length = v .keys-length;
+      heads-length = v .heads-length;
+      prev-length = v .prev-length;
+      heads = heads-zero g.t1 (l .heads) (l .i) n z (v .heads);
+      prevs = prevs-zero g.t1 (l .prev) (l .i) n z (v .prevs);
+      unlike = unlike-zero g.t1 (l .i) n z (v .unlike);
+    }
+
+cast-h : tie.Need-cast-h Inv-loop2 μ-loop2 Inv-loop μ-loop
+cast-h c = search needs
+
+mul-first : tie.Need-mul-first Inv-loop2 μ-loop2 Inv-loop μ-loop
+mul-first c = search needs
+
+array-read-first : tie.Need-array-read-first Inv-loop2 μ-loop2 Inv-loop μ-loop
+array-read-first c = search needs
+
+wide-requires : tie.Need-wide-requires Inv-loop2 μ-loop2 Inv-loop μ-loop
+wide-requires c κs = search needs
+
+loop2-holds : tie.Need-loop2-holds Inv-loop2 μ-loop2 Inv-loop μ-loop
+loop2-holds c =
+    let l = c .before .before .before .loop in
+    let g = c .before .before .before .before .args in
+    let pos : 0 < at g.t1 (l .i) = omega (arith, c .before .if1 .left) in
+    let u : Unseen g.t1 (at g.t1 (l .i)) (c .wide .result) (l .i) = subst (λ (x : ℕ). Unseen g.t1 (at g.t1 (l .i)) x (l .i)) (sym (c .wide .ensures)) (unseen-start g.t1 (l .heads) (at g.t1 (l .i)) (l .i) pos (l .inv .heads)) in
+    let v = l .inv in
+    record { here = omega arith; below = u .0; keys-length = v .keys-length; heads-length = v .heads-length; prev-length = v .prev-length; unseen = u }
+
+sub-q : tie.Need-sub-q Inv-loop2 μ-loop2 Inv-loop μ-loop
+sub-q c = search needs
+
+mul-if2 : tie.Need-mul-if2 Inv-loop2 μ-loop2 Inv-loop μ-loop
+mul-if2 c = search needs
+
+array-read-if2 : tie.Need-array-read-if2 Inv-loop2 μ-loop2 Inv-loop μ-loop
+array-read-if2 c = search needs
+
+returns : tie.Need-returns Inv-loop2 μ-loop2 Inv-loop μ-loop
+returns c =
+    let l = c .before .before .loop2 in
+    let o = c .before .before .before .before .before .before .loop in
+    let g = c .before .before .before .before .before .before .before .args in
+    let pos : 0 < at g.t1 (o .i) = omega (arith, c .before .before .before .before .if1 .left) in
+    (λ _. told-equal g.t1 (l .p - 1) (o .i) (omega arith) (omega arith) (c .if2 .taken) pos, λ e. absurd (omega (arith, e)))
+
+returns-2 : tie.Need-returns-2 Inv-loop2 μ-loop2 Inv-loop μ-loop
+returns-2 c = (λ e. absurd (omega (arith, e)), λ e. absurd (omega (arith, e)))
+
+sub-left : tie.Need-sub-left Inv-loop2 μ-loop2 Inv-loop μ-loop
+sub-left c = search needs
+
+mul-before : tie.Need-mul-before Inv-loop2 μ-loop2 Inv-loop μ-loop
+mul-before c = search needs
+
+array-read-before : tie.Need-array-read-before Inv-loop2 μ-loop2 Inv-loop μ-loop
+array-read-before c = search needs
+
+wide-requires-2 : tie.Need-wide-requires-2 Inv-loop2 μ-loop2 Inv-loop μ-loop
+wide-requires-2 c κs = search needs
+
+loop2-less : tie.Need-loop2-less Inv-loop2 μ-loop2 Inv-loop μ-loop
+loop2-less c =
+    let l = c .before .before .before .before .loop2 in
+    let o = c .before .before .before .before .before .before .before .before .loop in
+    let g = c .before .before .before .before .before .before .before .before .before .args in
+    let some : 0 < l .p = omega arith in
+    omega (arith, c .wide2 .ensures, prev-below g.t1 (o .prev) (at g.t1 (o .i)) (l .p) (l .p - 1) (o .i) (o .inv .prevs) (l .inv .unseen) some refl)
+
+loop2-again : tie.Need-loop2-again Inv-loop2 μ-loop2 Inv-loop μ-loop
+loop2-again c =
+    let l = c .before .before .before .before .loop2 in
+    let o = c .before .before .before .before .before .before .before .before .loop in
+    let g = c .before .before .before .before .before .before .before .before .before .args in
+    let some : 0 < l .p = omega arith in
+    let pos : 0 < at g.t1 (o .i) = omega (arith, c .before .before .before .before .before .before .if1 .left) in
+    let next = unseen-step g.t1 (o .prev) (at g.t1 (o .i)) (l .p) (l .p - 1) (o .i) pos (o .inv .prevs) (l .inv .unseen) some refl (c .before .before .if2 .left) in
+    let u : Unseen g.t1 (at g.t1 (o .i)) (c .wide2 .result) (o .i) = subst (λ (x : ℕ). Unseen g.t1 (at g.t1 (o .i)) x (o .i)) (sym (c .wide2 .ensures)) next in
+    let v = l .inv in
+    record { here = v .here; below = u .0; keys-length = v .keys-length; heads-length = v .heads-length; prev-length = v .prev-length; unseen = u }
+
+mul-prev : tie.Need-mul-prev Inv-loop2 μ-loop2 Inv-loop μ-loop
+mul-prev c = search needs
+
+array-write-prev : tie.Need-array-write-prev Inv-loop2 μ-loop2 Inv-loop μ-loop
+array-write-prev c = search needs
+
+add-heads : tie.Need-add-heads Inv-loop2 μ-loop2 Inv-loop μ-loop
+add-heads c = search needs
+
+cast-heads : tie.Need-cast-heads Inv-loop2 μ-loop2 Inv-loop μ-loop
+cast-heads c = search needs
+
+mul-heads : tie.Need-mul-heads Inv-loop2 μ-loop2 Inv-loop μ-loop
+mul-heads c = search needs
+
+array-write-heads : tie.Need-array-write-heads Inv-loop2 μ-loop2 Inv-loop μ-loop
+array-write-heads c = search needs
+
+add-i-2 : tie.Need-add-i-2 Inv-loop2 μ-loop2 Inv-loop μ-loop
+add-i-2 c = search needs
+
+loop-less-2 : tie.Need-loop-less-2 Inv-loop2 μ-loop2 Inv-loop μ-loop
+loop-less-2 c = search needs
+
+loop-again-2 : tie.Need-loop-again-2 Inv-loop2 μ-loop2 Inv-loop μ-loop
+loop-again-2 c =
+    let l = c .before .loop2 in
+    let o = c .before .before .before .before .before .loop in
+    let g = c .before .before .before .before .before .before .args in
+    let pos : 0 < at g.t1 (o .i) = omega (arith, c .before .before .before .if1 .left) in
+    let none : l .p ≡ 0 = omega arith in
+    let new : Unseen g.t1 (at g.t1 (o .i)) 0 (o .i) = subst (λ (x : ℕ). Unseen g.t1 (at g.t1 (o .i)) x (o .i)) none (l .inv .unseen) in
+    let v = o .inv in
+    record {
+      below = omega arith;
+      keys-length = v .keys-length;
+      heads-length = simp length-set (v .heads-length);
+      prev-length = simp length-set (v .prev-length);
+      heads = heads-step g.t1 (o .heads) (o .i) (omega arith) pos (v .heads);
+      prevs = prevs-step g.t1 (o .heads) (o .prev) (o .i) (omega arith) (v .heads) (v .prevs);
+      unlike = unlike-step g.t1 (o .i) new (v .unlike);
+    }
+
+returns-3 : tie.Need-returns-3 Inv-loop2 μ-loop2 Inv-loop μ-loop
+returns-3 c =
+    let l = c .before .loop in
+    let g = c .before .before .args in
+    let e : l .i ≡ length g.t1 = omega arith in
+    (λ e. absurd (omega (arith, e)), λ _. told-unlike g.t1 (subst (λ (x : ℕ). Unlike g.t1 x) e (l .inv .unlike)))
+
+pub chained-spec : {M : Type 1} → statement M
+chained-spec =
+    tie.close
+    (tie.spec
+    Inv-loop2
+    μ-loop2
+    Inv-loop
+    μ-loop
+    loop-holds
+    mul-n
+    array-read-n
+    mul-i
+    add-i
+    loop-less
+    loop-again
+    cast-h
+    mul-first
+    array-read-first
+    wide-requires
+    loop2-holds
+    sub-q
+    mul-if2
+    array-read-if2
+    returns
+    returns-2
+    sub-left
+    mul-before
+    array-read-before
+    wide-requires-2
+    loop2-less
+    loop2-again
+    mul-prev
+    array-write-prev
+    add-heads
+    cast-heads
+    mul-heads
+    array-write-heads
+    add-i-2
+    loop-less-2
+    loop-again-2
+    returns-3)

@@ -1,0 +1,64 @@
+// Whether all numbers on a floor differ: each number is compared with the earlier ones of its remainder.
+ghost use mathlib.Core.Path.{_≡_};
+ghost use mathlib.Core.Bool.{true, false};
+ghost use Rattle.check_unique.specs.Differ.{differ, Runs};
+use check_unique::all_differ;
+
+fn wide(x: u16) -> usize
+    ensures { λ r. ⌜ r ≡ x ⌝ }
+{
+    x as usize
+}
+
+// 1 where all numbers differ, 0 where two are equal, 2 where the steps ran out. heads[h] is 1 + the last place so far whose
+// number has the remainder h, prev[i] is 1 + the last one before place i with i's remainder; 0 where there is none.
+pub fn chained(keys: [u32; 1024]) -> u8
+    requires { ⌜ Runs keys ⌝ }
+    ensures { λ r. ⌜ (r ≡ 0 → differ keys ≡ false) × (r ≡ 1 → differ keys ≡ true) ⌝ }
+{
+    let mut heads: [u16; 2048] = [0; 2048];
+    let mut prev: [u16; 1024] = [0; 1024];
+    let mut left: u32 = 8192;
+    let mut i: usize = 0;
+    while i < 1024 {
+        let n = keys[i];
+        if n == 0 {
+            i = i / 16 * 16 + 16;
+        } else {
+            let h = (n % 2039) as usize;
+            let first = heads[h];
+            let mut p = wide(first);
+            while 0 < p {
+                let q = p - 1;
+                if keys[q] == n {
+                    return 0;
+                }
+                if left == 0 {
+                    return 2;
+                }
+                left -= 1;
+                let before = prev[q];
+                p = wide(before);
+            }
+            prev[i] = first;
+            heads[h] = (i + 1) as u16;
+            i += 1;
+        }
+    }
+    1
+}
+
+// By chains; where they are too long, in order.
+pub fn numbers_differ(keys: [u32; 1024]) -> bool
+    requires { ⌜ Runs keys ⌝ }
+    ensures { λ r. ⌜ r ≡ differ keys ⌝ }
+{
+    let told = chained(keys);
+    if told == 0 {
+        return false;
+    }
+    if told == 1 {
+        return true;
+    }
+    all_differ(keys)
+}

@@ -1,0 +1,82 @@
+-- The three groups are the list of tests; what settings that pass a group are like; refusal 2, branch by branch.
+use mathlib.Core.Path.{_≡_, refl, sym}
+use mathlib.Core.Bool.{Bool, true, false, cond, not, _||_}
+use mathlib.Core.List.{List, []}
+use Prim.Native.Nat.{ℕ, _/_, _^_, _≤_, _<_}
+use native.Mathlib.Omega.{arith}
+use native.Mathlib.Nat.{mul-le-mul}
+use lib.Dec.{leb, ltb}
+use lib.ListN.{length, take}
+use borrow.Author.Tests.{leb-false, ltb-true, ltb-false, le-leb, lt-leb}
+use Rattle.laws.specs.Define.{anyOf, bit, bitsBelow, refusal}
+use Rattle.laws.proofs.Tests.{or-no}
+use Rattle.laws.proofs.Search.{any-none}
+use Rattle.laws.proofs.SetBits.{bits-within}
+use Rattle.floor.specs.declared.Settings.{Settings}
+use Rattle.floor.specs.Settings.{total, spacing, span, hoppersOf, sizeTests, measureTests, settingsTests, settingsRefusal}
+use Rattle.check_settings.specs.Groups.{sizesWrong, setsWrong, measuresWrong, rulesWrong}
+
+-- ---- the three groups are the list of tests
+pick-or : {A : Type 0} (a b : Bool) (x y : A) → cond a x (cond b x y) ≡ cond (a || b) x y
+pick-or true b x y = refl
+pick-or false b x y = refl
+
+or-assoc : (a b c : Bool) → ((a || b) || c) ≡ (a || (b || c))
+or-assoc true b c = refl
+or-assoc false b c = refl
+
+pub sizes-first : (s : Settings) (l : List (Bool × ℕ)) → refusal (sizeTests s l) ≡ cond (sizesWrong s) 1 (refusal l)
+unfolding refusal sizesWrong anyOf
+sizes-first s l = simp (pick-or, or-no) refl
+
+pub refusal-groups : (s : Settings) → settingsRefusal s ≡ cond (sizesWrong s) 1 (cond (setsWrong s) 2 (cond (measuresWrong s) 3 0))
+unfolding settingsRefusal settingsTests refusal sizesWrong setsWrong measuresWrong anyOf
+refusal-groups s = simp (pick-or, or-no) refl
+
+-- ---- each group as the code tests it
+pub sizes-are : (s : Settings) → (ltb (s .columns) 1 || (ltb 8 (s .columns) || (ltb (s .rows) 1 || (ltb 8 (s .rows) || ltb (total s) 2)))) ≡ sizesWrong s
+unfolding sizesWrong anyOf
+sizes-are s = simp (or-no) refl
+
+pub rules-are : (s : Settings) → (ltb (s .width) 2 || (ltb 60000 (s .width) || (ltb (s .travel) 1 || (leb (s .length) (s .travel) || leb (s .width) (spacing s))))) ≡ rulesWrong s
+unfolding rulesWrong anyOf
+rules-are s = simp (or-no) refl
+
+pub measures-are : (s : Settings) → (rulesWrong s || ltb 3 (span s / spacing s)) ≡ measuresWrong s
+unfolding rulesWrong measuresWrong anyOf
+measures-are s = simp (or-assoc, or-no) refl
+
+-- ---- what settings that pass the first group are like
+pub few-tiles : (s : Settings) → sizesWrong s ≡ false → total s ≤ 64
+unfolding sizesWrong
+few-tiles s h =
+    let p = any-none _ (sizeTests s []) h in
+    mul-le-mul (ltb-false 8 (s .columns) (p .1 .0)) (ltb-false 8 (s .rows) (p .1 .1 .1 .0))
+
+-- ---- what the rules say before the division
+pub rules-length : (s : Settings) → rulesWrong s ≡ false → (0 < s .length) × (s .length < s .width)
+unfolding rulesWrong
+rules-length s h =
+    let p = any-none _ (take 5 (measureTests s)) h in
+    let slow : s .travel < s .length = leb-false (s .length) (s .travel) (p .1 .1 .1 .0) in
+    let short : spacing s < s .width = leb-false (s .width) (spacing s) (p .1 .1 .1 .1 .0) in
+    (omega arith, omega arith)
+
+-- ---- refusal 2, branch by branch
+not-ltb : (m n : ℕ) → not (ltb m n) ≡ leb n m
+not-ltb m n = go (ltb m n) refl
+  where
+    go : (b : Bool) → ltb m n ≡ b → not b ≡ leb n m
+    go true e = sym (lt-leb n m (ltb-true m n e))
+    go false e = sym (le-leb n m (ltb-false m n e))
+
+pub hoppers-off : (s : Settings) → ltb (s .hoppers) (2 ^ total s) ≡ false → true ≡ setsWrong s
+unfolding setsWrong anyOf
+hoppers-off s h = rw (le-leb (2 ^ total s) (s .hoppers) (ltb-false (s .hoppers) (2 ^ total s) h))
+
+pub hoppers-on : (s : Settings) {n : ℕ} {own on : Bool} → total s ≤ 64 → ltb (s .hoppers) (2 ^ total s) ≡ true → n ≡ length (bitsBelow (s .hoppers) 64) → own ≡ anyOf (bit (s .sources)) (bitsBelow (s .hoppers) 64)
+    → on ≡ ltb (s .sources) (2 ^ total s) → (ltb n 1 || (ltb 4 n || (own || not on))) ≡ setsWrong s
+unfolding setsWrong hoppersOf anyOf
+hoppers-on s few h e p q =
+    let l : s .hoppers < 2 ^ total s = ltb-true (s .hoppers) (2 ^ total s) h in
+    rw (e, p, q, bits-within (s .hoppers) (total s) 64 few l, lt-leb (2 ^ total s) (s .hoppers) l, not-ltb (s .sources) (2 ^ total s), or-no)

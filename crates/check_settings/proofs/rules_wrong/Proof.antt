@@ -1,0 +1,19 @@
+use Rattle.check_settings.proofs.Groups.{rules-are}
+use borrow.Author.Needs.{needs}
+use Rattle.check_settings.proofs.rules_wrong.Statement.{statement}
+use Rattle.check_settings.proofs.rules_wrong.Tie as tie
+use Rattle.check_settings.proofs.rules_wrong.Reads as reads
+use Rattle.check_settings.proofs.rules_wrong.Lts as lts
+use Rattle.floor.proofs.Settings.spacing.Reads as spacing-reads
+
+spacing-requires : tie.Need-spacing-requires
+spacing-requires c κs = tt
+
+cast-width : tie.Need-cast-width
+cast-width c = search needs
+
+returns : tie.Need-returns
+returns c = rw (c .before .before .before .before .before .spacing .ensures) (rules-are _)
+
+pub rules-wrong-spec : {M : Type 1} → statement M
+rules-wrong-spec = tie.close (tie.spec spacing-requires cast-width returns)

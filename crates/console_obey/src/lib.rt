@@ -1,0 +1,197 @@
+// One typed line obeyed: the commands beside the single calls, and which command a line names.
+use console_session::Session;
+use floor::Delivery;
+use floor::Floor;
+use floor::refusals;
+
+// `rounds` takes at most this many.
+const MOST: u32 = 100000;
+
+// A round, and what it gave.
+struct Stepped {
+    session: Session,
+    refusal: u8,
+    deliveries: [Delivery; 4],
+}
+
+fn step(s: Session) -> Stepped {
+    let floor = s.floor;
+    let answer = calls::round(floor);
+    let report = answer.report;
+    let deliveries = report.deliveries;
+    let reasons = report.reasons;
+    let missing = report.missing;
+    let mut next = s;
+    if answer.refusal == 0 {
+        let moved = answer.floor;
+        next.floor = moved;
+        next.reasons = reasons;
+        next.missing = missing;
+        next.rounds = std::num::wrapping_add_u64(next.rounds, 1);
+    }
+    Stepped {
+        session: next,
+        refusal: answer.refusal,
+        deliveries: deliveries,
+    }
+}
+
+fn round(s: Session, line: &[u8]) -> Session {
+    if !console_parse::ended(line, 1) {
+        return console_session::cannot(s, line);
+    }
+    let done = step(s);
+    let next = done.session;
+    if done.refusal != 0 {
+        return console_session::refused(next, b"round", done.refusal);
+    }
+    let deliveries = done.deliveries;
+    console_say::delivered(next.rounds, next.floor.settings.hoppers, deliveries);
+    next
+}
+
+// Goes n rounds and tells the rounds that deliver; ends early where a round is refused.
+fn go(s: Session, n: u32) -> Session {
+    let mut next = s;
+    let mut k: u32 = 0;
+    while k < n {
+        let done = step(next);
+        if done.refusal != 0 {
+            return console_session::refused(next, b"rounds", done.refusal);
+        }
+        let after = done.session;
+        next = after;
+        let deliveries = done.deliveries;
+        if console_say::some(deliveries) {
+            console_say::delivered(next.rounds, next.floor.settings.hoppers, deliveries);
+        }
+        k += 1;
+    }
+    console_say::rounds(n, next.rounds);
+    next
+}
+
+fn rounds(s: Session, line: &[u8]) -> Session {
+    let n = console_parse::arguments(line, 1);
+    if !n.good {
+        return console_session::cannot(s, line);
+    }
+    if !s.made {
+        return console_session::refused(s, b"rounds", 0);
+    }
+    let many = n.at[0];
+    if MOST < many {
+        console_say::text(b"rounds: at most 100000\n");
+        return s;
+    }
+    go(s, many)
+}
+
+// One row from west to east. The tile to the east has the number higher by the rows.
+fn show_row(floor: Floor, columns: u8, rows: u8, row: u8) {
+    let mut at = row as u32;
+    let mut column: u8 = 0;
+    while column < columns {
+        let answer = calls::read(floor, at);
+        let t = answer.tile;
+        if 0 < column {
+            console_say::text(b"  ");
+        }
+        console_say::cell(console_parse::byte(at), t);
+        at += rows as u32;
+        column += 1;
+    }
+    console_say::text(b"\n");
+}
+
+// The north row first.
+fn show_rows(floor: Floor, columns: u8, rows: u8) {
+    let mut row = rows;
+    while 0 < row {
+        row -= 1;
+        show_row(floor, columns, rows, row);
+    }
+}
+
+fn show(s: Session, line: &[u8]) -> Session {
+    if !console_parse::ended(line, 1) {
+        return console_session::cannot(s, line);
+    }
+    let floor = s.floor;
+    let answer = calls::read(floor, 0);
+    if answer.refusal != 0 {
+        return console_session::refused(s, b"show", answer.refusal);
+    }
+    let counters = floor.counters;
+    let settings = floor.settings;
+    console_say::counters(counters, settings.hoppers, s.rounds);
+    show_rows(floor, settings.columns, settings.rows);
+    s
+}
+
+// Why each tile stood in the last round.
+fn why(s: Session) -> Session {
+    if !s.made {
+        return console_session::refused(s, b"why", refusals::MALFORMED);
+    }
+    if s.rounds == 0 {
+        console_say::text(b"why: no round yet\n");
+        return s;
+    }
+    let reasons = s.reasons;
+    let missing = s.missing;
+    console_say::why(s.rounds, reasons, missing);
+    s
+}
+
+// Obeys one line.
+pub fn obey(s: Session, line: &[u8]) -> Session {
+    if console_parse::is(line, 0, b"fresh") {
+        return console_calls::fresh(s, line, false);
+    }
+    if console_parse::is(line, 0, b"fresh!") {
+        return console_calls::fresh(s, line, true);
+    }
+    if console_parse::is(line, 0, b"book") {
+        return console_calls::book(s, line);
+    }
+    if console_parse::is(line, 0, b"stop") {
+        return console_calls::stop(s, line);
+    }
+    if console_parse::is(line, 0, b"repair") {
+        return console_calls::repair(s, line);
+    }
+    if console_parse::is(line, 0, b"round") {
+        return round(s, line);
+    }
+    if console_parse::is(line, 0, b"rounds") {
+        return rounds(s, line);
+    }
+    if console_parse::is(line, 0, b"read") {
+        return console_calls::read(s, line);
+    }
+    if console_parse::is(line, 0, b"show") {
+        return show(s, line);
+    }
+    rest(s, line)
+}
+
+// Obeys a line of one word, or one about layouts.
+fn rest(s: Session, line: &[u8]) -> Session {
+    if !console_parse::ended(line, 1) {
+        return console_calls::obey_layouts(s, line);
+    }
+    if console_parse::is(line, 0, b"why") {
+        return why(s);
+    }
+    if console_parse::is(line, 0, b"help") {
+        console_say::help();
+        return s;
+    }
+    if console_parse::is(line, 0, b"quit") {
+        let mut last = s;
+        last.going = false;
+        return last;
+    }
+    console_calls::obey_layouts(s, line)
+}

@@ -1,0 +1,84 @@
+// What the console keeps between two lines, and what every command shares.
+ghost use Prim.Native.Nat.{_-_, _<_, _^_};
+ghost use Rattle.laws.specs.Define.{sum};
+ghost use mathlib.Core.Path.{_≡_};
+use floor::Counters;
+use floor::Floor;
+use floor::Settings;
+
+// The floor, what the last round's report says of each tile, how many lines were read, how many rounds the floor went, whether
+// a fresh has made it, whether to go on.
+pub struct Session {
+    pub floor: Floor,
+    pub reasons: [u8; 64],
+    pub missing: [u16; 64],
+    pub lines: u64,
+    pub rounds: u64,
+    pub made: bool,
+    pub going: bool,
+}
+
+pub fn begin() -> Session {
+    let nothing = Settings {
+        columns: 0,
+        rows: 0,
+        hoppers: 0,
+        sources: 0,
+        width: 0,
+        length: 0,
+        gap: 0,
+        travel: 0,
+    };
+    let none = calls::fresh(nothing);
+    let floor = none.floor;
+    Session {
+        floor: floor,
+        reasons: [0; 64],
+        missing: [0; 64],
+        lines: 0,
+        rounds: 0,
+        made: false,
+        going: true,
+    }
+}
+
+pub fn cannot(s: Session, line: &[u8]) -> Session {
+    console_say::unreadable(s.lines, line);
+    s
+}
+
+// A refused call changes nothing. Where no floor was made yet, the library refuses every call, because a floor of zeros isn't well formed.
+pub fn refused(s: Session, name: &[u8], n: u8) -> Session {
+    if s.made {
+        console_say::refused(name, n);
+    } else {
+        console_say::no_floor(name);
+    }
+    s
+}
+
+// A number as a wider one.
+fn wide(x: u32) -> u64
+    ensures { λ r. ⌜ (r ≡ x) × (r < 2 ^ 32) ⌝ }
+{
+    x as u64
+}
+
+// The canisters on a floor.
+pub fn held(c: Counters) -> u64
+    ensures { λ r. ⌜ r ≡ c .booked - sum (c .delivered) ⌝ }
+{
+    let d = c.delivered;
+    let all = wide(d[0]) + wide(d[1]) + wide(d[2]) + wide(d[3]);
+    let booked = wide(c.booked);
+    if all < booked { booked - all } else { 0 }
+}
+
+// The session with another floor.
+pub fn begun(s: Session, floor: Floor) -> Session {
+    let mut next = s;
+    next.floor = floor;
+    next.rounds = 0;
+    next.made = true;
+    next
+}

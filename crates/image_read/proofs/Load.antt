@@ -1,0 +1,297 @@
+-- The parts joined: the canisters are those of the floor that was read, and each return of read_front and read_image is what the definitions say.
+use mathlib.Core.Path.{_≡_, refl, sym, ap, _∙_}
+use mathlib.Core.Logic.{_⊎_, inl, inr, _≢_}
+use mathlib.Core.Bool.{Bool, true, false, cond, _&&_}
+use mathlib.Core.List.{List, _∷_}
+use Prim.Native.Nat.{ℕ, zero, suc, _+_, _*_, _/_, _%_, _≤_, _<_}
+use native.Mathlib.Omega.{arith}
+use native.Mathlib.Decide.{decLe}
+use lib.Dec.{ltb, eqb}
+use borrow.Author.Tests.{lt-ltb, le-ltb, ne-eqb}
+use lib.ListN.{length, take, drop, getD, List·getD-eq-default}
+use lib.Seq.{drop-drop, getD-take, length-take-le}
+use Rattle.laws.specs.Define.{tab, allOf, bitsBelow, refusal}
+use Rattle.laws.proofs.Tests.{by-test}
+use Rattle.laws.proofs.SetBits.{bits-within}
+use Rattle.laws.proofs.Tables.{tab-length, tab-at, tab-same, filled}
+use Rattle.image_bytes.specs.Bytes.{le, field}
+use Rattle.floor.specs.declared.Settings.{Settings}
+use Rattle.floor.specs.declared.Counters.{Counters}
+use Rattle.floor.specs.declared.Canister.{Canister}
+use Rattle.floor.specs.declared.Tile.{Tile}
+use Rattle.floor.specs.declared.Layout.{Layout}
+use Rattle.floor.specs.Settings.{total, hoppersOf}
+use Rattle.floor.specs.Model.{TileState}
+use Rattle.floor.specs.Memory.{zeroCanister, zeroLayout, zeroFloor, unused, head, rows, layoutPlaces, build, pack}
+use Rattle.floor.proofs.Rows.{rows-filled}
+use Rattle.image.specs.Image.{hopperCount, tileWidths, lengthIn, bodyIn, restIn, settingsIn, countersIn, canisterIn, canistersIn, tileIn, tilesIn, layoutIn, layoutsIn, afterLayouts, modelIn, recordFault, orElse, tilesFault, laidFault, fault, answerBy, named, recordsRefusal, recordsAnswer}
+use Rattle.image.proofs.Records.{whole}
+use Rattle.image.proofs.LoadedWrites.{canisters-length, settings-good, counters-good}
+use Rattle.image_record_read.proofs.Refusals.{room-20}
+use Rattle.image.proofs.Read.{first-measured}
+use Rattle.image_record_read.specs.Scan.{layoutFrom, Laying, Starts}
+use Rattle.image_record_read.proofs.Values.{layout-some}
+use Rattle.image_record_read.proofs.Walk.{rest-at, record-room, tiles-at, tiles-off}
+use Rattle.image_read.specs.Arrays.{canisterAt, canisterFrom}
+use Rattle.image_read.specs.declared.Front.{Front}
+use Rattle.image_read.specs.Front.{frontFault, FrontRead}
+
+-- ---- the canisters, by their place
+canisters-at : (n j : ℕ) (b : List ℕ) → j < n → getD (canistersIn n b) j zeroCanister ≡ canisterIn (drop (8 * j) b)
+unfolding canistersIn
+canisters-at zero j b h = absurd (omega arith)
+canisters-at (suc n) zero b h = refl
+canisters-at (suc n) (suc j) b h =
+    let e : 8 + 8 * j ≡ 8 * suc j = omega arith in
+    canisters-at n j (drop 8 b) (omega arith) ∙ rw (drop-drop (8 * j) 8 b, e)
+
+members-some : (b : List ℕ) (j : ℕ) → j < field tileWidths 5 b → getD (tileIn b .members) j zeroCanister ≡ canisterIn (drop (8 * j) (drop 6 b))
+unfolding tileIn
+members-some b j h = canisters-at (field tileWidths 5 b) j (drop 6 b) h
+
+members-none : (b : List ℕ) (j : ℕ) → field tileWidths 5 b ≤ j → getD (tileIn b .members) j zeroCanister ≡ zeroCanister
+unfolding tileIn
+members-none b j h = List·getD-eq-default (canistersIn (field tileWidths 5 b) (drop 6 b)) zeroCanister (omega (arith, canisters-length (field tileWidths 5 b) (drop 6 b)))
+
+module _ (s xs starts : List ℕ) (n : ℕ) (f : Starts s xs starts n) where
+  abbrev shown : ℕ → TileState
+  shown t = getD (tilesIn n xs) t unused
+
+  tile-is : (t : ℕ) → t < n → shown t ≡ tileIn (drop (getD starts t 0) s)
+  tile-is t h = tiles-at n t xs h ∙ ap (λ (l : List ℕ). tileIn l) (sym (f t h .spot))
+
+  place-is : (t j : ℕ) → canisterAt s (getD starts t 0) (ltb t n) j ≡ getD (shown t .members) j zeroCanister
+  unfolding canisterAt
+  place-is t j = go (decLe (suc t) n) (decLe (suc j) (field tileWidths 5 (drop (getD starts t 0) s)))
+    where
+      p : ℕ
+      p = getD starts t 0
+
+      m : ℕ
+      m = field tileWidths 5 (drop (getD starts t 0) s)
+
+      go : Dec (t < n) → Dec (j < field tileWidths 5 (drop (getD starts t 0) s))
+          → cond (ltb t n && ltb j (field tileWidths 5 (drop (getD starts t 0) s))) (canisterIn (drop (getD starts t 0 + 6 + 8 * j) s)) zeroCanister ≡ getD (shown t .members) j zeroCanister
+      go (no h) d = let k : n ≤ t = omega arith in rw (le-ltb t n k) (sym (ap (λ (x : TileState). getD (x .members) j zeroCanister) (tiles-off n t xs k)))
+      go (yes h) (yes q) =
+          let e : getD (shown t .members) j zeroCanister ≡ canisterIn (drop (8 * j) (drop 6 (drop p s))) = ap (λ (x : TileState). getD (x .members) j zeroCanister) (tile-is t h) ∙ members-some (drop p s) j q in
+          let d : drop (8 * j) (drop 6 (drop p s)) ≡ drop (p + 6 + 8 * j) s = rw (drop-drop 6 p s, drop-drop (8 * j) (p + 6) s) in
+          rw (lt-ltb t n h, lt-ltb j m q, e, d)
+      go (yes h) (no q) =
+          let k : m ≤ j = omega arith in
+          let e : getD (shown t .members) j zeroCanister ≡ zeroCanister = ap (λ (x : TileState). getD (x .members) j zeroCanister) (tile-is t h) ∙ members-none (drop p s) j k in
+          rw (lt-ltb t n h, le-ltb j m k, e)
+
+  pub canisters-are : tab 1024 (canisterFrom s starts n) ≡ rows 64 0 shown
+  canisters-are = rows-filled shown (tab 1024 (canisterFrom s starts n)) (tab-length 1024 (canisterFrom s starts n)) (λ i k. tab-at 1024 (canisterFrom s starts n) i zeroCanister k ∙ place-is (i / 16) (i % 16))
+
+-- ---- the records in order
+or-assoc : (a b c : ℕ) → orElse (orElse a b) c ≡ orElse a (orElse b c)
+or-assoc a b c = go (by-test (eqb a 0))
+  where
+    go : (eqb a 0 ≡ true) ⊎ (eqb a 0 ≡ false) → orElse (orElse a b) c ≡ orElse a (orElse b c)
+    go (inl e) = rw e
+    go (inr e) = rw (e, e)
+
+module _ (xs : List ℕ) where
+  abbrev settings : Settings
+  settings = settingsIn (lengthIn xs) (bodyIn xs)
+
+  front-1 : recordFault 1 0 xs ≢ 0 → frontFault xs ≡ recordFault 1 0 xs
+  unfolding frontFault
+  front-1 h = rw (ne-eqb (recordFault 1 0 xs) 0 h)
+
+  front-2 : recordFault 1 0 xs ≡ 0 → recordFault 2 (hopperCount settings) (restIn xs) ≢ 0 → frontFault xs ≡ recordFault 2 (hopperCount settings) (restIn xs)
+  unfolding frontFault
+  front-2 z h = rw (z, ne-eqb (recordFault 2 (hopperCount settings) (restIn xs)) 0 h)
+
+  front-3 : recordFault 1 0 xs ≡ 0 → recordFault 2 (hopperCount settings) (restIn xs) ≡ 0 → frontFault xs ≡ laidFault 8 (restIn (restIn xs))
+  unfolding frontFault
+  front-3 z y = rw (z, y)
+
+  -- the front, then the tiles
+  fault-front : fault xs ≡ orElse (frontFault xs) (tilesFault (total settings) 0 (afterLayouts 8 (restIn (restIn xs))))
+  unfolding fault frontFault
+  fault-front =
+      let a = recordFault 1 0 xs in
+      let b = recordFault 2 (hopperCount settings) (restIn xs) in
+      let c = laidFault 8 (restIn (restIn xs)) in
+      let t = tilesFault (total settings) 0 (afterLayouts 8 (restIn (restIn xs))) in
+      sym (or-assoc a (orElse b c) t ∙ ap (λ (k : ℕ). orElse a k) (or-assoc b c t))
+
+  answer-refused : (k : ℕ) → fault xs ≡ k → k ≢ 0 → record { refusal = k; floor = zeroFloor } ≡ recordsAnswer xs
+  unfolding recordsAnswer recordsRefusal answerBy
+  answer-refused k e h = rw (e, ne-eqb k 0 h, ne-eqb k 0 h)
+
+  pub answer-1 : (k : ℕ) → k ≡ frontFault xs → k ≢ 0 → record { refusal = k; floor = zeroFloor } ≡ recordsAnswer xs
+  answer-1 k e h = answer-refused k (fault-front ∙ rw (← e, ne-eqb k 0 h)) h
+
+-- ---- room for the records that were found
+pub no-fault : (k n : ℕ) → k ≡ n → k ≡ 0 → n ≡ 0
+no-fault k n e z = sym e ∙ z
+
+pub record First (xs : List ℕ) : Type 0 where
+  pub long : (lengthIn xs ≡ 20) ⊎ (lengthIn xs ≡ 28)
+  pub enough : 4 + lengthIn xs ≤ length xs
+  pub room : 24 ≤ length xs
+
+pub first-ok : (xs : List ℕ) → recordFault 1 0 xs ≡ 0 → First xs
+first-ok xs h =
+    let w = whole 1 0 xs h in
+    let e = settings-good xs w .long in
+    record { long = e; enough = w .enough; room = omega (arith, room-20 4 (lengthIn xs) (length xs) (w .enough) e) }
+
+pub record Second (h : ℕ) (xs : List ℕ) : Type 0 where
+  pub long : lengthIn xs ≡ 8 + 4 * h
+  pub enough : 12 + 4 * h ≤ length xs
+
+pub second-ok : (h : ℕ) (xs : List ℕ) → recordFault 2 h xs ≡ 0 → Second h xs
+second-ok h xs z =
+    let w = whole 2 h xs z in
+    let e = counters-good h xs w in
+    record { long = e; enough = omega (arith, w .enough) }
+
+-- the settings that the code read
+pub settings-are : (x : List ℕ) (u : ℕ) → u ≡ le 2 x → (st : Settings) → st ≡ settingsIn (lengthIn x) (bodyIn x) → st ≡ settingsIn u (drop 4 x)
+settings-are x u n1 st e = e ∙ ap (λ (n : ℕ). settingsIn n (drop 4 x)) (sym n1)
+
+-- how many hoppers the code counts
+pub hoppers-are : (x : List ℕ) → recordFault 1 0 x ≡ 0 → (u : ℕ) → u ≡ le 2 x → (st : Settings) → st ≡ settingsIn u (drop 4 x) → (h : ℕ) → h ≡ length (bitsBelow (st .hoppers) 64) → h ≡ hopperCount (settingsIn (lengthIn x) (bodyIn x))
+unfolding hoppersOf
+hoppers-are x z u n1 st se h e =
+    let M = first-measured x z in
+    let s = settingsIn (lengthIn x) (bodyIn x) in
+    let q : st ≡ s = se ∙ ap (λ (n : ℕ). settingsIn n (drop 4 x)) n1 in
+    e ∙ ap (λ (y : Settings). length (bitsBelow (y .hoppers) 64)) q ∙ ap (λ (l : List ℕ). length l) (bits-within (s .hoppers) (total s) 64 (M .few) (M .hoppers-on))
+
+pub hoppers-few : (x : List ℕ) → recordFault 1 0 x ≡ 0 → (h : ℕ) → h ≡ hopperCount (settingsIn (lengthIn x) (bodyIn x)) → h ≤ 4
+hoppers-few x z h e = omega (arith, first-measured x z .hoppers-few)
+
+-- ---- the layouts that were read
+less-suc : (k n : ℕ) → ltb k n ≡ ltb (suc k) (suc n)
+less-suc k n = go (decLe (suc k) n)
+  where
+    go : Dec (k < n) → ltb k n ≡ ltb (suc k) (suc n)
+    go (yes h) = lt-ltb k n h ∙ sym (lt-ltb (suc k) (suc n) (omega arith))
+    go (no h) = le-ltb k n (omega arith) ∙ sym (le-ltb (suc k) (suc n) (omega arith))
+
+places-tab : (m n : ℕ) (g : ℕ → Layout) → layoutPlaces m (tab n g) ≡ tab m (λ k. cond (ltb k n) (g k) zeroLayout)
+unfolding layoutPlaces tab
+places-tab zero n g = refl
+places-tab (suc m) zero g =
+    ap (λ (l : List Layout). zeroLayout ∷ l) (places-tab m zero (λ k. g (suc k)) ∙ tab-same m _ _ (λ k h. rw (le-ltb k 0 (omega arith), le-ltb (suc k) 0 (omega arith))))
+places-tab (suc m) (suc n) g =
+    rw (lt-ltb 0 (suc n) (omega arith))
+    (ap (λ (l : List Layout). g 0 ∷ l) (places-tab m n (λ k. g (suc k)) ∙ tab-same m _ _ (λ k h. ap (λ (b : Bool). cond b (g (suc k)) zeroLayout) (less-suc k n))))
+
+module _ (s : List ℕ) (from n : ℕ) (ls : List Layout) (L : Laying s from n ls) where
+  abbrev ys : List ℕ
+  ys = drop from s
+
+  abbrev each : ℕ → Layout
+  each k = layoutIn (drop (from + 4 + 20 * k) s)
+
+  layouts-are : tab 8 (layoutFrom s from n) ≡ layoutPlaces 8 (layoutsIn 8 ys)
+  unfolding layoutFrom
+  layouts-are = sym (ap (layoutPlaces 8) (L .values) ∙ places-tab 8 n each)
+
+  layouts-first : take n (tab 8 (layoutFrom s from n)) ≡ layoutsIn 8 ys
+  layouts-first =
+      let f = layoutFrom s from n in
+      let len : length (take n (tab 8 f)) ≡ n = length-take-le n (tab 8 f) (omega (arith, tab-length 8 f, L .few)) in
+      filled n each zeroLayout (take n (tab 8 f)) len (λ i h. getD-take n (tab 8 f) i zeroLayout h ∙ tab-at 8 f i zeroLayout (omega (arith, L .few)) ∙ sym (layout-some s from n i h)) ∙ sym (L .values)
+
+-- ---- the returns of read_front; u and w are the lengths of the bodies of records 1 and 2
+pub stop-1 : (x : List ℕ) (k : ℕ) → k ≡ recordFault 1 0 x → k ≢ 0 → k ≡ frontFault x
+stop-1 x k e h = e ∙ sym (front-1 x (λ q. h (e ∙ q)))
+
+module _ (x : List ℕ) (z1 : recordFault 1 0 x ≡ 0) (u : ℕ) (n1 : u ≡ le 2 x) (h : ℕ) (he : h ≡ hopperCount (settingsIn (lengthIn x) (bodyIn x))) where
+  rest-1 : drop (4 + u) x ≡ restIn x
+  rest-1 = rw n1
+
+  second-is : recordFault 2 h (drop (4 + u) x) ≡ recordFault 2 (hopperCount (settingsIn (lengthIn x) (bodyIn x))) (restIn x)
+  second-is = ap (recordFault 2 h) rest-1 ∙ ap (λ (n : ℕ). recordFault 2 n (restIn x)) he
+
+  pub stop-2 : (k : ℕ) → k ≡ recordFault 2 h (drop (4 + u) x) → k ≢ 0 → k ≡ frontFault x
+  stop-2 k e ne = let q = e ∙ second-is in q ∙ sym (front-2 x z1 (λ o. ne (q ∙ o)))
+
+  module _ (z2 : recordFault 2 h (drop (4 + u) x) ≡ 0) (w : ℕ) (n2 : w ≡ le 2 (drop (4 + u) x)) where
+    rest-2 : drop (4 + u + 4 + w) x ≡ restIn (restIn x)
+    rest-2 = sym (rest-at x (4 + u) w n2) ∙ ap (λ (l : List ℕ). restIn l) rest-1
+
+    pub third-fits : 4 + u + 4 + w ≤ length x
+    third-fits =
+        let k = first-ok x z1 in
+        let r : 4 + u + 4 + le 2 (drop (4 + u) x) ≤ length x = record-room x (4 + u) 2 h (omega (arith, k .enough, n1)) z2 in
+        omega (arith, n2)
+
+    pub front-is : (k : ℕ) → k ≡ laidFault 8 (drop (4 + u + 4 + w) x) → k ≡ frontFault x
+    front-is k e = e ∙ ap (laidFault 8) rest-2 ∙ sym (front-3 x z1 (sym second-is ∙ z2))
+
+    pub front-read : (st : Settings) → st ≡ settingsIn u (drop 4 x) → (ct : Counters) → ct ≡ countersIn h (bodyIn (drop (4 + u) x)) → (n : ℕ) (ls : List Layout) → Laying x (4 + u + 4 + w) n ls → (r : Front)
+        → r .settings ≡ st → r .counters ≡ ct → r .layouts ≡ ls → r .count ≡ n → r .next ≡ 4 + u + 4 + w + 20 * n → FrontRead x r
+    unfolding modelIn
+    front-read st se ct ce n ls L r rs rc rl rn rx =
+        let s1 : r .settings ≡ settingsIn (lengthIn x) (bodyIn x) = rs ∙ se ∙ ap (λ (n : ℕ). settingsIn n (drop 4 x)) n1 in
+        let c1 : r .counters ≡ countersIn (hopperCount (settingsIn (lengthIn x) (bodyIn x))) (bodyIn (restIn x)) = rc ∙ ce ∙ ap (λ (l : List ℕ). countersIn h (bodyIn l)) rest-1 ∙ ap (λ (n : ℕ). countersIn n (bodyIn (restIn x))) he in
+        let from = 4 + u + 4 + w in
+        record {
+          settings = s1;
+          counters = c1;
+          layouts = rl ∙ L .places ∙ layouts-are x from n ls L ∙ ap (λ (l : List ℕ). layoutPlaces 8 (layoutsIn 8 l)) rest-2;
+          used = (λ i. take (rn i) (rl i)) ∙ ap (take n) (L .places) ∙ layouts-first x from n ls L ∙ ap (layoutsIn 8) rest-2;
+          few = rw rn (L .few);
+          size = rw s1 (first-measured x z1 .few);
+          room = rw rx (L .room);
+          rest = ap (afterLayouts 8) (sym rest-2) ∙ L .rest ∙ ap (λ (k : ℕ). drop k x) (sym rx);
+        }
+
+-- ---- the returns of read_image
+module _ (xs : List ℕ) (r : Front) (F : FrontRead xs r) (z : frontFault xs ≡ 0) where
+  abbrev c : ℕ
+  c = total (r .settings)
+
+  tiles-same : tilesIn c (drop (r .next) xs) ≡ modelIn xs .tiles
+  unfolding modelIn
+  tiles-same = ap (λ (y : Settings). tilesIn (total y) (drop (r .next) xs)) (F .settings) ∙ ap (tilesIn (total (settingsIn (lengthIn xs) (bodyIn xs)))) (sym (F .rest))
+
+  fault-is : fault xs ≡ tilesFault c 0 (drop (r .next) xs)
+  unfolding modelIn
+  fault-is =
+      let t = tilesFault (total (settingsIn (lengthIn xs) (bodyIn xs))) 0 (afterLayouts 8 (restIn (restIn xs))) in
+      fault-front xs ∙ ap (λ (k : ℕ). orElse k t) z ∙ ap (λ (y : Settings). tilesFault (total y) 0 (afterLayouts 8 (restIn (restIn xs)))) (sym (F .settings)) ∙ ap (tilesFault c 0) (F .rest)
+
+  pub answer-2 : (k : ℕ) → k ≡ tilesFault c 0 (drop (r .next) xs) → k ≢ 0 → record { refusal = k; floor = zeroFloor } ≡ recordsAnswer xs
+  answer-2 k e h = answer-refused xs k (fault-is ∙ sym e) h
+
+  module _ (y : tilesFault c 0 (drop (r .next) xs) ≡ 0) (b : Bool) (e : b ≡ allOf (λ x. ltb 0 (x .name)) (take (r .count) (r .layouts))) where
+    all-are : b ≡ named (modelIn xs)
+    unfolding named
+    all-are = e ∙ ap (allOf (λ x. ltb 0 (x .name))) (F .used)
+
+    pub answer-3 : b ≡ false → record { refusal = 12; floor = zeroFloor } ≡ recordsAnswer xs
+    unfolding recordsAnswer recordsRefusal answerBy refusal
+    answer-3 f = rw (fault-is ∙ y, sym all-are ∙ f)
+
+    good : b ≡ true → record { refusal = 0; floor = pack (modelIn xs) } ≡ recordsAnswer xs
+    unfolding recordsAnswer recordsRefusal answerBy refusal
+    good f = rw (fault-is ∙ y, sym all-are ∙ f)
+
+    pack-is : pack (modelIn xs) ≡ record {
+      settings = modelIn xs .settings;
+      counters = modelIn xs .counters;
+      tiles = tab 64 (λ t. head (getD (modelIn xs .tiles) t unused));
+      canisters = rows 64 0 (λ t. getD (modelIn xs .tiles) t unused);
+      layouts = layoutPlaces 8 (modelIn xs .layouts);
+    }
+    unfolding pack build
+    pack-is = refl
+
+    pub answer-4 : (ts : List Tile) (cs : List Canister) (starts : List ℕ) → b ≡ true → Starts xs (drop (r .next) xs) starts c
+        → ts ≡ tab 64 (λ t. head (getD (tilesIn c (drop (r .next) xs)) t unused)) → cs ≡ tab 1024 (canisterFrom xs starts c)
+        → record { refusal = 0; floor = record { settings = r .settings; counters = r .counters; tiles = ts; canisters = cs; layouts = r .layouts } } ≡ recordsAnswer xs
+    answer-4 ts cs starts f ss te ke =
+        let vs = drop (r .next) xs in
+        let t1 : ts ≡ tab 64 (λ t. head (getD (modelIn xs .tiles) t unused)) = te ∙ ap (λ (l : List TileState). tab 64 (λ t. head (getD l t unused))) tiles-same in
+        let c1 : cs ≡ rows 64 0 (λ t. getD (modelIn xs .tiles) t unused) = ke ∙ canisters-are xs vs starts c ss ∙ ap (λ (l : List TileState). rows 64 0 (λ t. getD l t unused)) tiles-same in
+        (λ i. record { refusal = 0; floor = record { settings = F .settings i; counters = F .counters i; tiles = t1 i; canisters = c1 i; layouts = F .layouts i } }) ∙ rw (← pack-is) (good f)

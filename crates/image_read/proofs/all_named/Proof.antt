@@ -1,0 +1,51 @@
+use mathlib.Core.Path.{_≡_, refl, sym}
+use Prim.Native.Nat.{_-_, _≤_}
+use native.Mathlib.Omega.{arith}
+use lib.Dec.{ltb}
+use lib.ListN.{length, take}
+use Rattle.laws.specs.Define.{allOf}
+use Rattle.laws.proofs.Tables.{all-zero, all-step}
+use Rattle.floor.specs.Memory.{zeroLayout}
+use borrow.Author.Needs.{needs}
+use Rattle.image_read.proofs.all_named.Statement.{statement}
+use Rattle.image_read.proofs.all_named.Tie as tie
+use Rattle.image_read.proofs.all_named.Reads as reads
+use Rattle.image_read.proofs.all_named.Lts as lts
+
+abbrev Inv-loop : tie.InvT-loop
+Inv-loop n all ok₀ k₀ ok k = (k ≤ n) × (n ≤ 8) × (length all ≡ 8) × (ok ≡ allOf (λ x. ltb 0 (x .name)) (take k all))
+
+abbrev μ-loop : tie.MeasureT-loop
+μ-loop n all ok₀ k₀ ok k = n - k
+
+loop-holds : tie.Need-loop-holds Inv-loop μ-loop
+loop-holds c = (omega arith, c .pre, c .good .0 .1 .0 .1, sym (all-zero (λ x. ltb 0 (x .name)) (c .args .t1)))
+
+mul-x : tie.Need-mul-x Inv-loop μ-loop
+mul-x c = search needs
+
+array-copy-out-x : tie.Need-array-copy-out-x Inv-loop μ-loop
+array-copy-out-x c = search needs
+
+add-k : tie.Need-add-k Inv-loop μ-loop
+add-k c = search needs
+
+loop-less : tie.Need-loop-less Inv-loop μ-loop
+loop-less c = search needs
+
+loop-again : tie.Need-loop-again Inv-loop μ-loop
+loop-again c =
+    let l = c .before .before .before .loop in
+    let g = c .before .before .before .before .args in
+    (omega arith, l .inv .1, l .inv .2, all-step (λ x. ltb 0 (x .name)) g.t1 (l .k) zeroLayout (omega arith) (l .inv .3) refl)
+
+returns : tie.Need-returns Inv-loop μ-loop
+returns c =
+    let l = c .before .loop in
+    let e : l .k ≡ c .before .before .args .n = omega arith in
+    rw e at (l .inv .3)
+
+pub all-named-spec : {M : Type 1} → statement M
+all-named-spec =
+    tie.close
+    (tie.spec Inv-loop μ-loop loop-holds mul-x array-copy-out-x add-k loop-less loop-again returns)

@@ -1,0 +1,33 @@
+use Rattle.image_read.proofs.Reading.{canister-code}
+use borrow.Author.Needs.{needs}
+use Rattle.image_read.proofs.canister_at.Statement.{statement}
+use Rattle.image_read.proofs.canister_at.Tie as tie
+use Rattle.image_read.proofs.canister_at.Reads as reads
+use Rattle.image_read.proofs.canister_at.Lts as lts
+use Rattle.image_bytes.proofs.u16_at.Reads as u16-at-reads
+use Rattle.image_bytes.proofs.u32_at.Reads as u32-at-reads
+
+u32-at-requires : tie.Need-u32-at-requires
+u32-at-requires c κs = search needs
+
+add-u16-at : tie.Need-add-u16-at
+add-u16-at c = search needs
+
+u16-at-requires : tie.Need-u16-at-requires
+u16-at-requires c κs = search needs
+
+add-u16-at-2 : tie.Need-add-u16-at-2
+add-u16-at-2 c = search needs
+
+u16-at-requires-2 : tie.Need-u16-at-requires-2
+u16-at-requires-2 c κs = search needs
+
+returns : tie.Need-returns
+returns c =
+    let g = c .before .before .before .before .args in
+    rw (canister-code (g.s .now) g.at, c .before .before .u32-at .ensures, c .before .u16-at .ensures, c .u16-at2 .ensures)
+
+pub canister-at-spec : {M : Type 1} → statement M
+canister-at-spec =
+    tie.close
+    (tie.spec u32-at-requires add-u16-at u16-at-requires add-u16-at-2 u16-at-requires-2 returns)

@@ -1,0 +1,161 @@
+use mathlib.Core.Path.{_≡_, refl}
+use Prim.Native.Nat.{_+_, _*_, _-_, _≤_, _<_}
+use native.Mathlib.Omega.{arith}
+use lib.ListN.{length, drop, getD}
+use Rattle.image_bytes.specs.Bytes.{field}
+use Rattle.image.specs.Image.{tileWidths}
+use Rattle.floor.specs.Memory.{zeroCanister}
+use Rattle.image_read.specs.Arrays.{canisterFrom}
+use Rattle.image_read.proofs.Reading.{count-is}
+use Rattle.image_record_read.proofs.Filled.{filled-none}
+use Rattle.image_read.proofs.Places.{Placed, placed-turn, placed-tile, placed-all}
+use borrow.Author.Needs.{needs}
+use Rattle.image_read.proofs.canisters_of.Statement.{statement}
+use Rattle.image_read.proofs.canisters_of.Tie as tie
+use Rattle.image_read.proofs.canisters_of.Reads as reads
+use Rattle.image_read.proofs.canisters_of.Lts as lts
+use Rattle.image_read.proofs.canister_at.Reads as canister-at-reads
+
+abbrev Inv-loop2 : tie.InvT-loop2
+Inv-loop2 s c starts out₀ t at n j₀ out j = (j ≤ n) × (t < c) × (c ≤ 64) × (n ≤ 16) × (at + 6 + 8 * n ≤ length s) × (length starts ≡ 64) × Placed s starts c (16 * t + j) out
+
+abbrev μ-loop2 : tie.MeasureT-loop2
+μ-loop2 s c starts out₀ t at n j₀ out j = n - j
+
+abbrev Inv-loop : tie.InvT-loop
+Inv-loop s c starts out₀ t₀ out t = (t ≤ c) × (c ≤ 64) × (length starts ≡ 64) × Placed s starts c (16 * t) out
+
+abbrev μ-loop : tie.MeasureT-loop
+μ-loop s c starts out₀ t₀ out t = c - t
+
+loop-holds : tie.Need-loop-holds Inv-loop2 μ-loop2 Inv-loop μ-loop
+loop-holds c = (omega arith, c .before .pre .0, c .before .good .1 .0 .1 .0 .1, filled-none 1024 (canisterFrom (c .before .args .s .now) (c .before .args .t2) (c .before .args .c)) zeroCanister)
+
+mul-at : tie.Need-mul-at Inv-loop2 μ-loop2 Inv-loop μ-loop
+mul-at c = search needs
+
+array-read-at : tie.Need-array-read-at Inv-loop2 μ-loop2 Inv-loop μ-loop
+array-read-at c = search needs
+
+add-n : tie.Need-add-n Inv-loop2 μ-loop2 Inv-loop μ-loop
+add-n c =
+    let g = c .before .before .before .args in
+    let l = c .before .loop in
+    let r : getD g.t2 (l .t) 0 + 6 + 8 * field tileWidths 5 (drop (getD g.t2 (l .t) 0) (g.s .now)) ≤ length (g.s .now) = c .before .before .before .pre .1 (l .t) (omega arith) in
+    omega arith
+
+shared-slice-read-n : tie.Need-shared-slice-read-n Inv-loop2 μ-loop2 Inv-loop μ-loop
+shared-slice-read-n c =
+    let g = c .before .before .before .before .args in
+    let l = c .before .before .loop in
+    let r : getD g.t2 (l .t) 0 + 6 + 8 * field tileWidths 5 (drop (getD g.t2 (l .t) 0) (g.s .now)) ≤ length (g.s .now) = c .before .before .before .before .pre .1 (l .t) (omega arith) in
+    omega arith
+
+cast-n : tie.Need-cast-n Inv-loop2 μ-loop2 Inv-loop μ-loop
+cast-n c =
+    let g = c .before .before .before .before .args in
+    omega (arith, c .shared-slice-known2 .given (getD g.t2 (c .before .before .loop .t) 0 + 5))
+
+loop2-holds : tie.Need-loop2-holds Inv-loop2 μ-loop2 Inv-loop μ-loop
+loop2-holds c =
+    let g = c .before .before .before .before .args in
+    let l = c .before .before .loop in
+    let r : getD g.t2 (l .t) 0 + 6 + 8 * field tileWidths 5 (drop (getD g.t2 (l .t) 0) (g.s .now)) ≤ length (g.s .now) = c .before .before .before .before .pre .1 (l .t) (omega arith) in
+    let few = c .before .before .before .before .pre .2 (l .t) (omega arith) in
+    let n = count-is (g.s .now) (getD g.t2 (l .t) 0) 0 (omega arith) in
+    let k : 16 * l .t + 0 ≡ 16 * l .t = omega arith in
+    (omega arith, omega arith, l .inv .1, omega (arith, n, few), omega (arith, n), l .inv .2, rw k (l .inv .3))
+
+add-canister-at : tie.Need-add-canister-at Inv-loop2 μ-loop2 Inv-loop μ-loop
+add-canister-at c = search needs
+
+mul-canister-at : tie.Need-mul-canister-at Inv-loop2 μ-loop2 Inv-loop μ-loop
+mul-canister-at c = search needs
+
+add-canister-at-2 : tie.Need-add-canister-at-2 Inv-loop2 μ-loop2 Inv-loop μ-loop
+add-canister-at-2 c = search needs
+
+canister-at-requires : tie.Need-canister-at-requires Inv-loop2 μ-loop2 Inv-loop μ-loop
+canister-at-requires c κs = search needs
+
+mul-out : tie.Need-mul-out Inv-loop2 μ-loop2 Inv-loop μ-loop
+mul-out c = search needs
+
+add-out : tie.Need-add-out Inv-loop2 μ-loop2 Inv-loop μ-loop
+add-out c = search needs
+
+mul-out-2 : tie.Need-mul-out-2 Inv-loop2 μ-loop2 Inv-loop μ-loop
+mul-out-2 c = search needs
+
+array-set-from-out : tie.Need-array-set-from-out Inv-loop2 μ-loop2 Inv-loop μ-loop
+array-set-from-out c = search needs
+
+add-j : tie.Need-add-j Inv-loop2 μ-loop2 Inv-loop μ-loop
+add-j c = search needs
+
+loop2-less : tie.Need-loop2-less Inv-loop2 μ-loop2 Inv-loop μ-loop
+loop2-less c = search needs
+
+loop2-again : tie.Need-loop2-again Inv-loop2 μ-loop2 Inv-loop μ-loop
+loop2-again c =
+    let g = c .before .before .before .before .before .before .before .args in
+    let l = c .before .before .before .before .before .loop in
+    let i = c .before .before .loop2 in (
+      omega arith,
+      i .inv .1,
+      i .inv .2,
+      i .inv .3,
+      i .inv .4,
+      i .inv .5,
+      placed-turn (g.s .now) g.t2 g.c (l .t) (i .inv .1) (i .inv .2) (omega arith) _ refl (i .inv .3) (i .j) (i .out) _ (omega arith) (c .canister-at .ensures) (i .inv .6),
+    )
+
+add-t : tie.Need-add-t Inv-loop2 μ-loop2 Inv-loop μ-loop
+add-t c = search needs
+
+loop-less : tie.Need-loop-less Inv-loop2 μ-loop2 Inv-loop μ-loop
+loop-less c = search needs
+
+loop-again : tie.Need-loop-again Inv-loop2 μ-loop2 Inv-loop μ-loop
+loop-again c =
+    let g = c .before .before .before .before .before .before .args in
+    let l = c .before .before .before .before .loop in
+    let i = c .before .loop2 in
+    (omega arith, l .inv .1, l .inv .2, placed-tile (g.s .now) g.t2 g.c (l .t) (i .inv .1) (i .inv .2) (omega arith) _ refl (i .inv .3) (i .j) (i .out) (omega arith) (i .inv .0) (i .inv .6))
+
+returns : tie.Need-returns Inv-loop2 μ-loop2 Inv-loop μ-loop
+returns c =
+    let g = c .before .before .before .args in
+    let l = c .before .loop in
+    placed-all (g.s .now) g.t2 g.c (l .t) (l .out) (omega arith) (omega arith) (l .inv .3)
+
+pub canisters-of-spec : {M : Type 1} → statement M
+canisters-of-spec =
+    tie.close
+    (tie.spec
+    Inv-loop2
+    μ-loop2
+    Inv-loop
+    μ-loop
+    loop-holds
+    mul-at
+    array-read-at
+    add-n
+    shared-slice-read-n
+    cast-n
+    loop2-holds
+    add-canister-at
+    mul-canister-at
+    add-canister-at-2
+    canister-at-requires
+    mul-out
+    add-out
+    mul-out-2
+    array-set-from-out
+    add-j
+    loop2-less
+    loop2-again
+    add-t
+    loop-less
+    loop-again
+    returns)

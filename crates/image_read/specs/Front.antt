@@ -1,0 +1,27 @@
+-- The front of an image, the records of kinds 1, 2 and 5: what refuses it, and what is kept of it.
+use mathlib.Core.Path.{_≡_}
+use mathlib.Core.List.{List}
+use Prim.Native.Nat.{ℕ, _≤_}
+use lib.ListN.{length, take, drop}
+use Rattle.floor.specs.Settings.{total}
+use Rattle.floor.specs.Memory.{layoutPlaces}
+use Rattle.image.specs.Image.{hopperCount, lengthIn, bodyIn, restIn, settingsIn, afterLayouts, modelIn, recordFault, orElse, laidFault}
+use Rattle.image_read.specs.declared.Front.{Front}
+
+unfoldable pub frontFault : List ℕ → ℕ
+frontFault xs =
+    let s = settingsIn (lengthIn xs) (bodyIn xs) in
+    orElse (recordFault 1 0 xs)
+    (orElse (recordFault 2 (hopperCount s) (restIn xs))
+    (laidFault 8 (restIn (restIn xs))))
+
+-- r is the front of the floor that xs hold; the tiles' records begin at its `next`
+pub record FrontRead (xs : List ℕ) (r : Front) : Type 0 where
+  pub settings : r .settings ≡ modelIn xs .settings
+  pub counters : r .counters ≡ modelIn xs .counters
+  pub layouts : r .layouts ≡ layoutPlaces 8 (modelIn xs .layouts)
+  pub used : take (r .count) (r .layouts) ≡ modelIn xs .layouts
+  pub few : r .count ≤ 8
+  pub size : total (r .settings) ≤ 64
+  pub room : r .next ≤ length xs
+  pub rest : afterLayouts 8 (restIn (restIn xs)) ≡ drop (r .next) xs

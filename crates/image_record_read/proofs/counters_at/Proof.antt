@@ -1,0 +1,97 @@
+use mathlib.Core.Path.{_≡_, refl}
+use Prim.Native.Nat.{ℕ, zero, suc, _+_, _-_, _*_, _≤_}
+use native.Mathlib.Omega.{arith}
+use lib.ListN.{length, getD, drop, replicate, length-set}
+use Rattle.laws.specs.Filled.{Upto, From}
+use Rattle.laws.proofs.Tables.{upto-turn, rest-turn}
+use Rattle.image_bytes.specs.Bytes.{le}
+use Rattle.image_record_read.proofs.Values.{counters-code}
+use borrow.Author.Needs.{needs}
+use Rattle.image_record_read.proofs.counters_at.Statement.{statement}
+use Rattle.image_record_read.proofs.counters_at.Tie as tie
+use Rattle.image_record_read.proofs.counters_at.Reads as reads
+use Rattle.image_record_read.proofs.counters_at.Lts as lts
+use Rattle.image_bytes.proofs.u32_at.Reads as u32-at-reads
+
+zeros : (k : ℕ) → _≡_ {A = ℕ} (getD (replicate 4 0) k 0) 0
+zeros zero = refl
+zeros (suc zero) = refl
+zeros (suc (suc zero)) = refl
+zeros (suc (suc (suc zero))) = refl
+zeros (suc (suc (suc (suc k)))) = refl
+
+abbrev Inv-loop : tie.InvT-loop
+Inv-loop s at h last booked n delivered₀ k₀ delivered k = (k ≤ h) × (h ≤ 4) × (n ≡ h) × (at + 8 + 4 * h ≤ length s) × (length delivered ≡ 4) × Upto k (λ j. le 4 (drop (at + 8 + 4 * j) s)) 0 delivered × From k (λ _. 0) 0 delivered
+
+abbrev μ-loop : tie.MeasureT-loop
+μ-loop s at h last booked n delivered₀ k₀ delivered k = n - k
+
+u32-at-requires : tie.Need-u32-at-requires Inv-loop μ-loop
+u32-at-requires c κs = search needs
+
+add-u32-at : tie.Need-add-u32-at Inv-loop μ-loop
+add-u32-at c = search needs
+
+u32-at-requires-2 : tie.Need-u32-at-requires-2 Inv-loop μ-loop
+u32-at-requires-2 c κs = search needs
+
+loop-holds : tie.Need-loop-holds Inv-loop μ-loop
+loop-holds c = let S = c .before .before .before in (omega arith, S .pre .1, refl, S .pre .0, refl, λ i h. absurd (omega arith), λ i h. zeros i)
+
+add-u32-at-2 : tie.Need-add-u32-at-2 Inv-loop μ-loop
+add-u32-at-2 c = search needs
+
+mul-u32-at : tie.Need-mul-u32-at Inv-loop μ-loop
+mul-u32-at c = search needs
+
+add-u32-at-3 : tie.Need-add-u32-at-3 Inv-loop μ-loop
+add-u32-at-3 c = search needs
+
+u32-at-requires-3 : tie.Need-u32-at-requires-3 Inv-loop μ-loop
+u32-at-requires-3 c κs = search needs
+
+mul-delivered : tie.Need-mul-delivered Inv-loop μ-loop
+mul-delivered c = search needs
+
+array-write-delivered : tie.Need-array-write-delivered Inv-loop μ-loop
+array-write-delivered c = search needs
+
+add-k : tie.Need-add-k Inv-loop μ-loop
+add-k c = search needs
+
+loop-less : tie.Need-loop-less Inv-loop μ-loop
+loop-less c = search needs
+
+loop-again : tie.Need-loop-again Inv-loop μ-loop
+loop-again c =
+    let l = c .before .before .loop in
+    let g = c .before .before .before .before .before .before .args in
+    (omega arith, l .inv .1, l .inv .2, l .inv .3, simp length-set (l .inv .4), upto-turn (l .k) (λ j. le 4 (drop (g.at + 8 + 4 * j) (g.s .now))) 0 (l .delivered) _ (omega arith) (l .inv .5) (c .u32-at3 .ensures), rest-turn (l .k) (λ _. 0) 0 (l .delivered) _ (l .inv .6))
+
+returns : tie.Need-returns Inv-loop μ-loop
+returns c =
+    let l = c .before .loop in
+    let g = c .before .before .before .before .before .args in
+    let e : l .k ≡ g.h = omega (arith, c .loop-test .left) in
+    rw (counters-code (g.s .now) g.at g.h (l .delivered) (l .inv .4) (λ k h. l .inv .5 k (omega arith)) (λ k h. l .inv .6 k (omega arith)), c .before .before .before .u32-at .ensures, c .before .before .u32-at2 .ensures)
+
+pub counters-at-spec : {M : Type 1} → statement M
+counters-at-spec =
+    tie.close
+    (tie.spec
+    Inv-loop
+    μ-loop
+    u32-at-requires
+    add-u32-at
+    u32-at-requires-2
+    loop-holds
+    add-u32-at-2
+    mul-u32-at
+    add-u32-at-3
+    u32-at-requires-3
+    mul-delivered
+    array-write-delivered
+    add-k
+    loop-less
+    loop-again
+    returns)

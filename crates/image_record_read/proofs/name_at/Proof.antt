@@ -1,0 +1,81 @@
+use mathlib.Core.Path.{_≡_, refl}
+use mathlib.Core.List.{[]}
+use Prim.Native.Nat.{ℕ, _+_, _-_, _*_, _^_, _≤_, _<_}
+use native.Mathlib.Omega.{arith}
+use native.Mathlib.Nat.{lt-of-lt-of-le}
+use lib.Pow.{pow-mono}
+use lib.ListN.{length, take, drop, getD}
+use Rattle.floor.specs.Layouts.{nameNumber}
+use Rattle.image_record_read.proofs.Values.{name-turn, name-fits}
+use borrow.Author.Needs.{needs}
+use Rattle.image_record_read.proofs.name_at.Statement.{statement}
+use Rattle.image_record_read.proofs.name_at.Tie as tie
+use Rattle.image_record_read.proofs.name_at.Reads as reads
+use Rattle.image_record_read.proofs.name_at.Lts as lts
+
+-- before the eighth byte
+low : (n k : ℕ) → k < 8 → n < 2 ^ (8 * k) → n < 2 ^ 56
+low n k h q = let e : 8 * k ≤ 56 = omega arith in lt-of-lt-of-le q (pow-mono e)
+
+nothing : 0 ≡ nameNumber []
+unfolding nameNumber
+nothing = refl
+
+abbrev Inv-loop : tie.InvT-loop
+Inv-loop s at n₀ k₀ n k = (k ≤ 8) × (at + 8 ≤ length s) × (n < 2 ^ (8 * k)) × (n ≡ nameNumber (take k (drop at s)))
+
+abbrev μ-loop : tie.MeasureT-loop
+μ-loop s at n₀ k₀ n k = 8 - k
+
+loop-holds : tie.Need-loop-holds Inv-loop μ-loop
+loop-holds c = (omega arith, omega arith, omega arith, nothing)
+
+mul-n : tie.Need-mul-n Inv-loop μ-loop
+mul-n c = let l = c .before .loop in omega (arith, low (l .n) (l .k) (omega arith) (l .inv .2))
+
+add-n : tie.Need-add-n Inv-loop μ-loop
+add-n c = search needs
+
+shared-slice-read-n : tie.Need-shared-slice-read-n Inv-loop μ-loop
+shared-slice-read-n c = search needs
+
+cast-n : tie.Need-cast-n Inv-loop μ-loop
+cast-n c = omega (arith, c .shared-slice-known .given (c .before .before .before .args .at + c .before .before .loop .k))
+
+add-n-2 : tie.Need-add-n-2 Inv-loop μ-loop
+add-n-2 c = let l = c .before .before .loop in omega (arith, low (l .n) (l .k) (omega arith) (l .inv .2), c .shared-slice-known .given (c .before .before .before .args .at + l .k))
+
+add-k : tie.Need-add-k Inv-loop μ-loop
+add-k c = search needs
+
+loop-less : tie.Need-loop-less Inv-loop μ-loop
+loop-less c = search needs
+
+loop-again : tie.Need-loop-again Inv-loop μ-loop
+loop-again c =
+    let l = c .before .before .loop in
+    let g = c .before .before .before .args in
+    (omega arith, l .inv .1, name-fits (l .k) (l .n) (getD (g.s .now) (g.at + l .k) 0) (omega (arith, c .shared-slice-known .given (g.at + l .k))) (l .inv .2), name-turn (g.s .now) g.at (l .k) (l .n) (omega arith) (l .inv .3))
+
+returns : tie.Need-returns Inv-loop μ-loop
+returns c =
+    let l = c .before .loop in
+    let e : l .k ≡ 8 = omega arith in
+    rw e at (l .inv .3)
+
+pub name-at-spec : {M : Type 1} → statement M
+name-at-spec =
+    tie.close
+    (tie.spec
+    Inv-loop
+    μ-loop
+    loop-holds
+    mul-n
+    add-n
+    shared-slice-read-n
+    cast-n
+    add-n-2
+    add-k
+    loop-less
+    loop-again
+    returns)

@@ -1,0 +1,52 @@
+use mathlib.Core.List.{_++_}
+use native.Mathlib.Omega.{arith}
+use Rattle.image_bytes.specs.Bytes.{bytes}
+use Rattle.image_bytes.proofs.ByteLaws.{bytes-length}
+use Rattle.image_record_write.proofs.RecordBytes.{pair-length}
+use Rattle.image_bytes.proofs.PutLaws.{put-three}
+use borrow.Author.Needs.{needs}
+use Rattle.image_record_write.proofs.put_measures.Statement.{statement}
+use Rattle.image_record_write.proofs.put_measures.Tie as tie
+use Rattle.image_record_write.proofs.put_measures.Reads as reads
+use Rattle.image_record_write.proofs.put_measures.Lts as lts
+use Rattle.image_bytes.proofs.put_u64.Reads as put-u64-reads
+use Rattle.image_record_write.proofs.put_pair.Reads as put-pair-reads
+
+put-pair-requires : tie.Need-put-pair-requires
+put-pair-requires c κs = search needs
+
+add-put-pair : tie.Need-add-put-pair
+add-put-pair c = search needs
+
+put-pair-requires-2 : tie.Need-put-pair-requires-2
+put-pair-requires-2 c κs = search needs
+
+add-put-u64 : tie.Need-add-put-u64
+add-put-u64 c = search needs
+
+put-u64-requires : tie.Need-put-u64-requires
+put-u64-requires c κs = search needs
+
+same-length : tie.Need-same-length
+same-length c = search needs
+
+returns : tie.Need-returns
+returns c =
+    let g = c .before .before .before .before .before .before .before .before .before .before .before .before .before .args in
+    let n1 = pair-length (g.x .width) (g.x .length) in
+    let n2 = pair-length (g.x .gap) (g.x .travel) in
+    let n3 = bytes-length 8 (g.x .sources) in
+    put-three (g.s .now) _ _ _ g.at _ _ (bytes 2 (g.x .width) ++ bytes 2 (g.x .length)) (bytes 2 (g.x .gap) ++ bytes 2 (g.x .travel)) (bytes 8 (g.x .sources)) (omega arith) (omega arith) (omega arith)
+    (c .before .before .before .before .before .before .before .before .before .before .put-pair .ensures) (c .before .before .before .before .before .before .put-pair2 .ensures) (c .before .before .put-u64 .ensures)
+
+pub put-measures-spec : {M : Type 1} → statement M
+put-measures-spec =
+    tie.close
+    (tie.spec
+    put-pair-requires
+    add-put-pair
+    put-pair-requires-2
+    add-put-u64
+    put-u64-requires
+    same-length
+    returns)

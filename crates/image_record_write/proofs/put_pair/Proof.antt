@@ -1,0 +1,32 @@
+use native.Mathlib.Omega.{arith}
+use Rattle.image_bytes.specs.Bytes.{bytes}
+use Rattle.image_bytes.proofs.ByteLaws.{bytes-length}
+use Rattle.image_bytes.proofs.PutLaws.{put-two}
+use borrow.Author.Needs.{needs}
+use Rattle.image_record_write.proofs.put_pair.Statement.{statement}
+use Rattle.image_record_write.proofs.put_pair.Tie as tie
+use Rattle.image_record_write.proofs.put_pair.Reads as reads
+use Rattle.image_record_write.proofs.put_pair.Lts as lts
+use Rattle.image_bytes.proofs.put_u16.Reads as put-u16-reads
+
+put-u16-requires : tie.Need-put-u16-requires
+put-u16-requires c κs = search needs
+
+add-put-u16 : tie.Need-add-put-u16
+add-put-u16 c = search needs
+
+put-u16-requires-2 : tie.Need-put-u16-requires-2
+put-u16-requires-2 c κs = search needs
+
+same-length : tie.Need-same-length
+same-length c = search needs
+
+returns : tie.Need-returns
+returns c =
+    let g = c .before .before .before .before .before .before .before .before .before .args in
+    put-two (g.s .now) _ _ g.at _ (bytes 2 g.x) (bytes 2 g.y) (omega (arith, bytes-length 2 g.x, bytes-length 2 g.y)) (omega (arith, bytes-length 2 g.x))
+    (c .before .before .before .before .before .before .put-u16 .ensures) (c .before .before .put-u162 .ensures)
+
+pub put-pair-spec : {M : Type 1} → statement M
+put-pair-spec =
+    tie.close (tie.spec put-u16-requires add-put-u16 put-u16-requires-2 same-length returns)

@@ -1,0 +1,66 @@
+use mathlib.Core.List.{_++_}
+use Prim.Native.Nat.{_+_, _*_}
+use native.Mathlib.Omega.{arith}
+use Rattle.image_bytes.specs.Bytes.{bytes}
+use Rattle.image_record_write.specs.Parts.{tileBytes}
+use Rattle.image_record_write.proofs.RecordBytes.{pair-length, three-length}
+use Rattle.image_bytes.proofs.PutLaws.{put-three}
+use borrow.Author.Needs.{needs}
+use Rattle.image_record_write.proofs.put_tile.Statement.{statement}
+use Rattle.image_record_write.proofs.put_tile.Tie as tie
+use Rattle.image_record_write.proofs.put_tile.Reads as reads
+use Rattle.image_record_write.proofs.put_tile.Lts as lts
+use Rattle.image_record_write.proofs.put_pair.Reads as put-pair-reads
+use Rattle.image_record_write.proofs.put_three.Reads as put-three-reads
+
+cast-put-pair : tie.Need-cast-put-pair
+cast-put-pair c = search needs
+
+mul-put-pair : tie.Need-mul-put-pair
+mul-put-pair c = search needs
+
+add-put-pair : tie.Need-add-put-pair
+add-put-pair c = search needs
+
+put-pair-requires : tie.Need-put-pair-requires
+put-pair-requires c κs = search needs
+
+add-put-three : tie.Need-add-put-three
+add-put-three c = search needs
+
+put-three-requires : tie.Need-put-three-requires
+put-three-requires c κs = search needs
+
+add-put-three-2 : tie.Need-add-put-three-2
+add-put-three-2 c = search needs
+
+put-three-requires-2 : tie.Need-put-three-requires-2
+put-three-requires-2 c κs = search needs
+
+same-length : tie.Need-same-length
+same-length c = search needs
+
+returns : tie.Need-returns
+unfolding tileBytes
+returns c =
+    let g = c .before .before .before .before .before .before .before .before .before .before .before .before .before .before .args in
+    let n1 = pair-length (6 + 8 * g.h .count) 3 in
+    let n2 = three-length 1 g.t (g.h .running) (g.h .distance) in
+    let n3 = three-length 1 (g.h .next .code) (g.h .token .code) (g.h .count) in
+    put-three (g.s .now) _ _ _ g.at _ _ (bytes 2 (6 + 8 * g.h .count) ++ bytes 2 3) (bytes 1 g.t ++ (bytes 1 (g.h .running) ++ bytes 1 (g.h .distance))) (bytes 1 (g.h .next .code) ++ (bytes 1 (g.h .token .code) ++ bytes 1 (g.h .count)))
+    (omega arith) (omega arith) (omega arith) (c .before .before .before .before .before .before .before .before .before .before .put-pair .ensures) (c .before .before .before .before .before .before .put-three .ensures) (c .before .before .put-three2 .ensures)
+
+pub put-tile-spec : {M : Type 1} → statement M
+put-tile-spec =
+    tie.close
+    (tie.spec
+    cast-put-pair
+    mul-put-pair
+    add-put-pair
+    put-pair-requires
+    add-put-three
+    put-three-requires
+    add-put-three-2
+    put-three-requires-2
+    same-length
+    returns)

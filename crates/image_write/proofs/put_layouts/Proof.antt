@@ -1,0 +1,81 @@
+use mathlib.Core.Path.{_≡_, refl, sym, _∙_}
+use Prim.Native.Nat.{_+_, _*_, _-_, _≤_}
+use native.Mathlib.Omega.{arith}
+use lib.ListN.{length, take}
+use Rattle.image_bytes.specs.Put.{put}
+use Rattle.image_bytes.proofs.PutLaws.{put-none}
+use Rattle.image.specs.Image.{layoutsBytes}
+use Rattle.image_write.proofs.ImageBytes.{layouts-none, layouts-turn}
+use borrow.Author.Needs.{needs}
+use Rattle.image_write.proofs.put_layouts.Statement.{statement}
+use Rattle.image_write.proofs.put_layouts.Tie as tie
+use Rattle.image_write.proofs.put_layouts.Reads as reads
+use Rattle.image_write.proofs.put_layouts.Lts as lts
+use Rattle.image_record_write.proofs.put_layout.Reads as put-layout-reads
+
+abbrev Inv-loop : tie.InvT-loop
+Inv-loop s₀ from n all k₀ s k = (k ≤ n) × (n ≤ 8) × (length all ≡ 8) × (from + 20 * n ≤ length s₀) × (length s ≡ length s₀) × (s ≡ put s₀ from (layoutsBytes (take k all)))
+
+abbrev μ-loop : tie.MeasureT-loop
+μ-loop s₀ from n all k₀ s k = n - k
+
+loop-holds : tie.Need-loop-holds Inv-loop μ-loop
+loop-holds c =
+    let g = c .before .args in
+    (omega arith, c .before .pre .0, c .before .good .1 .1 .0 .1 .0 .1, c .before .pre .1, refl, rw layouts-none (sym (put-none (g.s .now) g.from)))
+
+mul-x : tie.Need-mul-x Inv-loop μ-loop
+mul-x c = search needs
+
+array-copy-out-x : tie.Need-array-copy-out-x Inv-loop μ-loop
+array-copy-out-x c = search needs
+
+mul-put-layout : tie.Need-mul-put-layout Inv-loop μ-loop
+mul-put-layout c = search needs
+
+add-put-layout : tie.Need-add-put-layout Inv-loop μ-loop
+add-put-layout c = search needs
+
+put-layout-requires : tie.Need-put-layout-requires Inv-loop μ-loop
+put-layout-requires c κs = search needs
+
+add-k : tie.Need-add-k Inv-loop μ-loop
+add-k c = search needs
+
+loop-less : tie.Need-loop-less Inv-loop μ-loop
+loop-less c = search needs
+
+loop-again : tie.Need-loop-again Inv-loop μ-loop
+loop-again c =
+    let l = c .before .before .before .before .before .before .loop in
+    let g = c .before .before .before .before .before .before .before .before .args in
+    let k = c .before .before .put-layout .kept .0 in
+    (omega arith, l .inv .1, l .inv .2, l .inv .3, k ∙ l .inv .4, layouts-turn (g.s .now) (l .s) _ g.from (l .k) g.t3 (omega arith) (omega arith) (l .inv .5) (c .before .before .put-layout .ensures))
+
+same-length : tie.Need-same-length Inv-loop μ-loop
+same-length c = search needs
+
+returns : tie.Need-returns Inv-loop μ-loop
+returns c =
+    let l = c .before .loop in
+    let g = c .before .before .before .args in
+    let e : l .k ≡ g.n = omega arith in
+    rw e at (l .inv .5)
+
+pub put-layouts-spec : {M : Type 1} → statement M
+put-layouts-spec =
+    tie.close
+    (tie.spec
+    Inv-loop
+    μ-loop
+    loop-holds
+    mul-x
+    array-copy-out-x
+    mul-put-layout
+    add-put-layout
+    put-layout-requires
+    add-k
+    loop-less
+    loop-again
+    same-length
+    returns)

@@ -1,0 +1,201 @@
+// Whether every call that takes a floor refuses one that isn't well formed: 30 and the same floor, zeros for a reading, the same
+// bytes for a writing.
+use floor::Canister;
+use floor::Delivery;
+use floor::Floor;
+use floor::Layout;
+use floor::Report;
+use floor::Settings;
+use floor::Side;
+use floor::Tile;
+use trials_tally::floors;
+
+fn same_settings(x: Settings, y: Settings) -> bool {
+    (x.columns == y.columns)
+        & (x.rows == y.rows)
+        & (x.hoppers == y.hoppers)
+        & (x.sources == y.sources)
+        & (x.width == y.width)
+        & (x.length == y.length)
+        & (x.gap == y.gap)
+        & (x.travel == y.travel)
+}
+
+fn same_tile(x: Tile, y: Tile) -> bool {
+    (x.running == y.running)
+        & (x.distance == y.distance)
+        & (x.next.code == y.next.code)
+        & (x.token.code == y.token.code)
+        & (x.count == y.count)
+}
+
+fn same_canister(x: Canister, y: Canister) -> bool {
+    (x.number == y.number) & (x.a == y.a) & (x.b == y.b)
+}
+
+fn same_canisters(xs: [Canister; 1024], ys: [Canister; 1024]) -> bool {
+    let mut all = true;
+    let mut k: usize = 0;
+    while k < 1024 {
+        all = all & same_canister(xs[k], ys[k]);
+        k += 1;
+    }
+    all
+}
+
+fn same_tiles(xs: [Tile; 64], ys: [Tile; 64]) -> bool {
+    let mut all = true;
+    let mut k: usize = 0;
+    while k < 64 {
+        all = all & same_tile(xs[k], ys[k]);
+        k += 1;
+    }
+    all
+}
+
+fn same_layout(x: Layout, y: Layout) -> bool {
+    (x.name == y.name) & (x.set == y.set)
+}
+
+fn same_layouts(xs: [Layout; 8], ys: [Layout; 8]) -> bool {
+    let mut all = true;
+    let mut k: usize = 0;
+    while k < 8 {
+        all = all & same_layout(xs[k], ys[k]);
+        k += 1;
+    }
+    all
+}
+
+// Every field of two floors.
+fn same_floor(x: Floor, y: Floor) -> bool {
+    let s = x.settings;
+    let r = y.settings;
+    let c = x.counters;
+    let d = y.counters;
+    let cd = c.delivered;
+    let dd = d.delivered;
+    let xt = x.tiles;
+    let yt = y.tiles;
+    let xc = x.canisters;
+    let yc = y.canisters;
+    let xl = x.layouts;
+    let yl = y.layouts;
+    same_settings(s, r)
+        & (c.last == d.last)
+        & (c.booked == d.booked)
+        & (cd[0] == dd[0])
+        & (cd[1] == dd[1])
+        & (cd[2] == dd[2])
+        & (cd[3] == dd[3])
+        & same_tiles(xt, yt)
+        & same_canisters(xc, yc)
+        & same_layouts(xl, yl)
+}
+
+fn empty_delivery(d: Delivery) -> bool {
+    let n = d.numbers;
+    (d.count == 0) & (n[0] == 0) & (n[1] == 0) & (n[2] == 0) & (n[3] == 0)
+}
+
+fn empty_report(r: Report) -> bool {
+    let grants = r.grants;
+    let reasons = r.reasons;
+    let missing = r.missing;
+    let d = r.deliveries;
+    let mut all = empty_delivery(d[0])
+        & empty_delivery(d[1])
+        & empty_delivery(d[2])
+        & empty_delivery(d[3]);
+    let mut k: usize = 0;
+    while k < 64 {
+        all = all & (grants[k] == 0) & (reasons[k] == 0) & (missing[k] == 0);
+        k += 1;
+    }
+    all
+}
+
+// Sixteen places of zeros.
+fn no_canisters(members: [Canister; 16]) -> bool {
+    let mut all = true;
+    let mut k: usize = 0;
+    while k < 16 {
+        all = all & same_canister(members[k], Canister::ZERO);
+        k += 1;
+    }
+    all
+}
+
+fn empty_reading(f: Floor) -> bool {
+    let r = calls::read(f, 0);
+    let zero = Tile {
+        running: 0,
+        distance: 0,
+        next: Side::NONE,
+        token: Side::NONE,
+        count: 0,
+    };
+    let t = r.tile;
+    let members = r.members;
+    (r.refusal == 30) & same_tile(t, zero) & no_canisters(members)
+}
+
+// Whether every byte is still 7.
+fn untouched(bytes: &[u8]) -> bool {
+    let mut all = true;
+    let mut k: usize = 0;
+    while k < bytes.len() {
+        all = all & (bytes[k] == 7);
+        k += 1;
+    }
+    all
+}
+
+// Writing answers 30 and leaves the buffer.
+fn unwritten(f: Floor) -> bool {
+    let mut bytes = [7u8; 64];
+    let w = image_calls::write(f, &mut bytes);
+    let same = untouched(&bytes);
+    (w.refusal == 30) & (w.length == 0) & same
+}
+
+// Keep, forget and recall.
+fn names_refuse(f: Floor) -> bool {
+    let keep = calls::keep(f, floors::name(65));
+    let forget = calls::forget(f, floors::name(65));
+    let recall = calls::recall(f, floors::name(65));
+    let a = keep.floor;
+    let b = forget.floor;
+    let c = recall.floor;
+    (keep.refusal == 30)
+        & (forget.refusal == 30)
+        & (recall.refusal == 30)
+        & same_floor(a, f)
+        & same_floor(b, f)
+        & same_floor(c, f)
+}
+
+// Book, stop, repair, round, read, write, keep, forget and recall.
+pub fn all_refuse(f: Floor) -> bool {
+    let book = floors::book(f, 1, 900, 0, 0);
+    let stop = calls::stop(f, 1);
+    let repair = calls::repair(f, 1);
+    let round = calls::round(f);
+    let a = book.floor;
+    let b = stop.floor;
+    let c = repair.floor;
+    let d = round.floor;
+    let report = round.report;
+    (book.refusal == 30)
+        & (stop.refusal == 30)
+        & (repair.refusal == 30)
+        & (round.refusal == 30)
+        & same_floor(a, f)
+        & same_floor(b, f)
+        & same_floor(c, f)
+        & same_floor(d, f)
+        & empty_report(report)
+        & empty_reading(f)
+        & unwritten(f)
+        & names_refuse(f)
+}

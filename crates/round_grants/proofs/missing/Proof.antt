@@ -1,0 +1,75 @@
+use Prim.Native.Nat.{ℕ, _≤_, _-_}
+use mathlib.Core.Path.{_≡_, _∙_}
+use native.Mathlib.Omega.{arith}
+use lib.ListN.{length, take}
+use Rattle.laws.proofs.Tables.{ended}
+use Rattle.round_grants.proofs.SignalLaws.{missing-zero, missing-step}
+use Rattle.floor.specs.Memory.{zeroCanister}
+use Rattle.floor.specs.Signal as G
+use Rattle.floor.proofs.Sized.{items-length}
+use borrow.Author.Needs.{needs}
+use Rattle.round_grants.proofs.missing.Statement.{statement}
+use Rattle.round_grants.proofs.missing.Tie as tie
+use Rattle.round_grants.proofs.missing.Reads as reads
+use Rattle.round_grants.proofs.missing.Lts as lts
+use Rattle.round_grants.proofs.lack.Reads as lack-reads
+use Rattle.round_grants.proofs.worse.Reads as worse-reads
+
+abbrev Inv-loop : tie.InvT-loop
+Inv-loop s side n items worst₀ k₀ worst k = (k ≤ n) × (n ≤ 16) × (length items ≡ 16) × (worst ≡ G.missing s (side .code) (take k items))
+
+abbrev μ-loop : tie.MeasureT-loop
+μ-loop s side n items worst₀ k₀ worst k = n - k
+
+cast-n : tie.Need-cast-n Inv-loop μ-loop
+cast-n c = search needs
+
+loop-holds : tie.Need-loop-holds Inv-loop μ-loop
+loop-holds c = let s = c .before .before in (omega arith, s .pre, items-length (s .args .members) _ (s .good .1 .1 .0), missing-zero (s .args .s) (s .args .side .code) (s .args .members .items))
+
+mul-lack : tie.Need-mul-lack Inv-loop μ-loop
+mul-lack c = search needs
+
+array-copy-out-lack : tie.Need-array-copy-out-lack Inv-loop μ-loop
+array-copy-out-lack c = search needs
+
+lack-requires : tie.Need-lack-requires Inv-loop μ-loop
+lack-requires c κs = search needs
+
+worse-requires : tie.Need-worse-requires Inv-loop μ-loop
+worse-requires c κs = search needs
+
+add-k : tie.Need-add-k Inv-loop μ-loop
+add-k c = search needs
+
+loop-less : tie.Need-loop-less Inv-loop μ-loop
+loop-less c = search needs
+
+loop-again : tie.Need-loop-again Inv-loop μ-loop
+loop-again c =
+    let l = c .before .before .before .before .loop in
+    let g = c .before .before .before .before .before .before .before .args in
+    (omega arith, l .inv .1, l .inv .2, c .worse .ensures ∙ missing-step g.s (g.side .code) (g.members .items) (l .k) zeroCanister (omega arith) (l .inv .3) (c .before .lack .ensures))
+
+returns : tie.Need-returns Inv-loop μ-loop
+returns c =
+    let l = c .before .loop in
+    let g = c .before .before .before .before .args in
+    ended (λ (k : ℕ). G.missing g.s (g.side .code) (take k (g.members .items))) (omega arith) (l .inv .0) (l .inv .3)
+
+pub missing-spec : {M : Type 1} → statement M
+missing-spec =
+    tie.close
+    (tie.spec
+    Inv-loop
+    μ-loop
+    cast-n
+    loop-holds
+    mul-lack
+    array-copy-out-lack
+    lack-requires
+    worse-requires
+    add-k
+    loop-less
+    loop-again
+    returns)

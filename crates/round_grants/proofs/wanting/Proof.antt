@@ -1,0 +1,26 @@
+use mathlib.Core.Path.{sym, _∙_}
+use Rattle.round_grants.proofs.SignalLaws.{wants-bit, wants-none}
+use borrow.Author.Needs.{needs}
+use Rattle.round_grants.proofs.wanting.Statement.{statement}
+use Rattle.round_grants.proofs.wanting.Tie as tie
+use Rattle.round_grants.proofs.wanting.Reads as reads
+use Rattle.round_grants.proofs.wanting.Lts as lts
+use Rattle.floor.proofs.Side.opposite.Reads as opposite-reads
+
+opposite-requires : tie.Need-opposite-requires
+opposite-requires c κs = tt
+
+sub-result : tie.Need-sub-result
+sub-result c = search needs
+
+shl-result : tie.Need-shl-result
+shl-result c = search needs
+
+returns : tie.Need-returns
+returns c = let S = c .before .before .before .before in wants-bit (S .args .side .code) (S .args .shown) (S .pre .0) (S .pre .1) (c .before .if1 .taken ∙ c .before .before .before .opposite .ensures)
+
+returns-2 : tie.Need-returns-2
+returns-2 c = let S = c .before .before .before in wants-none (S .args .side .code) (S .args .shown) (λ e. c .if1 .left (e ∙ sym (c .before .before .opposite .ensures)))
+
+pub wanting-spec : {M : Type 1} → statement M
+wanting-spec = tie.close (tie.spec opposite-requires sub-result shl-result returns returns-2)

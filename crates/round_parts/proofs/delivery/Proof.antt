@@ -1,0 +1,18 @@
+use mathlib.Core.Path.{ap}
+use mathlib.Core.List.{List}
+use Prim.Native.Nat.{ℕ}
+use borrow.Author.Needs.{needs}
+use Rattle.round_parts.proofs.delivery.Statement.{statement}
+use Rattle.round_parts.proofs.delivery.Tie as tie
+use Rattle.round_parts.proofs.delivery.Reads as reads
+use Rattle.round_parts.proofs.delivery.Lts as lts
+use Rattle.round_parts.proofs.first_numbers.Reads as first-numbers-reads
+
+first-numbers-requires : tie.Need-first-numbers-requires
+first-numbers-requires c κs = search needs
+
+returns : tie.Need-returns
+returns c = ap (λ (x : List ℕ). record { numbers = x; count = c .before .args .m .count }) (c .first-numbers .ensures)
+
+pub delivery-spec : {M : Type 1} → statement M
+delivery-spec = tie.close (tie.spec first-numbers-requires returns)

@@ -1,0 +1,91 @@
+use mathlib.Core.Path.{_≡_, refl, ap}
+use mathlib.Core.List.{List}
+use Prim.Native.Nat.{ℕ, _≤_, _-_, _+_}
+use native.Mathlib.Omega.{arith}
+use lib.ListN.{length, getD, length-set}
+use Rattle.laws.proofs.Lists.{get-same}
+use Rattle.laws.specs.Filled.{Upto}
+use Rattle.laws.proofs.Tables.{upto-turn, filled}
+use Rattle.floor.specs.declared.Delivery.{Delivery}
+use Rattle.floor.specs.Calls.{noDelivery}
+use Rattle.round_parts.proofs.Delivered.{beyond}
+use Rattle.floor.proofs.Sized.{delivered-length}
+use borrow.Author.Needs.{needs}
+use Rattle.round_parts.proofs.raise.Statement.{statement}
+use Rattle.round_parts.proofs.raise.Tie as tie
+use Rattle.round_parts.proofs.raise.Reads as reads
+use Rattle.round_parts.proofs.raise.Lts as lts
+
+abbrev Inv-loop : tie.InvT-loop
+Inv-loop c d old sums₀ k₀ sums k = (k ≤ 4) × (length d ≡ 4) × (length old ≡ 4) × (length sums ≡ 4) × (old ≡ c .delivered) × Upto k (λ j. getD (c .delivered) j 0 + getD d j noDelivery .count) 0 sums
+
+abbrev μ-loop : tie.MeasureT-loop
+μ-loop c d old sums₀ k₀ sums k = 4 - k
+
+loop-holds : tie.Need-loop-holds Inv-loop μ-loop
+loop-holds c = (omega arith, c .before .good .1 .0 .1 .0 .1, delivered-length (c .before .args .c) _ (c .before .good .0), refl, refl, λ i h. absurd (omega arith))
+
+mul-one : tie.Need-mul-one Inv-loop μ-loop
+mul-one c = search needs
+
+array-copy-out-one : tie.Need-array-copy-out-one Inv-loop μ-loop
+array-copy-out-one c = search needs
+
+mul-sums : tie.Need-mul-sums Inv-loop μ-loop
+mul-sums c = search needs
+
+array-read-sums : tie.Need-array-read-sums Inv-loop μ-loop
+array-read-sums c = search needs
+
+cast-sums : tie.Need-cast-sums Inv-loop μ-loop
+cast-sums c = search needs
+
+add-sums : tie.Need-add-sums Inv-loop μ-loop
+add-sums c =
+    let l = c .before .before .before .loop in
+    let S = c .before .before .before .before .before in
+    record { fits = rw (ap (λ (x : Delivery). x .count) (get-same (S .args .t2) (l .k) noDelivery beyond (omega arith))) at (S .pre (l .k) (omega arith)) }
+
+mul-sums-2 : tie.Need-mul-sums-2 Inv-loop μ-loop
+mul-sums-2 c = search needs
+
+array-write-sums : tie.Need-array-write-sums Inv-loop μ-loop
+array-write-sums c = search needs
+
+add-k : tie.Need-add-k Inv-loop μ-loop
+add-k c = search needs
+
+loop-less : tie.Need-loop-less Inv-loop μ-loop
+loop-less c = search needs
+
+loop-again : tie.Need-loop-again Inv-loop μ-loop
+loop-again c =
+    let l = c .before .before .before .loop in
+    let g = c .before .before .before .before .before .args in
+    (omega arith, l .inv .1, l .inv .2, simp length-set (l .inv .3), refl, upto-turn (l .k) (λ j. getD (g .c .delivered) j 0 + getD (g .t2) j noDelivery .count) 0 (l .sums) _ (omega arith) (l .inv .5) (ap (λ (x : Delivery). getD (g .c .delivered) (l .k) 0 + x .count) (get-same (g .t2) (l .k) beyond noDelivery (omega arith))))
+
+returns : tie.Need-returns Inv-loop μ-loop
+returns c =
+    let l = c .before .loop in
+    let g = c .before .before .before .args in
+    ap (λ (x : List ℕ). record { last = g .c .last; booked = g .c .booked; delivered = x }) (filled 4 (λ j. getD (g .c .delivered) j 0 + getD (g .t2) j noDelivery .count) 0 (l .sums) (l .inv .3) (λ i h. l .inv .5 i (omega arith)))
+
+pub raise-spec : {M : Type 1} → statement M
+raise-spec =
+    tie.close
+    (tie.spec
+    Inv-loop
+    μ-loop
+    loop-holds
+    mul-one
+    array-copy-out-one
+    mul-sums
+    array-read-sums
+    cast-sums
+    add-sums
+    mul-sums-2
+    array-write-sums
+    add-k
+    loop-less
+    loop-again
+    returns)

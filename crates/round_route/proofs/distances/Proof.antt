@@ -1,0 +1,70 @@
+use Prim.Native.Nat.{ℕ, _≤_, _-_}
+use mathlib.Core.Path.{_≡_, refl, ap, _∙_}
+use native.Mathlib.Omega.{arith}
+use lib.ListN.{length, length-set}
+use Rattle.laws.specs.Filled.{Upto}
+use Rattle.floor.specs.Settings.{total}
+use Rattle.round_route.specs.Routed.{within, distanceIn}
+use Rattle.round_route.proofs.Passes.{within-none, within-turn}
+use borrow.Author.Needs.{needs}
+use Rattle.round_route.proofs.distances.Statement.{statement}
+use Rattle.round_route.proofs.distances.Tie as tie
+use Rattle.round_route.proofs.distances.Reads as reads
+use Rattle.round_route.proofs.distances.Lts as lts
+use Rattle.floor.proofs.Settings.tile_count.Reads as tile-count-reads
+
+abbrev Inv-loop : tie.InvT-loop
+Inv-loop tiles all d₀ t₀ d t = (t ≤ all) × (all ≤ 64) × (length tiles ≡ 64) × (length d ≡ 65) × Upto 65 (within t (distanceIn tiles) 255) 0 d
+
+abbrev μ-loop : tie.MeasureT-loop
+μ-loop tiles all d₀ t₀ d t = all - t
+
+tile-count-requires : tie.Need-tile-count-requires Inv-loop μ-loop
+tile-count-requires c κs = tt
+
+loop-holds : tie.Need-loop-holds Inv-loop μ-loop
+loop-holds c = let s = c .before in (omega arith, rw (c .tile-count .ensures) (s .pre), s .good .1 .0 .1 .0 .1, refl, within-none (distanceIn (s .args .t2)) 255 65)
+
+mul-tile : tie.Need-mul-tile Inv-loop μ-loop
+mul-tile c = search needs
+
+array-copy-out-tile : tie.Need-array-copy-out-tile Inv-loop μ-loop
+array-copy-out-tile c = search needs
+
+array-write-d : tie.Need-array-write-d Inv-loop μ-loop
+array-write-d c = search needs
+
+add-t : tie.Need-add-t Inv-loop μ-loop
+add-t c = search needs
+
+loop-less : tie.Need-loop-less Inv-loop μ-loop
+loop-less c = search needs
+
+loop-again : tie.Need-loop-again Inv-loop μ-loop
+loop-again c =
+    let l = c .before .before .loop in
+    let g = c .before .before .before .before .args in
+    (omega arith, l .inv .1, l .inv .2, simp length-set (l .inv .3), within-turn (distanceIn g.t2) 255 (l .d) 65 (l .t) _ (omega arith) refl (l .inv .4))
+
+returns : tie.Need-returns Inv-loop μ-loop
+returns c =
+    let l = c .before .loop in
+    let g = c .before .before .before .args in
+    let e : l .t ≡ total g.s = omega arith in
+    λ i h. l .inv .4 i h ∙ ap (λ (n : ℕ). within n (distanceIn g.t2) 255 i) e
+
+pub distances-spec : {M : Type 1} → statement M
+distances-spec =
+    tie.close
+    (tie.spec
+    Inv-loop
+    μ-loop
+    tile-count-requires
+    loop-holds
+    mul-tile
+    array-copy-out-tile
+    array-write-d
+    add-t
+    loop-less
+    loop-again
+    returns)
