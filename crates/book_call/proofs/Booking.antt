@@ -77,7 +77,7 @@ module _ (f : Floor) (t : ℕ) (w : wellFormed f ≡ true) where
     own-head : read-head ≡ head (tileOf (view f) t)
     own-head = ap (headOf f) same-tile ∙ head-view f t w on
 
-    own-runs : read-head .running ≡ tileOf (view f) t .running
+    pub own-runs : read-head .running ≡ tileOf (view f) t .running
     unfolding head
     own-runs = ap (λ (x : Tile). x .running) own-head
 
@@ -90,7 +90,7 @@ module _ (f : Floor) (t : ℕ) (w : wellFormed f ≡ true) where
       unfolding head
       own-holds = (ap (λ (x : Tile). x .count) own-head, λ i k. p .1 i k ∙ ap (λ (j : ℕ). getD (f .canisters) (16 * j + i) zeroCanister) same-tile ∙ place-view f t w on i k)
 
-      own-list : take (read-head .count) items ≡ membersOf (view f) t
+      pub own-list : take (read-head .count) items ≡ membersOf (view f) t
       own-list = holds-list (record { count = read-head .count; items = items }) (membersOf (view f) t) (p .0) few-view own-holds
 
       own-places : Places (take (read-head .count) items) items

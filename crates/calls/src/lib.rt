@@ -1,7 +1,8 @@
-// The calls on a floor; book, and keep, forget and recall come from crates of their own. Each takes any bytes, and its contract determines the whole answer on all of them.
+// The calls on a floor; book, book_anywhere, and keep, forget and recall come from crates of their own. Each takes any bytes, and its contract determines the whole answer on all of them.
 ghost use mathlib.Core.Path.{_≡_};
 ghost use Rattle.floor.specs.Calls.{freshAnswer, stopAnswer, repairAnswer, readAnswer, zeroReport, roundAnswer};
 ghost use Rattle.calls.specs.Refused.{unreadWith};
+pub use book_anywhere::book_anywhere;
 pub use book_call::book;
 use call_parts::fresh_floor;
 use call_parts::read_refusal;

@@ -3,11 +3,13 @@ ghost use mathlib.Core.Path.{_≡_};
 ghost use lib.ListN.{length};
 ghost use Rattle.floor.specs.Layouts.{nameNumber};
 ghost use Rattle.floor.specs.Calls.{freshAnswer, bookAnswer, stopAnswer, repairAnswer, keepAnswer, forgetAnswer, recallAnswer, roundAnswer, readAnswer};
+ghost use Rattle.floor.specs.Anywhere.{anywhereAnswer};
 ghost use Rattle.image.specs.Image.{loadAnswer, writeAnswer, written};
 use floor::Answer;
 use floor::Canister;
 use floor::Floor;
 use floor::Name;
+use floor::Placed;
 use floor::Reading;
 use floor::Rounded;
 use floor::Settings;
@@ -25,6 +27,13 @@ pub extern "C" fn ceromby_book(floor: Floor, tile: u32, canister: Canister) -> A
     ensures { λ r. ⌜ r ≡ bookAnswer floor tile canister ⌝ }
 {
     calls::book(floor, tile, canister)
+}
+
+#[no_mangle]
+pub extern "C" fn ceromby_book_anywhere(floor: Floor, tile: u32, number: u32) -> Placed
+    ensures { λ r. ⌜ r ≡ anywhereAnswer floor tile number ⌝ }
+{
+    calls::book_anywhere(floor, tile, number)
 }
 
 #[no_mangle]

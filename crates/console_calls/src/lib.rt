@@ -65,7 +65,33 @@ pub fn fresh(s: Session, line: &[u8], give_up: bool) -> Session {
     console_session::begun(s, made)
 }
 
+// A booking without a place; the place found is told.
+pub fn book_anywhere(s: Session, line: &[u8]) -> Session {
+    let n = console_parse::arguments(line, 2);
+    if !n.good {
+        return console_session::cannot(s, line);
+    }
+    let floor = s.floor;
+    let answer = calls::book_anywhere(floor, n.at[0], n.at[1]);
+    if answer.refusal != 0 {
+        return console_session::refused(s, b"book", answer.refusal);
+    }
+    let c = Canister {
+        number: n.at[1],
+        a: answer.a,
+        b: answer.b,
+    };
+    console_say::booked(c, n.at[0]);
+    let mut next = s;
+    let booked = answer.floor;
+    next.floor = booked;
+    next
+}
+
 pub fn book(s: Session, line: &[u8]) -> Session {
+    if console_parse::ended(line, 3) {
+        return book_anywhere(s, line);
+    }
     let n = console_parse::arguments(line, 4);
     if !n.good {
         return console_session::cannot(s, line);

@@ -66,6 +66,7 @@ fn meaning(n: u8) {
         refusals::RUNNING => text(b"the tile is running"),
         refusals::NUMBER_PAST => text(b"number not above the last booked"),
         refusals::TOO_NEAR => text(b"too near a canister of the tile"),
+        refusals::NO_PLACE => text(b"no place on the tile"),
         refusals::BAD_NAME => text(b"not a name of 1 to 8 letters A to Z"),
         refusals::NOT_HELD => text(b"no layout has that name"),
         refusals::EIGHT_HELD => text(b"eight other names are held"),
@@ -463,6 +464,7 @@ pub fn help() {
     text(b"      HOPPER: a tile, or up to four as 0,3\n");
     text(b"      fresh! with the same words: also where the floor holds canisters\n");
     text(b"      book TILE NUMBER A B | stop TILE | repair TILE | round | rounds N | read TILE\n");
+    text(b"      book TILE NUMBER: at the free place with the lowest B, then the lowest A\n");
     text(
         b"      keep NAME | recall NAME | forget NAME | layouts   (NAME: 1 to 8 letters A to Z)\n",
     );

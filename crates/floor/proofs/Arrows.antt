@@ -22,7 +22,8 @@ use Rattle.floor.specs.Well.{wellFormed}
 use Rattle.floor.specs.Route.{route}
 use Rattle.floor.specs.Move.{insert}
 use Rattle.floor.specs.Calls.{bookTests, booked, afterRound}
-use Rattle.floor.specs.Demand3.{Call, book, stop, repair, round, keep, forget, recall, Typed, outcome, floorAfter, changesRunning, isRound, roundsIn}
+use Rattle.floor.specs.Demand3.{Call, book, anywhere, stop, repair, round, keep, forget, recall, Typed, outcome, floorAfter, changesRunning, isRound, roundsIn}
+use Rattle.floor.specs.Together.{Books, placed, unplaced}
 use Rattle.floor.specs.Arrows.{beyond, FacesNearest, Chooses, Unpressed, Steady, Resting, Arrows, Settling, ArrowRule}
 use Rattle.floor.proofs.Sound.{Sound}
 use Rattle.floor.proofs.Pack.{well-sound}
@@ -34,7 +35,7 @@ use Rattle.floor.proofs.Passing.{arrow-at}
 use Rattle.floor.proofs.Progress.{same-distance}
 use Rattle.floor.proofs.Clearing.{right-round}
 use Rattle.floor.proofs.Lists.{view-round, call-keeps, call-refused, Relaid, relaid-keep, relaid-forget, relaid-recall, list-keeps}
-use Rattle.floor.proofs.Forms.{by-form, new-view, bookForm, book-answers}
+use Rattle.floor.proofs.Forms.{by-form, new-view, canisterOf, booking-accepts, bookForm, book-answers}
 
 -- n has the settings, running tiles and distances of m, and the arrows a
 record Shows (m : Model) (a : ℕ → ℕ) (n : Model) : Type 0 where
@@ -76,15 +77,22 @@ module _ (I : ℕ → Model → Type 0) (alike : (n : ℕ) (m o : Model) → Ali
   relaid : (n : ℕ) (g : Floor) (w : wellFormed g ≡ true) (c : Call) → Relaid g w c → I n (view g) → I (n + 0) (view (outcome g c .floor))
   relaid n g w c R i = no-round n (view (outcome g c .floor)) (subst (I n) (sym (R .1)) (alike n (view g) (withLayouts (view g) (R .0)) (record { settings = refl; runs = refl; distance = refl; next = refl }) i))
 
-  step : (n : ℕ) (g : Floor) (w : wellFormed g ≡ true) (c : Call) → Typed c → changesRunning g c ≡ false → I n (view g) → I (n + cond (isRound c) 1 0) (view (outcome g c .floor))
-  unfolding bookTests changesRunning
-  step n g w (book u b) h q i =
-      let F = bookForm u b h in
-      no-round n (view (outcome g (book u b) .floor))
-      (subst (λ (x : Floor). I n (view x)) (sym (book-answers u b h .floor g))
+  -- a booking of either sort
+  books : (n : ℕ) (g : Floor) (w : wellFormed g ≡ true) (u : ℕ) {c : Call} (p : Books u c) → Typed c → I n (view g) → I (n + 0) (view (outcome g c .floor))
+  unfolding bookTests
+  books n g w u {c} p h i =
+      let F = bookForm p h in
+      let b = canisterOf p (view g) in
+      no-round n (view (outcome g c .floor))
+      (subst (λ (x : Floor). I n (view x)) (sym (book-answers p h .floor g))
       (by-form F g w (λ c. I n (view (cond c (pack (booked (view g) u b)) g)))
-      (λ A. subst (I n) (sym (new-view F g w A)) (alike n (view g) (booked (view g) u b) (booked-alike (view g) (well-sound g w) u b (leb-false (total (view g .settings)) u (A .0))) i))
+      (λ A. subst (I n) (sym (new-view F g w A)) (alike n (view g) (booked (view g) u b) (booked-alike (view g) (well-sound g w) u b (leb-false (total (view g .settings)) u (booking-accepts p (view g) A .0))) i))
       i))
+
+  step : (n : ℕ) (g : Floor) (w : wellFormed g ≡ true) (c : Call) → Typed c → changesRunning g c ≡ false → I n (view g) → I (n + cond (isRound c) 1 0) (view (outcome g c .floor))
+  unfolding changesRunning
+  step n g w (book u b) h q i = books n g w u (placed b) h i
+  step n g w (anywhere u number) h q i = books n g w u (unplaced number) h i
   step n g w (stop u) h q i = refused n g w (stop u) refl (eqb-false (outcome g (stop u) .refusal) 0 q) i
   step n g w (repair u) h q i = refused n g w (repair u) refl (eqb-false (outcome g (repair u) .refusal) 0 q) i
   step n g w round h q i =

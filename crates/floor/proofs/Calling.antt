@@ -25,6 +25,7 @@ use Rattle.floor.specs.Signal.{requests, lack, missing, signalWith, sign
 use Rattle.floor.specs.Move.{wayOf, crosses, shift, land, staying, leaving, insert, insertEach, membersNext, arrivals, moveTile, deliveredBy, raised, move}
 use Rattle.floor.specs.Reasons.{reasonTests, aheadOf, reasonOf, missingOf}
 use Rattle.floor.specs.Calls.{refusalOf, answer, freshTile, freshFloor, freshAnswer, bookTests, booked, bookAnswer, stopTests, stopped, stopAnswer, repairTests, repaired, repairAnswer, keepTests, runningSet, keptUnder, keepAnswer, heldTests, forgotten, forgetAnswer, recallTile, recalled, recallAnswer, afterRound, delivered, deliveryOf, reportOf, zeroReport, roundAnswer, readTests, readAnswer}
+use Rattle.floor.specs.Anywhere.{leastFrom, least, clear, lowestA, lowestB, placeB, placeA, anywhereTests, placedAt, anywhereAnswer}
 use Rattle.floor.specs.Reports.{listedAt}
 use Rattle.floor.specs.Bound.{crossing, bound}
 use Rattle.floor.specs.Live.{reached, connected, connectedCount}
@@ -183,7 +184,7 @@ unfolding got several settings fresh can book stop repair named keeps rounds fla
     hopperSound runningSound stoppedSound faces headSound inside apart inOrder membersSound tileSound numbersSound countersSound stateSound sound wellFormed
     nearer nearest liesAt kept onward headingOf routeTile route requests lack missing signalWith signalBy signalTile shownOf signalOf signal
     wayOf crosses shift land staying leaving insert insertEach membersNext arrivals moveTile deliveredBy raised move reasonTests aheadOf reasonOf missingOf
-    refusalOf answer freshTile freshFloor freshAnswer bookTests booked bookAnswer stopTests stopped stopAnswer repairTests repaired repairAnswer
+    refusalOf answer freshTile freshFloor freshAnswer bookTests booked bookAnswer leastFrom least clear lowestA lowestB placeB placeA anywhereTests placedAt anywhereAnswer stopTests stopped stopAnswer repairTests repaired repairAnswer
     keepTests runningSet keptUnder keepAnswer heldTests forgotten forgetAnswer recallTile recalled recallAnswer
     afterRound delivered deliveryOf reportOf zeroReport roundAnswer readTests readAnswer crossing bound reached connected connectedCount liveCount boundOf
 holds table = allOf (λ r. same (r .0) (r .1)) table

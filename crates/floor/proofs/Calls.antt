@@ -1,29 +1,30 @@
--- Each accepted call keeps a floor sound, and its numbers and counters: bookings, stops, repairs and rounds.
+-- Each accepted call keeps a floor sound, and its numbers and counters: bookings with and without a place, stops, repairs and rounds.
 use mathlib.Core.Path.{_≡_, refl, sym, ap, _∙_}
 use mathlib.Core.Logic.{_⊎_, inl, inr, _↔_, _≢_}
-use mathlib.Core.Bool.{Bool, true, false, cond, true≢false, false≢true}
+use mathlib.Core.Bool.{Bool, true, false, cond, not, true≢false, false≢true}
 use mathlib.Core.List.{List, [], _∷_, _++_, append-nil}
 use mathlib.Core.List.{List·Permᴰ, List·Permᴰ·trans, Permᴰ·refl, Permᴰ·symm, Permᴰ·append-left}
-use Prim.Native.Nat.{ℕ, _+_, _^_, _≤_, _<_}
+use Prim.Native.Nat.{ℕ, suc, _+_, _^_, _≤_, _<_}
 use native.Mathlib.Omega.{arith}
 use native.Mathlib.Decide.{ℕ-discrete}
 use lib.Dec.{eqb}
 use lib.ListN.{length, getD, set, length-set, length-append}
 use lib.Seq.{getD-set-same, getD-set-other}
-use borrow.Author.Tests.{leb-false, eq-eqb, ne-eqb, not-false}
+use borrow.Author.Tests.{leb-false, ltb-false, le-leb, le-ltb, eq-eqb, ne-eqb, not-false}
 use Rattle.laws.specs.Define.{cat, allOf, sum, bit}
 use Rattle.laws.specs.Every.{All, Pairs}
-use Rattle.laws.proofs.Tests.{by-test, not-both, r-all}
+use Rattle.laws.proofs.Tests.{by-test, not-both, and-true, r-all}
 use Rattle.laws.proofs.Lists.{all-perm, all-imp, all-unmap, pairs-perm, cat-perm, cat-append, cat-nil, cat-one, cat-all, swap-append, map-perm, perm-of, perm-chain, length-perm, all-append, all-cross, pairs-append}
 use Rattle.laws.proofs.SetBits.{bits-each}
 use Rattle.floor.specs.declared.Canister.{Canister}
 use Rattle.floor.specs.declared.Settings.{Settings}
 use Rattle.floor.specs.declared.Counters.{Counters}
-use Rattle.floor.specs.Settings.{total, spacing, isHopper, hoppersOf}
+use Rattle.floor.specs.Settings.{total, spacing, span, isHopper, hoppersOf}
 use Rattle.floor.specs.Model.{TileState, Model, noTile, tileOf, runs, runsOf, membersOf, numbers, numbersOn, withTile, withCounters, withMembers}
 use Rattle.floor.specs.Well.{inside, apart}
 use Rattle.floor.specs.Move.{insert}
 use Rattle.floor.specs.Calls.{bookTests, withBooking, booked, stopTests, stopped, repairTests, repaired, afterRound}
+use Rattle.floor.specs.Anywhere.{clear, placeB, placeA, anywhereTests, placedAt}
 use Rattle.floor.proofs.Sound.{Measured, Inside, Apart, Faces, Sound}
 use Rattle.floor.proofs.Well.{inside-fact, apart-fact}
 use Rattle.floor.proofs.Geometry.{apart-sym}
@@ -32,6 +33,7 @@ use Rattle.floor.proofs.Insertion.{insert-perm, insert-rising}
 use Rattle.floor.proofs.Fields.{round-settings, round-last, round-booked, went, round-counter, delivered-length}
 use Rattle.floor.proofs.Conservation.{round-numbers}
 use Rattle.floor.proofs.Kept.{round-sound}
+use Rattle.floor.proofs.Lowest.{at, lowest-is, found}
 
 -- what a call from m to n keeps; `came` are the numbers booked, `gone k` those delivered to hopper k
 pub record Keeps (m n : Model) (came : List ℕ) (gone : ℕ → List ℕ) : Type 0 where
@@ -249,6 +251,37 @@ book-keeps m S t c T fit =
     off : (isHopper (m .settings) t ≡ true) ⊎ (isHopper (m .settings) t ≡ false) → isHopper (m .settings) t ≡ false
     off (inr n) = n
     off (inl h) = not-both (not-false (bit (m .settings .sources) t) (T .1 .0)) (no-source (m .settings) (S .measured) t (leb-false (total (m .settings)) t (T .0)) h)
+
+-- ---- a booking without a place
+-- a canister keeps the spacing where its place does, whatever its number
+pub clear-any : (d number a b : ℕ) (l : List Canister) → allOf (apart d (at number a b)) l ≡ clear d l a b
+unfolding clear apart
+clear-any d number a b l = refl
+
+-- accepted, it is an accepted booking at its place
+pub anywhere-accepts : (m : Model) (t number : ℕ) → Accepted (anywhereTests m t number) → Accepted (bookTests m t (placedAt m t number))
+unfolding anywhereTests bookTests placedAt inside placeA placeB
+anywhere-accepts m t number T =
+    let s = m .settings in
+    let l = membersOf m t in
+    let b : placeB s l ≤ span s = ltb-false (span s) (placeB s l) (T .1 .1 .1 .1 .1 .0) in
+    let L = lowest-is (spacing s) (suc (span s)) l (omega arith) in
+    let in-a = le-leb (placeA s l) (span s) (omega (arith, L .a-within)) in
+    (T .0, (T .1 .0, (T .1 .1 .0, (ap not (and-true in-a (le-leb (placeB s l) (span s) b)), (T .1 .1 .1 .0, (T .1 .1 .1 .1 .0, (ap not (clear-any (spacing s) number (placeA s l) (placeB s l) l ∙ L .keeps), tt)))))))
+
+-- where a booking is accepted, one without a place is
+pub book-anywhere : (m : Model) (t : ℕ) (c : Canister) → Accepted (bookTests m t c) → Accepted (anywhereTests m t (c .number))
+unfolding anywhereTests bookTests placeB
+book-anywhere m t c T =
+    let s = m .settings in
+    let l = membersOf m t in
+    let i = inside-fact s c .0 (not-false (inside s c) (T .1 .1 .1 .0)) in
+    let h = found (spacing s) (suc (span s)) l (c .a) (c .b) (omega (arith, i .in-a)) (omega (arith, i .in-b)) (sym (clear-any (spacing s) (c .number) (c .a) (c .b) l) ∙ not-false (allOf (apart (spacing s) c) l) (T .1 .1 .1 .1 .1 .1 .0)) in
+    (T .0, (T .1 .0, (T .1 .1 .0, (T .1 .1 .1 .1 .0, (T .1 .1 .1 .1 .1 .0, (le-ltb (span s) (placeB s l) (omega arith), tt))))))
+
+pub anywhere-keeps : (m : Model) → Sound m → (t number : ℕ) → Accepted (anywhereTests m t number) → number < 2 ^ 32 → Keeps m (booked m t (placedAt m t number)) (number ∷ []) none
+unfolding placedAt
+anywhere-keeps m S t number T fit = book-keeps m S t (placedAt m t number) (anywhere-accepts m t number T) fit
 
 pub stop-keeps : (m : Model) → Sound m → (t : ℕ) → Accepted (stopTests m t) → Keeps m (withTile m t (stopped (tileOf m t))) [] none
 unfolding stopTests stopped

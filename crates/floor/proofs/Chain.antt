@@ -8,14 +8,20 @@ use Rattle.laws.specs.Define.{bit}
 use Rattle.floor.specs.declared.Canister.{Canister}
 use Rattle.floor.specs.declared.Floor.{Floor}
 use Rattle.floor.specs.declared.Answer.{Answer}
+use Rattle.floor.specs.declared.Placed.{Placed}
 use Rattle.floor.specs.declared.Rounded.{Rounded}
 use Rattle.floor.specs.Calls.{bookAnswer, stopAnswer, repairAnswer, keepAnswer, forgetAnswer, recallAnswer, roundAnswer}
+use Rattle.floor.specs.Anywhere.{anywhereAnswer}
 use Rattle.floor.specs.Reports.{listedAt}
-use Rattle.floor.specs.Demand3.{Call, book, stop, repair, round, keep, forget, recall, outcome, floorAfter, bookedIn, reportedIn, recallSet, recallMakes, runsBy, latest}
+use Rattle.floor.specs.Demand3.{Call, book, anywhere, stop, repair, round, keep, forget, recall, outcome, floorAfter, bookedIn, reportedIn, recallSet, recallMakes, runsBy, latest}
 
 -- the number that a booking's answer accepted
 abbrev pub bookedBy : Canister → Answer → List ℕ
 bookedBy c r = cond (eqb (r .refusal) 0) (c .number ∷ []) []
+
+-- of a booking without a place
+abbrev pub placedBy : ℕ → Placed → List ℕ
+placedBy number r = cond (eqb (r .refusal) 0) (number ∷ []) []
 
 -- the numbers that a round's answer reported delivered to hopper k
 abbrev pub reportedBy : Rounded → ℕ → List ℕ
@@ -29,6 +35,7 @@ joined r ns k = reportedBy r k ++ ns k
 pub data Made : Floor → List Call → Floor → List ℕ → (ℕ → List ℕ) → Type 0 where
   none : {f : Floor} → Made f [] f [] (λ _. [])
   books : {f g : Floor} {cs : List Call} {bs : List ℕ} {ns : ℕ → List ℕ} (t : ℕ) (c : Canister) (r : Answer) → r ≡ bookAnswer f t c → Made (r .floor) cs g bs ns → Made f (book t c ∷ cs) g (bookedBy c r ++ bs) ns
+  places : {f g : Floor} {cs : List Call} {bs : List ℕ} {ns : ℕ → List ℕ} (t number : ℕ) (r : Placed) → r ≡ anywhereAnswer f t number → Made (r .floor) cs g bs ns → Made f (anywhere t number ∷ cs) g (placedBy number r ++ bs) ns
   stops : {f g : Floor} {cs : List Call} {bs : List ℕ} {ns : ℕ → List ℕ} (t : ℕ) (r : Answer) → r ≡ stopAnswer f t → Made (r .floor) cs g bs ns → Made f (stop t ∷ cs) g bs ns
   repairs : {f g : Floor} {cs : List Call} {bs : List ℕ} {ns : ℕ → List ℕ} (t : ℕ) (r : Answer) → r ≡ repairAnswer f t → Made (r .floor) cs g bs ns → Made f (repair t ∷ cs) g bs ns
   rounds : {f g : Floor} {cs : List Call} {bs : List ℕ} {ns : ℕ → List ℕ} (r : Rounded) → r ≡ roundAnswer f → Made (r .floor) cs g bs ns → Made f (round ∷ cs) g bs (joined r ns)
@@ -40,6 +47,7 @@ pub made-floor : {f g : Floor} {cs : List Call} {bs : List ℕ} {ns : ℕ → Li
 unfolding floorAfter outcome
 made-floor none = refl
 made-floor (books {cs = cs} t c r e p) = made-floor p ∙ ap (λ (x : Answer). floorAfter (x .floor) cs) e
+made-floor (places {cs = cs} t number r e p) = made-floor p ∙ ap (λ (x : Placed). floorAfter (x .floor) cs) e
 made-floor (stops {cs = cs} t r e p) = made-floor p ∙ ap (λ (x : Answer). floorAfter (x .floor) cs) e
 made-floor (repairs {cs = cs} t r e p) = made-floor p ∙ ap (λ (x : Answer). floorAfter (x .floor) cs) e
 made-floor (rounds {cs = cs} r e p) = made-floor p ∙ ap (λ (x : Rounded). floorAfter (x .floor) cs) e
@@ -51,6 +59,7 @@ pub made-booked : {f g : Floor} {cs : List Call} {bs : List ℕ} {ns : ℕ → L
 unfolding bookedIn outcome
 made-booked none = refl
 made-booked (books {cs = cs} t c r e p) = ap (λ l. bookedBy c r ++ l) (made-booked p) ∙ ap (λ (x : Answer). bookedBy c x ++ bookedIn (x .floor) cs) e
+made-booked (places {cs = cs} t number r e p) = ap (λ l. placedBy number r ++ l) (made-booked p) ∙ ap (λ (x : Placed). placedBy number x ++ bookedIn (x .floor) cs) e
 made-booked (stops {cs = cs} t r e p) = made-booked p ∙ ap (λ (x : Answer). bookedIn (x .floor) cs) e
 made-booked (repairs {cs = cs} t r e p) = made-booked p ∙ ap (λ (x : Answer). bookedIn (x .floor) cs) e
 made-booked (rounds {cs = cs} r e p) = made-booked p ∙ ap (λ (x : Rounded). bookedIn (x .floor) cs) e
@@ -62,6 +71,7 @@ pub made-reported : {f g : Floor} {cs : List Call} {bs : List ℕ} {ns : ℕ →
 unfolding reportedIn outcome
 made-reported none = refl
 made-reported (books {cs = cs} t c r e p) = made-reported p ∙ ap (λ (x : Answer). reportedIn (x .floor) cs) e
+made-reported (places {cs = cs} t number r e p) = made-reported p ∙ ap (λ (x : Placed). reportedIn (x .floor) cs) e
 made-reported (stops {cs = cs} t r e p) = made-reported p ∙ ap (λ (x : Answer). reportedIn (x .floor) cs) e
 made-reported (repairs {cs = cs} t r e p) = made-reported p ∙ ap (λ (x : Answer). reportedIn (x .floor) cs) e
 made-reported (rounds {cs = cs} r e p) = ap (joined r) (made-reported p) ∙ ap (λ (x : Rounded). joined x (reportedIn (x .floor) cs)) e
@@ -73,6 +83,7 @@ made-reported (recalls {cs = cs} name r e p) = made-reported p ∙ ap (λ (x : A
 unfoldable pub runsMade : {f g : Floor} {cs : List Call} {bs : List ℕ} {ns : ℕ → List ℕ} → Made f cs g bs ns → ℕ → Bool → Bool
 runsMade none t b = b
 runsMade (books u c r e p) t b = runsMade p t b
+runsMade (places u number r e p) t b = runsMade p t b
 runsMade (stops u r e p) t b = runsMade p t (cond (eqb (r .refusal) 0 && eqb u t) false b)
 runsMade (repairs u r e p) t b = runsMade p t (cond (eqb (r .refusal) 0 && eqb u t) true b)
 runsMade (rounds r e p) t b = runsMade p t b
@@ -84,6 +95,7 @@ pub made-runs : {f g : Floor} {cs : List Call} {bs : List ℕ} {ns : ℕ → Lis
 unfolding runsMade latest runsBy outcome
 made-runs none t b = refl
 made-runs (books {cs = cs} u c r e p) t b = made-runs p t b ∙ ap (λ (x : Answer). latest (x .floor) cs t b) e
+made-runs (places {cs = cs} u number r e p) t b = made-runs p t b ∙ ap (λ (x : Placed). latest (x .floor) cs t b) e
 made-runs (stops {cs = cs} u r e p) t b = made-runs p t (cond (eqb (r .refusal) 0 && eqb u t) false b) ∙ ap (λ (x : Answer). latest (x .floor) cs t (cond (eqb (x .refusal) 0 && eqb u t) false b)) e
 made-runs (repairs {cs = cs} u r e p) t b = made-runs p t (cond (eqb (r .refusal) 0 && eqb u t) true b) ∙ ap (λ (x : Answer). latest (x .floor) cs t (cond (eqb (x .refusal) 0 && eqb u t) true b)) e
 made-runs (rounds {cs = cs} r e p) t b = made-runs p t b ∙ ap (λ (x : Rounded). latest (x .floor) cs t b) e
@@ -92,3 +104,16 @@ made-runs (forgets {cs = cs} name r e p) t b = made-runs p t b ∙ ap (λ (x : A
 made-runs (recalls {f = f} {cs = cs} name r e p) t b =
     made-runs p t (cond (eqb (r .refusal) 0 && recallMakes f name t) (bit (recallSet f name) t) b)
     ∙ ap (λ (x : Answer). latest (x .floor) cs t (cond (eqb (x .refusal) 0 && recallMakes f name t) (bit (recallSet f name) t) b)) e
+
+-- every list of calls can be made: no sort of call is left out of `Made`
+pub every-list : (f : Floor) (cs : List Call) → Made f cs (floorAfter f cs) (bookedIn f cs) (reportedIn f cs)
+unfolding floorAfter bookedIn reportedIn outcome
+every-list f [] = none
+every-list f (book t c ∷ cs) = let r = bookAnswer f t c in books t c r refl (every-list (r .floor) cs)
+every-list f (anywhere t number ∷ cs) = let r = anywhereAnswer f t number in places t number r refl (every-list (r .floor) cs)
+every-list f (stop t ∷ cs) = let r = stopAnswer f t in stops t r refl (every-list (r .floor) cs)
+every-list f (repair t ∷ cs) = let r = repairAnswer f t in repairs t r refl (every-list (r .floor) cs)
+every-list f (round ∷ cs) = let r = roundAnswer f in rounds r refl (every-list (r .floor) cs)
+every-list f (keep name ∷ cs) = let r = keepAnswer f name in keeps name r refl (every-list (r .floor) cs)
+every-list f (forget name ∷ cs) = let r = forgetAnswer f name in forgets name r refl (every-list (r .floor) cs)
+every-list f (recall name ∷ cs) = let r = recallAnswer f name in recalls name r refl (every-list (r .floor) cs)

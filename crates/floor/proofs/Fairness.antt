@@ -27,9 +27,9 @@ use Rattle.floor.specs.Well.{wellFormed}
 use Rattle.floor.specs.Route.{route}
 use Rattle.floor.specs.Signal.{missing, signalBy, grantOf}
 use Rattle.floor.specs.Calls.{stopped, repaired, stopTests, heldTests, recalled, afterRound, reportOf, roundAnswer}
-use Rattle.floor.specs.Demand3.{Call, book, stop, repair, round, forget, recall, Typed, recallSet, isRound, roundsIn, outcome, floorAfter}
+use Rattle.floor.specs.Demand3.{Call, book, anywhere, stop, repair, round, forget, recall, Typed, recallSet, isRound, roundsIn, outcome, floorAfter}
 use Rattle.floor.specs.Fairness.{wants, Waiting, granted, grantsIn, Fair, grantCount, turnOf, NobodyWaits, Fairness}
-use Rattle.floor.specs.Together.{stops, repairs}
+use Rattle.floor.specs.Together.{stops, repairs, placed, unplaced}
 use Rattle.floor.proofs.Sound.{Sound}
 use Rattle.floor.proofs.Grid.{each-side, side-pos, opposite-side}
 use Rattle.floor.proofs.Tables.{run-on}
@@ -134,7 +134,8 @@ on-call f w t c h on = omega (arith, ap (λ (s : Settings). total s) (call-keeps
 module _ (t k j : ℕ) (z : j ≢ 0) (n : j ≢ k) where
   past-call : (f : Floor) → wellFormed f ≡ true → (c : Call) → Typed c → isRound c ≡ false → Past k j (tileOf (view f) t) → Past k j (tileOf (view (outcome f c .floor)) t)
   unfolding stopped repaired
-  past-call f w (book u b) h r p = book-tile (Past k j) f w u t p b h (λ x l q. q)
+  past-call f w (book u b) h r p = book-tile (Past k j) f w u t p (placed b) h (λ x l q. q)
+  past-call f w (anywhere u number) h r p = book-tile (Past k j) f w u t p (unplaced number) h (λ x l q. q)
   past-call f w (stop u) h r p = press-tile (Past k j) f w u t p stops (λ x q. inl refl)
   past-call f w (repair u) h r p = press-tile (Past k j) f w u t p repairs (λ x q. q)
   past-call f w round h r p = absurd (true≢false r)
@@ -206,7 +207,8 @@ none-stays t k f w on d (c ∷ cs) h r = none-stays t k (outcome f c .floor) (ca
     None x = x .distance ≡ 255
 
     kept : (c : Call) → Typed c → cond (isRound c) 1 0 + roundsIn cs ≡ 0 → distanceOf (view (outcome f c .floor)) t ≡ 255
-    kept (book u b) h r = book-tile None f w u t d b h (λ x l q. q)
+    kept (book u b) h r = book-tile None f w u t d (placed b) h (λ x l q. q)
+    kept (anywhere u number) h r = book-tile None f w u t d (unplaced number) h (λ x l q. q)
     kept (stop u) h r = press-tile None f w u t d stops (λ x q. refl)
     kept (repair u) h r = press-tile None f w u t d repairs (λ x q. q)
     kept round h r = absurd (omega arith)

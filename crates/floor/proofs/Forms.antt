@@ -1,4 +1,4 @@
--- Bookings, stops, repairs, and what names a layout, in one form: tests and a change, both of the floor as a value. What holds of any two such calls that do not touch each other.
+-- Bookings of either sort, stops, repairs, and what names a layout, in one form: tests and a change, both of the floor as a value. What holds of any two such calls that do not touch each other.
 use mathlib.Core.Path.{_≡_, refl, sym, ap, _∙_, subst}
 use mathlib.Core.Bool.{Bool, true, false, cond, not}
 use mathlib.Core.List.{List}
@@ -16,12 +16,13 @@ use Rattle.floor.specs.Model.{TileState, Model, tileOf, withTile}
 use Rattle.floor.specs.Memory.{view, pack}
 use Rattle.floor.specs.Well.{wellFormed}
 use Rattle.floor.specs.Calls.{refusalOf, answer, bookTests, booked, bookAnswer, stopTests, stopped, stopAnswer, repairTests, repaired, repairAnswer, keepTests, keptUnder, keepAnswer, heldTests, forgotten, forgetAnswer, recalled, recallAnswer}
-use Rattle.floor.specs.Demand3.{Call, book, keep, forget, recall, outcome}
-use Rattle.floor.specs.Together.{Presses, stops, repairs}
+use Rattle.floor.specs.Anywhere.{anywhereTests, placedAt, anywhereAnswer}
+use Rattle.floor.specs.Demand3.{Call, keep, forget, recall, Typed, outcome}
+use Rattle.floor.specs.Together.{Presses, stops, repairs, Books, placed, unplaced}
 use Rattle.floor.proofs.Sound.{Sound}
 use Rattle.floor.proofs.Pack.{well-sound}
 use Rattle.floor.proofs.Capacity.{sound-well, view-packed}
-use Rattle.floor.proofs.Calls.{Accepted, book-keeps, stop-keeps, repair-keeps}
+use Rattle.floor.proofs.Calls.{Accepted, book-keeps, anywhere-accepts, stop-keeps, repair-keeps}
 use Rattle.floor.proofs.Laying.{keep-keeps, forget-keeps}
 use Rattle.floor.proofs.Stages.{recall-keeps}
 use Rattle.floor.proofs.Lists.{passed}
@@ -166,16 +167,36 @@ unfolding outcome stopAnswer repairAnswer answer
 press-answers stops = record { number = λ f. refl; floor = λ f. refl }
 press-answers repairs = record { number = λ f. refl; floor = λ f. refl }
 
-pub book-pos : (t : ℕ) (b : Canister) (m : Model) → All (λ x. 0 < x .1) (bookTests m t b)
-unfolding bookTests
-book-pos t b m = omega arith
+-- a booking's tests, and the canister that it adds
+abbrev pub bookTestsOf : {t : ℕ} {c : Call} → Books t c → Model → List (Bool × ℕ)
+bookTestsOf {t} (placed b) m = bookTests m t b
+bookTestsOf {t} (unplaced number) m = anywhereTests m t number
 
-abbrev pub bookForm : (t : ℕ) (b : Canister) → b .number < 2 ^ 32 → Form
-bookForm t b h = record { tests = λ m. bookTests m t b; change = λ m. booked m t b; pos = book-pos t b; sound = λ m S A. book-keeps m S t b A h .well }
+abbrev pub canisterOf : {t : ℕ} {c : Call} → Books t c → Model → Canister
+canisterOf (placed b) m = b
+canisterOf {t} (unplaced number) m = placedAt m t number
 
-pub book-answers : (t : ℕ) (b : Canister) (h : b .number < 2 ^ 32) → Answers (book t b) (bookForm t b h)
-unfolding outcome bookAnswer answer
-book-answers t b h = record { number = λ f. refl; floor = λ f. refl }
+pub booking-pos : {t : ℕ} {c : Call} (p : Books t c) (m : Model) → All (λ x. 0 < x .1) (bookTestsOf p m)
+unfolding bookTests anywhereTests
+booking-pos (placed b) m = omega arith
+booking-pos (unplaced number) m = omega arith
+
+pub booking-accepts : {t : ℕ} {c : Call} (p : Books t c) (m : Model) → Accepted (bookTestsOf p m) → Accepted (bookTests m t (canisterOf p m))
+booking-accepts (placed b) m A = A
+booking-accepts {t} (unplaced number) m A = anywhere-accepts m t number A
+
+pub booking-fits : {t : ℕ} {c : Call} (p : Books t c) → Typed c → (m : Model) → canisterOf p m .number < 2 ^ 32
+unfolding placedAt
+booking-fits (placed b) h m = h
+booking-fits (unplaced number) h m = h
+
+abbrev pub bookForm : {t : ℕ} {c : Call} → Books t c → Typed c → Form
+bookForm {t} p h = record { tests = bookTestsOf p; change = λ m. booked m t (canisterOf p m); pos = booking-pos p; sound = λ m S A. book-keeps m S t (canisterOf p m) (booking-accepts p m A) (booking-fits p h m) .well }
+
+pub book-answers : {t : ℕ} {c : Call} (p : Books t c) (h : Typed c) → Answers c (bookForm p h)
+unfolding outcome bookAnswer anywhereAnswer answer
+book-answers (placed b) h = record { number = λ f. refl; floor = λ f. refl }
+book-answers (unplaced number) h = record { number = λ f. refl; floor = λ f. refl }
 
 -- keeping, forgetting, recalling
 pub keep-pos : (name : ℕ) (m : Model) → All (λ x. 0 < x .1) (keepTests (m .layouts) name)

@@ -23,8 +23,8 @@ use Rattle.floor.specs.Signal.{missing}
 use Rattle.floor.specs.Bound.{bound}
 use Rattle.floor.specs.Live.{connected, connectedCount}
 use Rattle.floor.specs.Reports.{listedAt}
-use Rattle.floor.specs.Demand3.{Call, book, stop, repair, round, Typed, outcome, floorAfter, runsAfter, changesRunning, Quiet, roundsIn}
-use Rattle.floor.specs.Together.{stops, repairs, Exchangeable, presses, booking, BothBooked}
+use Rattle.floor.specs.Demand3.{Call, book, anywhere, stop, repair, round, Typed, outcome, floorAfter, runsAfter, changesRunning, Quiet, roundsIn}
+use Rattle.floor.specs.Together.{stops, repairs, placed, unplaced, Exchangeable, presses, booking, BothBooked}
 use Rattle.floor.specs.Fairness.{wants, Waiting, granted, grantsIn, Fair, grantCount, turnOf}
 use Rattle.floor.specs.Arrows.{beyond, FacesNearest, Chooses, Unpressed, Steady, Resting}
 use Rattle.floor.proofs.Calling.{settings, can, holds}
@@ -163,9 +163,12 @@ stop-repair : (t u : ℕ) → t ≢ u → Exchangeable (stop t) (repair u)
 stop-repair t u n = presses n stops repairs
 
 book-stop : (t u : ℕ) (c : Canister) → t ≢ u → c .number < 2 ^ 32 → Exchangeable (book t c) (stop u)
-book-stop t u c n h = booking n h stops
+book-stop t u c n h = booking n (placed c) h stops
 
-both-booked : BothBooked (floorOf (fresh 3 1 2)) 0 (can 5 0 0) 1 (can 7 0 0)
+anywhere-repair : (t u number : ℕ) → t ≢ u → number < 2 ^ 32 → Exchangeable (anywhere t number) (repair u)
+anywhere-repair t u number n h = booking n (unplaced number) h repairs
+
+both-booked : BothBooked (floorOf (fresh 3 1 2)) (book 0 (can 5 0 0)) (book 1 (can 7 0 0))
 unfolding holds floorOf can outcome
 both-booked = (refl, refl)
 
@@ -173,7 +176,7 @@ unfoldable heard : Rows
 heard =
     let calls = book 0 (can 6 0 0) ∷ rounds 4 in
     (said (λ x. x .0) calls one, 34 ∷ replicate 4 0)
-    ∷ (said (λ x. length (listedAt (x .1) 0)) calls one, 0 ∷ 0 ∷ 0 ∷ 0 ∷ 1 ∷ [])
+    ∷ (said (λ x. length (listedAt (x .2) 0)) calls one, 0 ∷ 0 ∷ 0 ∷ 0 ∷ 1 ∷ [])
     ∷ []
 
 heard-test : holdBy heard ≡ true

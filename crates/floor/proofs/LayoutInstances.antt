@@ -12,7 +12,7 @@ use Rattle.floor.specs.Settings.{total}
 use Rattle.floor.specs.Layouts.{setOf}
 use Rattle.floor.specs.Model.{Model, nextOf, membersOf, runsOf}
 use Rattle.floor.specs.Memory.{view}
-use Rattle.floor.specs.Demand3.{Call, book, stop, repair, round, keep, forget, recall, Typed, floorAfter, recallSet, disturbs}
+use Rattle.floor.specs.Demand3.{Call, book, anywhere, stop, repair, round, keep, forget, recall, Typed, floorAfter, recallSet, disturbs}
 use Rattle.floor.specs.Named.{needed, recallCalls}
 use Rattle.floor.specs.Fairness.{wants, Waiting, grantsIn, Fair}
 use Rattle.floor.specs.Arrows.{Unpressed}
@@ -47,6 +47,7 @@ codes [] = []
 codes (stop t ∷ cs) = 1 ∷ t ∷ codes cs
 codes (repair t ∷ cs) = 2 ∷ t ∷ codes cs
 codes (book t c ∷ cs) = 0 ∷ codes cs
+codes (anywhere t number ∷ cs) = 0 ∷ codes cs
 codes (round ∷ cs) = 0 ∷ codes cs
 codes (keep name ∷ cs) = 0 ∷ codes cs
 codes (forget name ∷ cs) = 0 ∷ codes cs

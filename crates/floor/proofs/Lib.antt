@@ -26,6 +26,7 @@ pub mod Kept
 pub mod Deliveries
 pub mod Progress
 pub mod Clearing
+pub mod Lowest
 pub mod Calls
 pub mod Laying
 pub mod Stages
@@ -36,6 +37,7 @@ pub mod Reports
 pub mod Theorem
 pub mod Chain
 pub mod Forms
+pub mod Placing
 pub mod Together
 pub mod LayoutPlaces
 pub mod Touching
@@ -54,6 +56,8 @@ pub mod Made
 pub mod Trials
 pub mod Samples
 pub mod LayoutSamples
+pub mod AnywhereSamples
 pub mod Instances
 pub mod StandingInstances
 pub mod LayoutInstances
+pub mod AnywhereInstances

@@ -26,15 +26,16 @@ use Rattle.floor.specs.Route.{route}
 use Rattle.floor.specs.Signal.{signal, signalOf, shownOf}
 use Rattle.floor.specs.Move.{move, moveTile, arrivals, deliveredBy}
 use Rattle.floor.specs.Calls.{refusalOf, answer, bookTests, booked, bookAnswer, stopTests, stopped, stopAnswer, repairTests, repaired, repairAnswer, keepTests, keptUnder, keepAnswer, heldTests, forgotten, forgetAnswer, recalled, recallAnswer, afterRound, delivered, deliveryOf, noDelivery, reportOf, roundAnswer}
+use Rattle.floor.specs.Anywhere.{anywhereTests, placedAt, anywhereAnswer}
 use Rattle.floor.specs.Reports.{listed, listedAt}
-use Rattle.floor.specs.Demand3.{Call, book, stop, repair, round, keep, forget, recall, Typed, outcome, floorAfter, bookedIn, reportedIn, recallSet, recallMakes, runsBy, latest, isRound, changesRunning, disturbs, Quiet, roundsIn}
+use Rattle.floor.specs.Demand3.{Call, book, anywhere, stop, repair, round, keep, forget, recall, Typed, outcome, floorAfter, bookedIn, reportedIn, recallSet, recallMakes, runsBy, latest, isRound, changesRunning, disturbs, Quiet, roundsIn}
 use Rattle.floor.proofs.Sound.{Sound}
 use Rattle.floor.proofs.Pack.{well-sound}
 use Rattle.floor.proofs.Capacity.{sound-well, view-packed}
 use Rattle.floor.proofs.Deliveries.{delivered-few}
 use Rattle.floor.proofs.Fields.{went, delivered-length, round-runs}
 use Rattle.floor.proofs.Clearing.{rounds}
-use Rattle.floor.proofs.Calls.{Keeps, none, Accepted, book-keeps, stop-keeps, repair-keeps, round-keeps, same-floor, keeps-join, book-runs, stop-runs, repair-runs}
+use Rattle.floor.proofs.Calls.{Keeps, none, Accepted, book-keeps, anywhere-accepts, anywhere-keeps, stop-keeps, repair-keeps, round-keeps, same-floor, keeps-join, book-runs, stop-runs, repair-runs}
 use Rattle.floor.proofs.Laying.{keep-keeps, forget-keeps}
 use Rattle.floor.proofs.Stages.{recall-keeps, recall-runs, recall-none}
 
@@ -130,6 +131,7 @@ module _ (f : Floor) (w : wellFormed f ≡ true) where
 
   pub view-round : (c : Call) → isRound c ≡ true → view (outcome f c .floor) ≡ afterRound (view f)
   view-round (book t c) e = absurd (false≢true e)
+  view-round (anywhere t number) e = absurd (false≢true e)
   view-round (stop t) e = absurd (false≢true e)
   view-round (repair t) e = absurd (false≢true e)
   view-round (keep name) e = absurd (false≢true e)
@@ -139,9 +141,11 @@ module _ (f : Floor) (w : wellFormed f ≡ true) where
 
   -- ---- one call
   pub call-keeps : (c : Call) → Typed c → KeepsWell f (outcome f c .floor) (outcome f c .booked) (outcome f c .reported)
-  unfolding outcome bookAnswer stopAnswer repairAnswer keepAnswer forgetAnswer recallAnswer answer bookTests stopTests repairTests keepTests heldTests
+  unfolding outcome bookAnswer anywhereAnswer stopAnswer repairAnswer keepAnswer forgetAnswer recallAnswer answer bookTests anywhereTests stopTests repairTests keepTests heldTests
   call-keeps (book t c) h =
       answer-keeps (bookTests (view f) t c) (omega arith) (booked (view f) t c) (λ b. cond b (c .number ∷ []) []) refl (λ T. book-keeps (view f) S t c T h)
+  call-keeps (anywhere t number) h =
+      answer-keeps (anywhereTests (view f) t number) (omega arith) (booked (view f) t (placedAt (view f) t number)) (λ b. cond b (number ∷ []) []) refl (λ T. anywhere-keeps (view f) S t number T h)
   call-keeps (stop t) h = answer-keeps (stopTests (view f) t) (omega arith) (withTile (view f) t (stopped (tileOf (view f) t))) (λ _. []) refl (stop-keeps (view f) S t)
   call-keeps (repair t) h = answer-keeps (repairTests (view f) t) (omega arith) (withTile (view f) t (repaired (tileOf (view f) t))) (λ _. []) refl (repair-keeps (view f) S t)
   call-keeps round h =
@@ -151,15 +155,18 @@ module _ (f : Floor) (w : wellFormed f ≡ true) where
   call-keeps (forget name) h = answer-keeps (heldTests (view f .layouts) name) (omega arith) (forgotten (view f) name) (λ _. []) refl (λ _. forget-keeps (view f) S name)
   call-keeps (recall name) h = answer-keeps (heldTests (view f .layouts) name) (omega arith) (recalled (view f) (setOf (view f .layouts) name)) (λ _. []) refl (recall-keeps (view f) S name)
 
+  never : (t : ℕ) (b : Bool) → cond (b && false) true (runsOf (view f) t) ≡ runsOf (view f) t
+  never t true = refl
+  never t false = refl
+
   -- which tiles run after it
   pub call-runs : (c : Call) → Typed c → (t : ℕ) → runsOf (view (outcome f c .floor)) t ≡ runsBy f c t (runsOf (view f) t)
-  unfolding outcome bookAnswer stopAnswer repairAnswer keepAnswer forgetAnswer recallAnswer answer bookTests stopTests repairTests keepTests heldTests keptUnder forgotten runsBy recallMakes recallSet view
+  unfolding outcome bookAnswer anywhereAnswer stopAnswer repairAnswer keepAnswer forgetAnswer recallAnswer answer bookTests anywhereTests stopTests repairTests keepTests heldTests keptUnder forgotten runsBy recallMakes recallSet view
   call-runs (book u c) h t =
-      answer-runs (bookTests (view f) u c) (omega arith) (booked (view f) u c) t false true S (λ T. book-keeps (view f) S u c T h .well) (λ T. book-runs (view f) S u c T t) ∙ never (eqb (refusalOf f (bookTests (view f) u c)) 0)
-    where
-      never : (b : Bool) → cond (b && false) true (runsOf (view f) t) ≡ runsOf (view f) t
-      never true = refl
-      never false = refl
+      answer-runs (bookTests (view f) u c) (omega arith) (booked (view f) u c) t false true S (λ T. book-keeps (view f) S u c T h .well) (λ T. book-runs (view f) S u c T t) ∙ never t (eqb (refusalOf f (bookTests (view f) u c)) 0)
+  call-runs (anywhere u number) h t =
+      answer-runs (anywhereTests (view f) u number) (omega arith) (booked (view f) u (placedAt (view f) u number)) t false true S (λ T. anywhere-keeps (view f) S u number T h .well)
+      (λ T. book-runs (view f) S u (placedAt (view f) u number) (anywhere-accepts (view f) u number T) t) ∙ never t (eqb (refusalOf f (anywhereTests (view f) u number)) 0)
   call-runs (stop u) h t =
       answer-runs (stopTests (view f) u) (omega arith) (withTile (view f) u (stopped (tileOf (view f) u))) t (eqb u t) false S (λ T. stop-keeps (view f) S u T .well) (λ T. stop-runs (view f) S u T t)
   call-runs (repair u) h t =
@@ -182,8 +189,9 @@ module _ (f : Floor) (w : wellFormed f ≡ true) where
   refused tests n h = rw (ne-eqb (refusalOf f tests) 0 h)
 
   pub call-refused : (c : Call) → isRound c ≡ false → outcome f c .refusal ≢ 0 → outcome f c .floor ≡ f
-  unfolding outcome bookAnswer stopAnswer repairAnswer keepAnswer forgetAnswer recallAnswer answer
+  unfolding outcome bookAnswer anywhereAnswer stopAnswer repairAnswer keepAnswer forgetAnswer recallAnswer answer
   call-refused (book t c) r h = refused (bookTests (view f) t c) (booked (view f) t c) h
+  call-refused (anywhere t number) r h = refused (anywhereTests (view f) t number) (booked (view f) t (placedAt (view f) t number)) h
   call-refused (stop t) r h = refused (stopTests (view f) t) (withTile (view f) t (stopped (tileOf (view f) t))) h
   call-refused (repair t) r h = refused (repairTests (view f) t) (withTile (view f) t (repaired (tileOf (view f) t))) h
   call-refused round r h = absurd (true≢false r)
@@ -237,6 +245,7 @@ module _ (f : Floor) (w : wellFormed f ≡ true) where
   quiet-call : (c : Call) → isRound c ≡ false → disturbs f c ≡ false → Relaid c
   unfolding disturbs changesRunning
   quiet-call (book t c) r q = relaid-refused (book t c) r (eqb-false (outcome f (book t c) .refusal) 0 q)
+  quiet-call (anywhere t number) r q = relaid-refused (anywhere t number) r (eqb-false (outcome f (anywhere t number) .refusal) 0 q)
   quiet-call (stop t) r q = relaid-refused (stop t) r (eqb-false (outcome f (stop t) .refusal) 0 q)
   quiet-call (repair t) r q = relaid-refused (repair t) r (eqb-false (outcome f (repair t) .refusal) 0 q)
   quiet-call round r q = absurd (true≢false r)

@@ -11,7 +11,6 @@ use Rattle.laws.proofs.Tests.{and-left, and-right, and-true}
 use Rattle.floor.specs.declared.Settings.{Settings}
 use Rattle.floor.specs.declared.Layout.{Layout}
 use Rattle.floor.specs.declared.Floor.{Floor}
-use Rattle.floor.specs.declared.Report.{Report}
 use Rattle.floor.specs.Settings.{settingsPass}
 use Rattle.floor.specs.Layouts.{layoutsSound}
 use Rattle.floor.specs.Model.{Model, runsOf}
@@ -20,13 +19,13 @@ use Rattle.floor.specs.Calls.{freshFloor, freshAnswer, reportOf, readTes
 use Rattle.floor.specs.Reports.{listedAt}
 use Rattle.floor.specs.Bound.{bound}
 use Rattle.floor.specs.Live.{connectedCount}
-use Rattle.floor.specs.Demand3.{Call, book as booking, stop as stopping, repair as repairing, round, keep as keeping, forget as forgetting, recall as recalling, Typed, outcome, bookedIn as bookedOn, reportedIn as reportedOn, runsAfter as runsOn}
-use Rattle.floor.specs.Together.{saidIn}
+use Rattle.floor.specs.Demand3.{Call, book as booking, anywhere as placing, stop as stopping, repair as repairing, round, keep as keeping, forget as forgetting, recall as recalling, Typed, outcome, bookedIn as bookedOn, reportedIn as reportedOn, runsAfter as runsOn}
+use Rattle.floor.specs.Together.{Said, placeTo, saidIn}
 use Rattle.floor.specs.Fairness.{grantsIn}
 use Rattle.floor.proofs.Well.{settings-fact}
 use Rattle.floor.proofs.Capacity.{view-packed, sound-well}
 use Rattle.floor.proofs.First.{fresh-sound}
-use Rattle.floor.proofs.Shown.{Shows, testsOf, changed, refusalBy, valueBy, readBy, shows-refusal, shows-call, shows-read, shows-relaid, shows-round, shows-report}
+use Rattle.floor.proofs.Shown.{Shows, testsOf, changed, refusalBy, placeBy, valueBy, readBy, shows-refusal, shows-place, shows-call, shows-read, shows-relaid, shows-round, shows-report}
 use Rattle.floor.proofs.Walked.{isTyped, typed, all-typed, answers as answersOn, valueAfter, answersBy, bookedOf, bookedBy, reportBy, saidBy, reportedOf, reportedBy, grantsBy, answers-same, booked-same, said-same, reported-same, grants-same, runs-same}
 use Rattle.floor.proofs.Calling.{got, settings, can, flat, same, counts, on as onFloor, distances as distancesOn, next as nextOn, reportedTo as reportedFrom, grant as grantOn, why as whyOn, layoutNumbers, laid as laidOn, has, whole as wholeOf, counted as countedOn, liveCount as liveOn, boundOf as boundOn}
 
@@ -42,6 +41,10 @@ fresh W H hopper = begun (settings W H hopper 20)
 -- canister number n at (a, b) on tile t
 abbrev pub book : ℕ → ℕ → ℕ → ℕ → Made → Made
 book n a b t e = called (booking t (can n a b)) e
+
+-- number n, wherever there is room on tile t
+abbrev pub place : ℕ → ℕ → Made → Made
+place n t e = called (placing t n) e
 
 abbrev pub stop : ℕ → Made → Made
 stop t e = called (stopping t) e
@@ -81,10 +84,12 @@ pub data Seen : Type 0 where
   liveCount : Made → Seen
   boundOf : Made → Seen
   answered : Call → Made → Seen
+  -- with the place that it tells
+  told : Call → Made → Seen
   answers : List Call → Made → Seen
   booked : List Call → Made → Seen
   reportedIn : ℕ → List Call → Made → Seen
-  said : (ℕ × Report → ℕ) → List Call → Made → Seen
+  said : (Said → ℕ) → List Call → Made → Seen
   grants : ℕ → List Call → Made → Seen
   runsAfter : List ℕ → List Call → Made → Seen
   -- the refusal of reading it with these places of layouts
@@ -107,6 +112,7 @@ seen (counted e) = countedOn (floorOf e)
 seen (liveCount e) = liveOn (floorOf e) ∷ []
 seen (boundOf e) = boundOn (floorOf e) ∷ []
 seen (answered c e) = outcome (floorOf e) c .refusal ∷ []
+seen (told c e) = let p = placeTo (floorOf e) c in outcome (floorOf e) c .refusal ∷ p .0 ∷ p .1 ∷ []
 seen (answers cs e) = answersOn (floorOf e) cs
 seen (booked cs e) = bookedOn (floorOf e) cs
 seen (reportedIn k cs e) = reportedOn (floorOf e) cs k
@@ -162,6 +168,7 @@ seenBy (counted e) = let p = made e in (p .0, readBy (p .1) 0 .refusal ∷ count
 seenBy (liveCount e) = let p = made e in let m = p .1 in (p .0, connectedCount m (runsOf m) ∷ [])
 seenBy (boundOf e) = let p = made e in let m = p .1 in (p .0, bound (m .settings) (connectedCount m (runsOf m)) ∷ [])
 seenBy (answered c e) = let p = made e in (p .0, refusalBy (p .1) c ∷ [])
+seenBy (told c e) = let p = made e in let q = placeBy (p .1) c in (p .0, refusalBy (p .1) c ∷ q .0 ∷ q .1 ∷ [])
 seenBy (answers cs e) = let p = made e in (p .0 && allOf isTyped cs, answersBy (p .1) cs)
 seenBy (booked cs e) = let p = made e in (p .0 && allOf isTyped cs, bookedBy (p .1) cs)
 seenBy (reportedIn k cs e) = let p = made e in (p .0 && allOf isTyped cs, reportedBy (p .1) cs k)
@@ -199,6 +206,7 @@ seen-same (counted e) h =
 seen-same (liveCount e) h = ap (λ (m : Model). connectedCount m (runsOf m) ∷ []) (made-shows e h .value)
 seen-same (boundOf e) h = ap (λ (m : Model). bound (m .settings) (connectedCount m (runsOf m)) ∷ []) (made-shows e h .value)
 seen-same (answered c e) h = ap (λ (n : ℕ). n ∷ []) (shows-refusal (floorOf e) (made e .1) (made-shows e h) c)
+seen-same (told c e) h = let E = made-shows e h in rw (shows-refusal (floorOf e) (made e .1) E c, shows-place (floorOf e) (made e .1) E c)
 seen-same (answers cs e) h = answers-same (floorOf e) (made e .1) (list-shows e cs h) cs (list-typed e cs h)
 seen-same (booked cs e) h = booked-same (floorOf e) (made e .1) (list-shows e cs h) cs (list-typed e cs h)
 seen-same (reportedIn k cs e) h = reported-same (floorOf e) (made e .1) (list-shows e cs h) cs (list-typed e cs h) k
@@ -209,7 +217,7 @@ seen-same (laying ls e) h = ap (λ (n : ℕ). n ∷ []) (shows-relaid (floorOf e
 seen-same (given l) h = refl
 
 unfoldable pub holdBy : Rows → Bool
-unfolding made isTyped seenBy readBy refusalBy testsOf changed valueBy valueAfter answersBy bookedOf bookedBy reportBy saidBy reportedOf reportedBy grantsBy
+unfolding made isTyped seenBy readBy refusalBy testsOf placeBy changed valueBy valueAfter answersBy bookedOf bookedBy reportBy saidBy reportedOf reportedBy grantsBy
 holdBy rows = allOf (λ r. let p = seenBy (r .0) in p .0 && same (p .1) (r .1)) rows
 
 -- a table that holds by the values holds

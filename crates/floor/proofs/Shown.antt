@@ -9,6 +9,7 @@ use lib.ListN.{getD, replicate}
 use Rattle.laws.specs.Define.{tab, refusal}
 use Rattle.laws.specs.Every.{All}
 use Rattle.laws.proofs.Tests.{and-left}
+use Rattle.floor.specs.declared.Canister.{Canister}
 use Rattle.floor.specs.declared.Layout.{Layout}
 use Rattle.floor.specs.declared.Floor.{Floor}
 use Rattle.floor.specs.declared.Reading.{Reading}
@@ -17,11 +18,13 @@ use Rattle.floor.specs.Model.{Model, tileOf, withTile, numbersOn}
 use Rattle.floor.specs.Memory.{zeroTile, zeroCanister, stateOf, usedLayouts, view, head, pack, stateFits, layoutsFit, relaid}
 use Rattle.floor.specs.Well.{stateSound, stateWell, layoutsWell, wellFormed}
 use Rattle.floor.specs.Calls.{refusalOf, answer, bookTests, booked, bookAnswer, stopTests, stopped, stopAnswer, repairTests, repaired, repairAnswer, keepTests, keptUnder, keepAnswer, heldTests, forgotten, forgetAnswer, recalled, recallAnswer, afterRound, reportOf, roundAnswer, readTests, readAnswer}
-use Rattle.floor.specs.Demand3.{Call, book, stop, repair, round, keep, forget, recall, Typed, outcome}
+use Rattle.floor.specs.Anywhere.{anywhereTests, placedAt, anywhereAnswer}
+use Rattle.floor.specs.Demand3.{Call, book, anywhere, stop, repair, round, keep, forget, recall, Typed, outcome}
+use Rattle.floor.specs.Together.{placeTo}
 use Rattle.floor.proofs.Sound.{Sound}
 use Rattle.floor.proofs.Pack.{well-sound, well-parts}
 use Rattle.floor.proofs.Capacity.{view-packed}
-use Rattle.floor.proofs.Calls.{Accepted, book-keeps, stop-keeps, repair-keeps}
+use Rattle.floor.proofs.Calls.{Accepted, book-keeps, anywhere-keeps, stop-keeps, repair-keeps}
 use Rattle.floor.proofs.Laying.{keep-keeps, forget-keeps}
 use Rattle.floor.proofs.Stages.{recall-keeps}
 use Rattle.floor.proofs.Lists.{passed, round-accepted, round-report, view-round, call-keeps}
@@ -34,6 +37,7 @@ pub record Shows (f : Floor) (m : Model) : Type 0 where
 -- ---- a call on a value: its tests but the first, 30, and what it makes of the value
 unfoldable pub testsOf : Model → Call → List (Bool × ℕ)
 testsOf m (book t c) = bookTests m t c
+testsOf m (anywhere t number) = anywhereTests m t number
 testsOf m (stop t) = stopTests m t
 testsOf m (repair t) = repairTests m t
 testsOf m round = []
@@ -43,6 +47,7 @@ testsOf m (recall name) = heldTests (m .layouts) name
 
 unfoldable pub changed : Model → Call → Model
 changed m (book t c) = booked m t c
+changed m (anywhere t number) = booked m t (placedAt m t number)
 changed m (stop t) = withTile m t (stopped (tileOf m t))
 changed m (repair t) = withTile m t (repaired (tileOf m t))
 changed m round = afterRound m
@@ -52,6 +57,20 @@ changed m (recall name) = recalled m (setOf (m .layouts) name)
 
 unfoldable pub refusalBy : Model → Call → ℕ
 refusalBy m c = refusal (testsOf m c)
+
+-- the place that is told, n being the refusal number
+abbrev foundAs : ℕ → Canister → ℕ × ℕ
+foundAs n c = (cond (eqb n 0) (c .a) 0, cond (eqb n 0) (c .b) 0)
+
+unfoldable pub placeBy : Model → Call → ℕ × ℕ
+placeBy m (book t c) = (0, 0)
+placeBy m (anywhere t number) = foundAs (refusalBy m (anywhere t number)) (placedAt m t number)
+placeBy m (stop t) = (0, 0)
+placeBy m (repair t) = (0, 0)
+placeBy m round = (0, 0)
+placeBy m (keep name) = (0, 0)
+placeBy m (forget name) = (0, 0)
+placeBy m (recall name) = (0, 0)
 
 unfoldable pub valueBy : Model → Call → Model
 valueBy m c = cond (eqb (refusalBy m c) 0) (changed m c) m
@@ -79,8 +98,9 @@ module _ (f : Floor) (w : wellFormed f ≡ true) where
       go false e = refl
 
   refusal-here : (c : Call) → outcome f c .refusal ≡ refusalBy (view f) c
-  unfolding outcome bookAnswer stopAnswer repairAnswer roundAnswer keepAnswer forgetAnswer recallAnswer answer refusalBy testsOf
+  unfolding outcome bookAnswer anywhereAnswer stopAnswer repairAnswer roundAnswer keepAnswer forgetAnswer recallAnswer answer refusalBy testsOf
   refusal-here (book t c) = plain (bookTests (view f) t c)
+  refusal-here (anywhere t number) = plain (anywhereTests (view f) t number)
   refusal-here (stop t) = plain (stopTests (view f) t)
   refusal-here (repair t) = plain (repairTests (view f) t)
   refusal-here round = plain []
@@ -89,8 +109,10 @@ module _ (f : Floor) (w : wellFormed f ≡ true) where
   refusal-here (recall name) = plain (heldTests (view f .layouts) name)
 
   value-here : (c : Call) → Typed c → view (outcome f c .floor) ≡ valueBy (view f) c
-  unfolding outcome bookAnswer stopAnswer repairAnswer keepAnswer forgetAnswer recallAnswer answer bookTests stopTests repairTests keepTests heldTests valueBy refusalBy testsOf changed refusal
+  unfolding outcome bookAnswer anywhereAnswer stopAnswer repairAnswer keepAnswer forgetAnswer recallAnswer answer bookTests anywhereTests stopTests repairTests keepTests heldTests valueBy refusalBy testsOf changed refusal
   value-here (book t c) h = after (bookTests (view f) t c) (omega arith) (booked (view f) t c) (λ T. book-keeps (view f) S t c T h .well)
+  value-here (anywhere t number) h =
+      after (anywhereTests (view f) t number) (omega arith) (booked (view f) t (placedAt (view f) t number)) (λ T. anywhere-keeps (view f) S t number T h .well)
   value-here (stop t) h = after (stopTests (view f) t) (omega arith) (withTile (view f) t (stopped (tileOf (view f) t))) (λ T. stop-keeps (view f) S t T .well)
   value-here (repair t) h = after (repairTests (view f) t) (omega arith) (withTile (view f) t (repaired (tileOf (view f) t))) (λ T. repair-keeps (view f) S t T .well)
   value-here round h = view-round f w round refl
@@ -120,6 +142,19 @@ module _ (f : Floor) (m : Model) (s : Shows f m) where
   pub shows-relaid : (ls : List Layout) → readAnswer (relaid f ls) 0 .refusal ≡ refusal ((not (layoutsSound (m .settings) (usedLayouts ls) && layoutsFit ls), 30) ∷ readTests m 0)
   unfolding readAnswer refusalOf readTests view layoutsWell
   shows-relaid ls = rw (well-relaid ls) (ap (λ (x : Model). refusal ((not (layoutsSound (x .settings) (usedLayouts ls) && layoutsFit ls), 30) ∷ readTests x 0)) (s .value))
+
+  pub shows-place : (c : Call) → placeTo f c ≡ placeBy m c
+  unfolding placeTo anywhereAnswer answer placeBy refusalBy testsOf
+  shows-place (anywhere t number) =
+      ap (λ (n : ℕ). foundAs n (placedAt (view f) t number)) (plain f (s .well) (anywhereTests (view f) t number))
+      ∙ ap (λ (x : Model). foundAs (refusal (anywhereTests x t number)) (placedAt x t number)) (s .value)
+  shows-place (book t c) = refl
+  shows-place (stop t) = refl
+  shows-place (repair t) = refl
+  shows-place round = refl
+  shows-place (keep name) = refl
+  shows-place (forget name) = refl
+  shows-place (recall name) = refl
 
   pub shows-round : roundAnswer f .refusal ≡ 0
   unfolding roundAnswer

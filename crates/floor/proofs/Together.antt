@@ -6,7 +6,7 @@ use mathlib.Core.List.{List, [], _∷_, _++_}
 use Prim.Native.Nat.{ℕ, _+_, _^_, _<_}
 use native.Mathlib.Omega.{arith}
 use native.Mathlib.Decide.{ℕ-discrete}
-use lib.Dec.{leb, eqb}
+use lib.Dec.{eqb}
 use lib.ListN.{set}
 use lib.Seq.{getD-set-same, getD-set-other, set-comm, set-set, set-getD}
 use borrow.Author.Tests.{leb-false, le-leb, lt-leb, eq-eqb, not-false}
@@ -15,23 +15,24 @@ use Rattle.laws.proofs.Lists.{all-perm, all-true, true-all}
 use Rattle.laws.proofs.Tests.{by-test, not-both}
 use Rattle.floor.specs.declared.Canister.{Canister}
 use Rattle.floor.specs.declared.Floor.{Floor}
-use Rattle.floor.specs.declared.Report.{Report}
 use Rattle.floor.specs.Settings.{total, spacing, isHopper}
 use Rattle.floor.specs.Model.{TileState, Model, noTile, tileOf, runs, runsOf, membersOf, withTiles, withTile, withCounters, withMembers}
 use Rattle.floor.specs.Memory.{view, build, pack}
 use Rattle.floor.specs.Well.{apart, wellFormed}
 use Rattle.floor.specs.Move.{insert}
 use Rattle.floor.specs.Calls.{answer, bookTests, withBooking, booked, bookAnswer, stopTests, stopped, stopAnswer, repairTests, repaired, repairAnswer, zeroReport}
-use Rattle.floor.specs.Demand3.{Call, book, outcome, floorAfter}
-use Rattle.floor.specs.Together.{Presses, stops, repairs, Exchangeable, presses, booking, EitherOrder, reportTo, said, saidIn, Exchanged, BothBooked, Together}
+use Rattle.floor.specs.Anywhere.{placeB, placeA, anywhereTests, placedAt, anywhereAnswer}
+use Rattle.floor.specs.Demand3.{Call, Typed, outcome, floorAfter}
+use Rattle.floor.specs.Together.{Presses, stops, repairs, Books, placed, unplaced, Exchangeable, presses, booking, placeTo, reportTo, Said, said, EitherOrder, saidIn, Exchanged, BothBooked, Together}
 use Rattle.floor.proofs.Sound.{Sound}
 use Rattle.floor.proofs.Pack.{well-sound}
 use Rattle.floor.proofs.First.{pack-view-well}
-use Rattle.floor.proofs.Calls.{Accepted, stop-keeps, book-runs}
+use Rattle.floor.proofs.Lowest.{at}
+use Rattle.floor.proofs.Calls.{Accepted, book-anywhere, stop-keeps, book-runs}
 use Rattle.floor.proofs.Insertion.{insert-perm}
 use Rattle.floor.proofs.Tables.{run-on}
 use Rattle.floor.proofs.Lists.{after-both, passed}
-use Rattle.floor.proofs.Forms.{Form, numberBy, floorBy, Answers, floor-bad, number-well, accepted, by-form, Went, went, Beside, number-first, number-second, floor-same, pressTests, pressTile, pressed, pressForm, press-answers, book-pos, bookForm, book-answers}
+use Rattle.floor.proofs.Forms.{Form, numberBy, floorBy, Answers, floor-bad, number-well, accepted, by-form, Went, went, new-view, Beside, number-first, number-second, floor-same, pressTests, pressTile, pressed, pressForm, press-answers, bookTestsOf, canisterOf, booking-pos, booking-accepts, bookForm, book-answers}
 
 -- ---- calls on different tiles are beside each other
 -- a press tests its own tile, and no counter
@@ -62,68 +63,105 @@ module _ (t u : ℕ) (n : t ≢ u) where
     changes = λ m. ap (λ (l : List TileState). withTiles m l) (tiles-swap (pressTile p) (pressTile q) m);
   }
 
-  book-tests : (b : Canister) (m : Model) (x : TileState) → bookTests (withTile m u x) t b ≡ bookTests m t b
-  unfolding bookTests
-  book-tests b m x =
-      let e : membersOf (withTile m u x) t ≡ membersOf m t = ap (λ (y : TileState). y .members) (first-tile m x) in
-      rw (e, first-tile m x)
+  members-same : (m : Model) (x : TileState) → membersOf (withTile m u x) t ≡ membersOf m t
+  members-same m x = ap (λ (y : TileState). y .members) (first-tile m x)
 
-  book-beside : {e : Call} (b : Canister) (h : b .number < 2 ^ 32) (q : Presses u e) → Beside (bookForm t b h) (pressForm q)
+  -- a booking tests its own tile, and the place that it finds there stays
+  book-tests : {c : Call} (p : Books t c) (m : Model) (x : TileState) → bookTestsOf p (withTile m u x) ≡ bookTestsOf p m
+  unfolding bookTests anywhereTests
+  book-tests (placed b) m x = rw (members-same m x, first-tile m x)
+  book-tests (unplaced number) m x = rw (members-same m x, first-tile m x)
+
+  book-canister : {c : Call} (p : Books t c) (m : Model) (x : TileState) → canisterOf p (withTile m u x) ≡ canisterOf p m
+  unfolding placedAt
+  book-canister (placed b) m x = refl
+  book-canister (unplaced number) m x = ap (λ (l : List Canister). at number (placeA (m .settings) l) (placeB (m .settings) l)) (members-same m x)
+
+  book-beside : {c e : Call} (p : Books t c) (h : Typed c) (q : Presses u e) → Beside (bookForm p h) (pressForm q)
   unfolding booked
-  book-beside b h q = record {
-    tests-first = λ m. book-tests b m (pressTile q (tileOf m u));
-    tests-second = λ m. press-tests q m (booked m t b) refl (second-tile m (withMembers (tileOf m t) (insert b (membersOf m t))));
-    changes = λ m. ap (λ (l : List TileState). withCounters (withTiles m l) (withBooking (m .counters) (b .number)))
-        (tiles-swap (λ x. withMembers x (insert b (x .members))) (pressTile q) m);
+  book-beside p h q = record {
+    tests-first = λ m. book-tests p m (pressTile q (tileOf m u));
+    tests-second = λ m. press-tests q m (booked m t (canisterOf p m)) refl (second-tile m (withMembers (tileOf m t) (insert (canisterOf p m) (membersOf m t))));
+    changes = λ m.
+        let b = canisterOf p m in
+        ap (λ (c : Canister). booked (pressed q m) t c) (book-canister p m (pressTile q (tileOf m u)))
+        ∙ ap (λ (l : List TileState). withCounters (withTiles m l) (withBooking (m .counters) (b .number))) (tiles-swap (λ x. withMembers x (insert b (x .members))) (pressTile q) m);
   }
 
-by-forms : (f : Floor) {c e : Call} (F G : Form) → Answers c F → Answers e G → Beside F G → EitherOrder f c e
-unfolding floorAfter
-by-forms f {c} {e} F G A B S = record {
-  same-floor = B .floor (outcome f c .floor) ∙ ap (floorBy G) (A .floor f) ∙ floor-same F G S f ∙ sym (ap (floorBy F) (B .floor f)) ∙ sym (A .floor (outcome f e .floor));
-  first-answer = A .number (outcome f e .floor) ∙ ap (numberBy F) (B .floor f) ∙ number-first F G S f ∙ sym (A .number f);
-  second-answer = B .number (outcome f c .floor) ∙ ap (numberBy G) (A .floor f) ∙ number-second F G S f ∙ sym (B .number f);
-}
-
-either-order : (f : Floor) (c e : Call) → Exchangeable c e → EitherOrder f c e
-either-order f c e (presses {t} {u} n p q) = by-forms f (pressForm p) (pressForm q) (press-answers p) (press-answers q) (press-beside t u n p q)
-either-order f c e (booking {t} {u} {b} n h q) = by-forms f (bookForm t b h) (pressForm q) (book-answers t b h) (press-answers q) (book-beside t u n b h q)
-
--- ---- anywhere in a list
--- the two say no more than their refusal numbers
-said-press : {t : ℕ} {c : Call} → Presses t c → (f : Floor) → said f c ≡ (outcome f c .refusal, zeroReport)
-unfolding reportTo
+-- ---- what they say beside their refusal numbers
+-- a press says no more
+said-press : {t : ℕ} {c : Call} → Presses t c → (f : Floor) → said f c ≡ (outcome f c .refusal, (0, 0), zeroReport)
+unfolding placeTo reportTo
 said-press stops f = refl
 said-press repairs f = refl
 
-said-first : {c e : Call} → Exchangeable c e → (f : Floor) → said f c ≡ (outcome f c .refusal, zeroReport)
-unfolding reportTo
-said-first (presses n p q) f = said-press p f
-said-first (booking n h q) f = refl
+press-says : {t : ℕ} {c : Call} → Presses t c → (f g : Floor) → outcome g c .refusal ≡ outcome f c .refusal → said g c ≡ said f c
+press-says p f g e = said-press p g ∙ ap (λ (n : ℕ). (n, (0, 0), zeroReport)) e ∙ sym (said-press p f)
 
-said-second : {c e : Call} → Exchangeable c e → (f : Floor) → said f e ≡ (outcome f e .refusal, zeroReport)
-said-second (presses n p q) f = said-press q f
-said-second (booking n h q) f = said-press q f
+-- a booking tells its place: the canister's, if it is accepted
+toldFrom : {t : ℕ} {c : Call} → Books t c → ℕ → Model → Said
+toldFrom (placed b) n m = (n, (0, 0), zeroReport)
+toldFrom {t} (unplaced number) n m = (n, (cond (eqb n 0) (placedAt m t number .a) 0, cond (eqb n 0) (placedAt m t number .b) 0), zeroReport)
 
+said-book : {t : ℕ} {c : Call} (p : Books t c) (f : Floor) → said f c ≡ toldFrom p (outcome f c .refusal) (view f)
+unfolding outcome anywhereAnswer answer placeTo reportTo toldFrom
+said-book (placed b) f = refl
+said-book (unplaced number) f = refl
+
+told-same : {t : ℕ} {c : Call} (p : Books t c) (i : ℕ) (m n : Model) → canisterOf p m ≡ canisterOf p n → toldFrom p i m ≡ toldFrom p i n
+unfolding toldFrom
+told-same (placed b) i m n e = refl
+told-same (unplaced number) i m n e = ap (λ (x : Canister). (i, (cond (eqb i 0) (x .a) 0, cond (eqb i 0) (x .b) 0), zeroReport)) e
+
+-- after a press of another tile it says the same
+book-says : {t u : ℕ} → t ≢ u → {c e : Call} (p : Books t c) (q : Presses u e) (f : Floor) → outcome (outcome f e .floor) c .refusal ≡ outcome f c .refusal → said (outcome f e .floor) c ≡ said f c
+book-says {t} {u} n {c} {e} p q f k =
+    said-book p (outcome f e .floor) ∙ ap (λ (i : ℕ). toldFrom p i (view (outcome f e .floor))) k
+    ∙ ap (λ (g : Floor). toldFrom p (outcome f c .refusal) (view g)) (press-answers q .floor f)
+    ∙ go (wellFormed f) refl
+    ∙ sym (said-book p f)
+  where
+    alike : (m : Model) → toldFrom p (outcome f c .refusal) (pressed q m) ≡ toldFrom p (outcome f c .refusal) m
+    alike m = told-same p (outcome f c .refusal) (pressed q m) m (book-canister t u n p m (pressTile q (tileOf m u)))
+
+    go : (b : Bool) → wellFormed f ≡ b → toldFrom p (outcome f c .refusal) (view (floorBy (pressForm q) f)) ≡ toldFrom p (outcome f c .refusal) (view f)
+    go false w = ap (λ (g : Floor). toldFrom p (outcome f c .refusal) (view g)) (floor-bad (pressForm q) f w)
+    go true w =
+        by-form (pressForm q) f w (λ b. toldFrom p (outcome f c .refusal) (view (cond b (pack (pressed q (view f))) f)) ≡ toldFrom p (outcome f c .refusal) (view f))
+        (λ A. ap (toldFrom p (outcome f c .refusal)) (new-view (pressForm q) f w A) ∙ alike (view f)) refl
+
+by-forms : (f : Floor) {c e : Call} (F G : Form) → Answers c F → Answers e G → Beside F G
+    → (outcome (outcome f e .floor) c .refusal ≡ outcome f c .refusal → said (outcome f e .floor) c ≡ said f c)
+    → (outcome (outcome f c .floor) e .refusal ≡ outcome f e .refusal → said (outcome f c .floor) e ≡ said f e) → EitherOrder f c e
+unfolding floorAfter
+by-forms f {c} {e} F G A B S says says′ = record {
+  same-floor = B .floor (outcome f c .floor) ∙ ap (floorBy G) (A .floor f) ∙ floor-same F G S f ∙ sym (ap (floorBy F) (B .floor f)) ∙ sym (A .floor (outcome f e .floor));
+  first-answer = says (A .number (outcome f e .floor) ∙ ap (numberBy F) (B .floor f) ∙ number-first F G S f ∙ sym (A .number f));
+  second-answer = says′ (B .number (outcome f c .floor) ∙ ap (numberBy G) (A .floor f) ∙ number-second F G S f ∙ sym (B .number f));
+}
+
+either-order : (f : Floor) (c e : Call) → Exchangeable c e → EitherOrder f c e
+either-order f c e (presses {t} {u} n p q) = by-forms f (pressForm p) (pressForm q) (press-answers p) (press-answers q) (press-beside t u n p q) (press-says p f (outcome f e .floor)) (press-says q f (outcome f c .floor))
+either-order f c e (booking {t} {u} n p h q) = by-forms f (bookForm p h) (pressForm q) (book-answers p h) (press-answers q) (book-beside t u n p h q) (book-says n p q f) (press-says q f (outcome f c .floor))
+
+-- ---- anywhere in a list
 said-both : (f : Floor) (before cs : List Call) → saidIn f (before ++ cs) ≡ saidIn f before ++ saidIn (floorAfter f before) cs
 unfolding floorAfter saidIn
 said-both f [] cs = refl
-said-both f (c ∷ before) cs = ap (λ (l : List (ℕ × Report)). said f c ∷ l) (said-both (outcome f c .floor) before cs)
+said-both f (c ∷ before) cs = ap (λ (l : List Said). said f c ∷ l) (said-both (outcome f c .floor) before cs)
 
 exchange : (f : Floor) (before : List Call) (c e : Call) (after : List Call) → Exchangeable c e → Exchanged f before c e after
 unfolding floorAfter saidIn
 exchange f before c e after x =
     let g = floorAfter f before in
     let E = either-order g c e x in
-    let alike : said (outcome g e .floor) c ≡ said g c = said-first x (outcome g e .floor) ∙ ap (λ (n : ℕ). (n, zeroReport)) (E .first-answer) ∙ sym (said-first x g) in
-    let alike′ : said (outcome g c .floor) e ≡ said g e = said-second x (outcome g c .floor) ∙ ap (λ (n : ℕ). (n, zeroReport)) (E .second-answer) ∙ sym (said-second x g) in
     record {
       here = g;
       is-here = refl;
       same-floor = after-both f before (c ∷ e ∷ after) ∙ ap (λ (h : Floor). floorAfter h after) (E .same-floor) ∙ sym (after-both f before (e ∷ c ∷ after));
-      answers = said-both f before (c ∷ e ∷ after) ∙ ap (λ (y : ℕ × Report). saidIn f before ++ (said g c ∷ y ∷ saidIn (floorAfter g (c ∷ e ∷ [])) after)) alike′;
+      answers = said-both f before (c ∷ e ∷ after) ∙ ap (λ (y : Said). saidIn f before ++ (said g c ∷ y ∷ saidIn (floorAfter g (c ∷ e ∷ [])) after)) (E .second-answer);
       exchanged = said-both f before (e ∷ c ∷ after)
-          ∙ ap (λ (y : ℕ × Report). saidIn f before ++ (said g e ∷ y ∷ saidIn (floorAfter g (e ∷ c ∷ [])) after)) alike
+          ∙ ap (λ (y : Said). saidIn f before ++ (said g e ∷ y ∷ saidIn (floorAfter g (e ∷ c ∷ [])) after)) (E .first-answer)
           ∙ ap (λ (h : Floor). saidIn f before ++ (said g e ∷ said g c ∷ saidIn h after)) (sym (E .same-floor));
     }
 
@@ -263,49 +301,80 @@ module _ (t : ℕ) where
               ap (λ (g : Floor). floorBy stopForm (floorBy repairForm g)) q ∙ rest w e ∙ sym q
 
 -- ---- two bookings
-book-passed : (f : Floor) (t : ℕ) (b : Canister) → outcome f (book t b) .refusal ≡ 0 → (wellFormed f ≡ true) × Accepted (bookTests (view f) t b)
-unfolding outcome bookAnswer answer
-book-passed f t b h = accepted f (bookTests (view f) t b) (book-pos t b (view f)) h
+numberOf : {t : ℕ} {c : Call} → Books t c → ℕ
+numberOf (placed b) = b .number
+numberOf (unplaced number) = number
+
+number-is : {t : ℕ} {c : Call} (p : Books t c) (m : Model) → canisterOf p m .number ≡ numberOf p
+unfolding numberOf placedAt
+number-is (placed b) m = refl
+number-is (unplaced number) m = refl
+
+number-fits : {t : ℕ} {c : Call} (p : Books t c) → Typed c → numberOf p < 2 ^ 32
+unfolding numberOf
+number-fits (placed b) h = h
+number-fits (unplaced number) h = h
+
+fits-number : {t : ℕ} {c : Call} (p : Books t c) → numberOf p < 2 ^ 32 → Typed c
+unfolding numberOf
+fits-number (placed b) h = h
+fits-number (unplaced number) h = h
+
+book-passed : (f : Floor) {t : ℕ} {c : Call} (p : Books t c) → outcome f c .refusal ≡ 0 → (wellFormed f ≡ true) × Accepted (bookTestsOf p (view f))
+unfolding outcome bookAnswer anywhereAnswer answer
+book-passed f {t} (placed b) h = accepted f (bookTests (view f) t b) (booking-pos (placed b) (view f)) h
+book-passed f {t} (unplaced number) h = accepted f (anywhereTests (view f) t number) (booking-pos {t = t} (unplaced number) (view f)) h
 
 -- an accepted number is above the last booked, and becomes it
-book-above : (f : Floor) (t : ℕ) (b : Canister) → outcome f (book t b) .refusal ≡ 0 → f .counters .last < b .number
+book-above : (f : Floor) {t : ℕ} {c : Call} (p : Books t c) → outcome f c .refusal ≡ 0 → f .counters .last < numberOf p
 unfolding bookTests view
-book-above f t b h = leb-false (b .number) (f .counters .last) (book-passed f t b h .1 .1 .1 .1 .1 .1 .0)
+book-above f p h = omega (arith, number-is p (view f), leb-false (canisterOf p (view f) .number) (f .counters .last) (booking-accepts p (view f) (book-passed f p h .1) .1 .1 .1 .1 .1 .0))
 
-book-last : (f : Floor) (t : ℕ) (b : Canister) → outcome f (book t b) .refusal ≡ 0 → outcome f (book t b) .floor .counters .last ≡ b .number
-unfolding outcome bookAnswer answer pack build booked
-book-last f t b h = rw h
+book-last : (f : Floor) {t : ℕ} {c : Call} (p : Books t c) → outcome f c .refusal ≡ 0 → outcome f c .floor .counters .last ≡ numberOf p
+unfolding outcome bookAnswer anywhereAnswer answer pack build booked placedAt numberOf
+book-last f (placed b) h = rw h
+book-last f (unplaced number) h = rw h
 
-rises : (f : Floor) (t u : ℕ) (b c : Canister) → BothBooked f t b u c → b .number < c .number
-rises f t u b c h = omega (arith, book-last f t b (h .0), book-above (outcome f (book t b) .floor) u c (h .1))
+rises : (f : Floor) {t u : ℕ} {c e : Call} (p : Books t c) (q : Books u e) → BothBooked f c e → numberOf p < numberOf q
+rises f {c = c} p q h = omega (arith, book-last f p (h .0), book-above (outcome f c .floor) q (h .1))
 
 -- in the other order
-module _ (f : Floor) (t u : ℕ) (b c : Canister) (hc : c .number < 2 ^ 32) (h : BothBooked f t b u c) where
+module _ (f : Floor) (t u : ℕ) (c e : Call) (p : Books t c) (q : Books u e) (he : Typed e) (h : BothBooked f c e) where
   w : wellFormed f ≡ true
-  w = book-passed f t b (h .0) .0
+  w = book-passed f p (h .0) .0
 
   S : Sound (view f)
   S = well-sound f w
 
+  hc : Typed c
+  hc = fits-number p (omega (arith, rises f p q h, number-fits q he))
+
+  abbrev b : Canister
+  b = canisterOf p (view f)
+
+  Ap : Accepted (bookTestsOf p (view f))
+  Ap = book-passed f p (h .0) .1
+
   Ab : Accepted (bookTests (view f) t b)
-  Ab = book-passed f t b (h .0) .1
+  Ab = booking-accepts p (view f) Ap
 
-  hb : b .number < 2 ^ 32
-  hb = omega (arith, rises f t u b c h)
+  sees-b : view (outcome f c .floor) ≡ booked (view f) t b
+  sees-b = ap view (book-answers p hc .floor f) ∙ went (bookForm p hc) f (view f) w refl Ap .sees
 
-  sees-b : view (outcome f (book t b) .floor) ≡ booked (view f) t b
-  sees-b = ap view (book-answers t b hb .floor f) ∙ went (bookForm t b hb) f (view f) w refl Ab .sees
+  -- what the second adds after the first
+  abbrev d : Canister
+  d = canisterOf q (booked (view f) t b)
 
-  Ac : Accepted (bookTests (booked (view f) t b) u c)
-  Ac = subst (λ (m : Model). Accepted (bookTests m u c)) sees-b (book-passed (outcome f (book t b) .floor) u c (h .1) .1)
+  Ad : Accepted (bookTests (booked (view f) t b) u d)
+  Ad = booking-accepts q (booked (view f) t b) (subst (λ (m : Model). Accepted (bookTestsOf q m)) sees-b (book-passed (outcome f c .floor) q (h .1) .1))
 
-  -- c keeps its spacing without b too
-  fewer : allOf (apart (spacing (view f .settings)) c) (membersOf (booked (view f) t b) u) ≡ true → allOf (apart (spacing (view f .settings)) c) (membersOf (view f) u) ≡ true
+  -- it keeps its spacing without b too
+  fewer : allOf (apart (spacing (view f .settings)) d) (membersOf (booked (view f) t b) u) ≡ true → allOf (apart (spacing (view f .settings)) d) (membersOf (view f) u) ≡ true
   unfolding booked bookTests
-  fewer e = go (ℕ-discrete u t)
+  fewer k = go (ℕ-discrete u t)
     where
-      p : Canister → Bool
-      p = apart (spacing (view f .settings)) c
+      far : Canister → Bool
+      far = apart (spacing (view f .settings)) d
 
       on : t < total (view f .settings)
       on = leb-false (total (view f .settings)) t (Ab .0)
@@ -313,39 +382,57 @@ module _ (f : Floor) (t u : ℕ) (b c : Canister) (hc : c .number < 2 ^ 32) (h :
       y : TileState
       y = withMembers (tileOf (view f) t) (insert b (membersOf (view f) t))
 
-      go : Dec (u ≡ t) → allOf p (membersOf (view f) u) ≡ true
-      go (no n) = ap (λ (x : TileState). allOf p (x .members)) (sym (getD-set-other (view f .tiles) t u y noTile n)) ∙ e
-      go (yes q) =
-          let k : membersOf (booked (view f) t b) u ≡ insert b (membersOf (view f) t) = ap (λ i. membersOf (booked (view f) t b) i) q ∙ ap (λ (x : TileState). x .members) (getD-set-same (view f .tiles) t y noTile (omega (arith, S .len, on))) in
-          let all = all-perm (λ x. p x ≡ true) (insert-perm b (membersOf (view f) t)) (all-true p (insert b (membersOf (view f) t)) (ap (allOf p) (sym k) ∙ e)) in
-          ap (λ i. allOf p (membersOf (view f) i)) q ∙ true-all p (membersOf (view f) t) (all .1)
+      go : Dec (u ≡ t) → allOf far (membersOf (view f) u) ≡ true
+      go (no n) = ap (λ (x : TileState). allOf far (x .members)) (sym (getD-set-other (view f .tiles) t u y noTile n)) ∙ k
+      go (yes r) =
+          let j : membersOf (booked (view f) t b) u ≡ insert b (membersOf (view f) t) = ap (λ i. membersOf (booked (view f) t b) i) r ∙ ap (λ (x : TileState). x .members) (getD-set-same (view f .tiles) t y noTile (omega (arith, S .len, on))) in
+          let all = all-perm (λ x. far x ≡ true) (insert-perm b (membersOf (view f) t)) (all-true far (insert b (membersOf (view f) t)) (ap (allOf far) (sym j) ∙ k)) in
+          ap (λ i. allOf far (membersOf (view f) i)) r ∙ true-all far (membersOf (view f) t) (all .1)
 
-  Ac′ : Accepted (bookTests (view f) u c)
+  Ad′ : Accepted (bookTests (view f) u d)
   unfolding bookTests booked
-  Ac′ =
-      let r : runsOf (view f) u ≡ true = sym (book-runs (view f) S t b Ab u) ∙ not-false (runsOf (booked (view f) t b) u) (Ac .1 .1 .1 .1 .0) in
-      let far = fewer (not-false _ (Ac .1 .1 .1 .1 .1 .1 .0)) in
-      let last : view f .counters .last < c .number = omega (arith, leb-false (b .number) (view f .counters .last) (Ab .1 .1 .1 .1 .1 .0), rises f t u b c h) in
-      (Ac .0, (Ac .1 .0, (Ac .1 .1 .0, (Ac .1 .1 .1 .0, (rw r, (lt-leb (c .number) (view f .counters .last) last, (rw far, tt)))))))
+  Ad′ =
+      let r : runsOf (view f) u ≡ true = sym (book-runs (view f) S t b Ab u) ∙ not-false (runsOf (booked (view f) t b) u) (Ad .1 .1 .1 .1 .0) in
+      let far = fewer (not-false _ (Ad .1 .1 .1 .1 .1 .1 .0)) in
+      let last : view f .counters .last < d .number = omega (arith, number-is p (view f), number-is q (booked (view f) t b), leb-false (b .number) (view f .counters .last) (Ab .1 .1 .1 .1 .1 .0), rises f p q h) in
+      (Ad .0, (Ad .1 .0, (Ad .1 .1 .0, (Ad .1 .1 .1 .0, (rw r, (lt-leb (d .number) (view f .counters .last) last, (rw far, tt)))))))
 
-  c-first : Went (bookForm u c hc) f (view f)
-  c-first = went (bookForm u c hc) f (view f) w refl Ac′
+  -- so it is accepted first
+  Aq : Accepted (bookTestsOf q (view f))
+  unfolding placedAt
+  Aq = go q Ad′
+    where
+      go : {e : Call} (q : Books u e) → Accepted (bookTests (view f) u (canisterOf q (booked (view f) t b))) → Accepted (bookTestsOf q (view f))
+      go (placed x) A = A
+      go (unplaced number) A = book-anywhere (view f) u (placedAt (booked (view f) t b) u number) A
 
-  refused-33 : refusal (bookTests (booked (view f) u c) t b) ≡ 33
-  unfolding refusal bookTests booked
-  refused-33 =
-      let r : runsOf (booked (view f) u c) t ≡ true = book-runs (view f) S u c Ac′ t ∙ not-false (runsOf (view f) t) (Ab .1 .1 .1 .1 .0) in
-      let k : leb (b .number) (c .number) ≡ true = le-leb (b .number) (c .number) (omega (arith, rises f t u b c h)) in
-      rw (Ab .0, Ab .1 .0, Ab .1 .1 .0, Ab .1 .1 .1 .0, r, k)
+  -- what it adds then
+  abbrev x : Canister
+  x = canisterOf q (view f)
 
-  other-order : (outcome f (book u c) .refusal ≡ 0) × (outcome (outcome f (book u c) .floor) (book t b) .refusal ≡ 33)
+  q-first : Went (bookForm q he) f (view f)
+  q-first = went (bookForm q he) f (view f) w refl Aq
+
+  refused-33 : refusal (bookTestsOf p (booked (view f) u x)) ≡ 33
+  unfolding refusal bookTests anywhereTests booked numberOf
+  refused-33 = go p Ap (rises f p q h)
+    where
+      runs-still : runsOf (view f) t ≡ true → runsOf (booked (view f) u x) t ≡ true
+      runs-still r = book-runs (view f) S u x (booking-accepts q (view f) Aq) t ∙ r
+
+      go : {c : Call} (p : Books t c) → Accepted (bookTestsOf p (view f)) → numberOf p < numberOf q → refusal (bookTestsOf p (booked (view f) u x)) ≡ 33
+      go (placed y) A k =
+          rw (A .0, A .1 .0, A .1 .1 .0, A .1 .1 .1 .0, runs-still (not-false (runsOf (view f) t) (A .1 .1 .1 .1 .0)), le-leb (y .number) (x .number) (omega (arith, number-is q (view f))))
+      go (unplaced number) A k = rw (A .0, A .1 .0, A .1 .1 .0, runs-still (not-false (runsOf (view f) t) (A .1 .1 .1 .0)), le-leb number (x .number) (omega (arith, number-is q (view f))))
+
+  other-order : (outcome f e .refusal ≡ 0) × (outcome (outcome f e .floor) c .refusal ≡ 33)
   other-order =
-      let g = floorBy (bookForm u c hc) f in (
-        book-answers u c hc .number f ∙ c-first .number,
-        ap (λ (x : Floor). outcome x (book t b) .refusal) (book-answers u c hc .floor f)
-            ∙ book-answers t b hb .number g
-            ∙ number-well (bookTests (view g) t b) g (c-first .well)
-            ∙ ap (λ (m : Model). refusal (bookTests m t b)) (c-first .sees)
+      let g = floorBy (bookForm q he) f in (
+        book-answers q he .number f ∙ q-first .number,
+        ap (λ (y : Floor). outcome y c .refusal) (book-answers q he .floor f)
+            ∙ book-answers p hc .number g
+            ∙ number-well (bookTestsOf p (view g)) g (q-first .well)
+            ∙ ap (λ (m : Model). refusal (bookTestsOf p m)) (q-first .sees)
             ∙ refused-33,
       )
 
@@ -354,9 +441,9 @@ pub two-phones : Together
 unfolding floorAfter outcome stopAnswer repairAnswer answer stopTests view
 two-phones f = record {
   either = either-order f;
-  anywhere = exchange f;
+  in-lists = exchange f;
   again = λ t. stop-again t f;
   again-accepted = λ t w r n. again-answers t f w (lt-leb (total (f .settings)) t (run-on (view f) (well-sound f w .len) t r), (n, (rw r, tt)));
-  rising = λ t u b c h k. absurd (omega (arith, rises f t u b c h, rises f u t c b k));
+  rising = λ t u c e p q h k. absurd (omega (arith, rises f p q h, rises f q p k));
   rising-answers = other-order f;
 }

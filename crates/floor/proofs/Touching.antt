@@ -2,7 +2,7 @@
 use mathlib.Core.Path.{_≡_, sym, _∙_, subst}
 use mathlib.Core.Bool.{Bool, true, false, cond}
 use mathlib.Core.List.{List}
-use Prim.Native.Nat.{ℕ, suc, _^_, _<_}
+use Prim.Native.Nat.{ℕ, suc, _<_}
 use native.Mathlib.Omega.{arith}
 use native.Mathlib.Decide.{decLe, ℕ-discrete}
 use lib.ListN.{getD, List·getD-eq-default}
@@ -19,11 +19,11 @@ use Rattle.floor.specs.Memory.{view, pack}
 use Rattle.floor.specs.Well.{wellFormed}
 use Rattle.floor.specs.Move.{insert}
 use Rattle.floor.specs.Calls.{bookTests, booked, stopTests, stopped, repairTests, repaired, keptUnder, forgotten, recallTile, recalled}
-use Rattle.floor.specs.Demand3.{Call, book, keep, forget, recall, outcome}
-use Rattle.floor.specs.Together.{Presses, stops, repairs}
+use Rattle.floor.specs.Demand3.{Call, keep, forget, recall, Typed, outcome}
+use Rattle.floor.specs.Together.{Presses, stops, repairs, Books}
 use Rattle.floor.proofs.Pack.{well-sound}
 use Rattle.floor.proofs.Calls.{Accepted}
-use Rattle.floor.proofs.Forms.{Form, floorBy, by-form, new-view, pressTests, pressTile, pressForm, press-answers, bookForm, book-answers, keepForm, keep-answers, forgetForm, forget-answers, recallForm, recall-answers}
+use Rattle.floor.proofs.Forms.{Form, floorBy, by-form, new-view, pressTests, pressTile, pressForm, press-answers, canisterOf, booking-accepts, bookForm, book-answers, keepForm, keep-answers, forgetForm, forget-answers, recallForm, recall-answers}
 
 module _ (P : TileState → Type 0) (f : Floor) (w : wellFormed f ≡ true) (u t : ℕ) (p : P (tileOf (view f) t)) where
   -- g is what the call makes of tile u
@@ -37,11 +37,12 @@ module _ (P : TileState → Type 0) (f : Floor) (w : wellFormed f ≡ true) (u t
   by-floor : (F : Form) → (Accepted (F .tests (view f)) → P (tileOf (F .change (view f)) t)) → P (tileOf (view (floorBy F f)) t)
   by-floor F q = by-form F f w (λ b. P (tileOf (view (cond b (pack (F .change (view f))) f)) t)) (λ A. subst (λ (m : Model). P (tileOf m t)) (sym (new-view F f w A)) (q A)) p
 
-  pub book-tile : (b : Canister) → b .number < 2 ^ 32 → ((x : TileState) (l : List Canister) → P x → P (withMembers x l)) → P (tileOf (view (outcome f (book u b) .floor)) t)
+  pub book-tile : {c : Call} (q : Books u c) → Typed c → ((x : TileState) (l : List Canister) → P x → P (withMembers x l)) → P (tileOf (view (outcome f c .floor)) t)
   unfolding bookTests booked
-  book-tile b h pg =
-      subst (λ (g : Floor). P (tileOf (view g) t)) (sym (book-answers u b h .floor f))
-      (by-floor (bookForm u b h) (λ A. put-tile (λ x. withMembers x (insert b (x .members))) (λ x. pg x (insert b (x .members))) (leb-false (total (view f .settings)) u (A .0))))
+  book-tile q h pg =
+      let b = canisterOf q (view f) in
+      subst (λ (g : Floor). P (tileOf (view g) t)) (sym (book-answers q h .floor f))
+      (by-floor (bookForm q h) (λ A. put-tile (λ x. withMembers x (insert b (x .members))) (λ x. pg x (insert b (x .members))) (leb-false (total (view f .settings)) u (booking-accepts q (view f) A .0))))
 
   press-on : {c : Call} (q : Presses u c) → Accepted (pressTests q (view f)) → u < total (view f .settings)
   unfolding stopTests repairTests

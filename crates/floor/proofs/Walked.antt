@@ -17,16 +17,17 @@ use Rattle.floor.specs.Model.{Model, runsOf}
 use Rattle.floor.specs.Memory.{view}
 use Rattle.floor.specs.Calls.{zeroReport, reportOf}
 use Rattle.floor.specs.Reports.{listedAt}
-use Rattle.floor.specs.Demand3.{Call, book, stop, repair, round, keep, forget, recall, Typed, outcome, floorAfter, bookedIn, reportedIn, recallSet, recallMakes, runsAfter, isRound, changesRunning, disturbs, Quiet}
-use Rattle.floor.specs.Together.{reportTo, saidIn}
+use Rattle.floor.specs.Demand3.{Call, book, anywhere, stop, repair, round, keep, forget, recall, Typed, outcome, floorAfter, bookedIn, reportedIn, recallSet, recallMakes, runsAfter, isRound, changesRunning, disturbs, Quiet}
+use Rattle.floor.specs.Together.{reportTo, Said, saidIn}
 use Rattle.floor.specs.Fairness.{wants, Waiting, granted, grantsIn}
 use Rattle.floor.specs.Arrows.{Unpressed}
 use Rattle.floor.proofs.Lists.{list-runs}
-use Rattle.floor.proofs.Shown.{Shows, refusalBy, valueBy, shows-refusal, shows-call, shows-report}
+use Rattle.floor.proofs.Shown.{Shows, refusalBy, placeBy, valueBy, shows-refusal, shows-place, shows-call, shows-report}
 
 -- all that is asked of a call: a booking's number has 32 bits
 unfoldable pub isTyped : Call → Bool
 isTyped (book t c) = ltb (c .number) (2 ^ 32)
+isTyped (anywhere t number) = ltb number (2 ^ 32)
 isTyped (stop t) = true
 isTyped (repair t) = true
 isTyped round = true
@@ -37,6 +38,7 @@ isTyped (recall name) = true
 pub typed : (c : Call) → isTyped c ≡ true → Typed c
 unfolding isTyped
 typed (book t c) h = ltb-true (c .number) (2 ^ 32) h
+typed (anywhere t number) h = ltb-true number (2 ^ 32) h
 typed (stop t) h = tt
 typed (repair t) h = tt
 typed round h = tt
@@ -66,6 +68,7 @@ answersBy m (c ∷ cs) = refusalBy m c ∷ answersBy (valueBy m c) cs
 -- n: the call's refusal number
 unfoldable pub bookedOf : ℕ → Call → List ℕ
 bookedOf n (book t c) = cond (eqb n 0) (c .number ∷ []) []
+bookedOf n (anywhere t number) = cond (eqb n 0) (number ∷ []) []
 bookedOf n (stop t) = []
 bookedOf n (repair t) = []
 bookedOf n round = []
@@ -79,6 +82,7 @@ bookedBy m (c ∷ cs) = bookedOf (refusalBy m c) c ++ bookedBy (valueBy m c) cs
 
 unfoldable pub reportBy : Model → Call → Report
 reportBy m (book t c) = zeroReport
+reportBy m (anywhere t number) = zeroReport
 reportBy m (stop t) = zeroReport
 reportBy m (repair t) = zeroReport
 reportBy m round = reportOf m
@@ -86,12 +90,13 @@ reportBy m (keep name) = zeroReport
 reportBy m (forget name) = zeroReport
 reportBy m (recall name) = zeroReport
 
-unfoldable pub saidBy : Model → List Call → List (ℕ × Report)
+unfoldable pub saidBy : Model → List Call → List Said
 saidBy m [] = []
-saidBy m (c ∷ cs) = (refusalBy m c, reportBy m c) ∷ saidBy (valueBy m c) cs
+saidBy m (c ∷ cs) = (refusalBy m c, placeBy m c, reportBy m c) ∷ saidBy (valueBy m c) cs
 
 unfoldable pub reportedOf : Model → Call → ℕ → List ℕ
 reportedOf m (book t c) k = []
+reportedOf m (anywhere t number) k = []
 reportedOf m (stop t) k = []
 reportedOf m (repair t) k = []
 reportedOf m round k = listedAt (reportOf m) k
@@ -114,6 +119,7 @@ makesBy m name t = ltb t (total (m .settings)) && cond (bit (setOf (m .layouts) 
 unfoldable pub changesBy : Model → Call → Bool
 unfolding makesBy
 changesBy m (book t c) = false
+changesBy m (anywhere t number) = false
 changesBy m (stop t) = eqb (refusalBy m (stop t)) 0
 changesBy m (repair t) = eqb (refusalBy m (repair t)) 0
 changesBy m round = false
@@ -124,6 +130,7 @@ changesBy m (recall name) = eqb (refusalBy m (recall name)) 0 && not (allBelow (
 unfoldable pub disturbsBy : Model → Call → Bool
 unfolding changesBy
 disturbsBy m (book t c) = eqb (refusalBy m (book t c)) 0
+disturbsBy m (anywhere t number) = eqb (refusalBy m (anywhere t number)) 0
 disturbsBy m (stop t) = changesBy m (stop t)
 disturbsBy m (repair t) = changesBy m (repair t)
 disturbsBy m round = false
@@ -150,6 +157,7 @@ module _ (f : Floor) (m : Model) (s : Shows f m) where
   call-booked : (c : Call) → outcome f c .booked ≡ bookedOf (outcome f c .refusal) c
   unfolding outcome bookedOf
   call-booked (book t c) = refl
+  call-booked (anywhere t number) = refl
   call-booked (stop t) = refl
   call-booked (repair t) = refl
   call-booked round = refl
@@ -160,6 +168,7 @@ module _ (f : Floor) (m : Model) (s : Shows f m) where
   call-report : (c : Call) → reportTo f c ≡ reportBy m c
   unfolding reportTo reportBy
   call-report (book t c) = refl
+  call-report (anywhere t number) = refl
   call-report (stop t) = refl
   call-report (repair t) = refl
   call-report round = shows-report f m s
@@ -170,6 +179,7 @@ module _ (f : Floor) (m : Model) (s : Shows f m) where
   call-reported : (c : Call) (k : ℕ) → outcome f c .reported k ≡ reportedOf m c k
   unfolding outcome reportedOf
   call-reported (book t c) k = refl
+  call-reported (anywhere t number) k = refl
   call-reported (stop t) k = refl
   call-reported (repair t) k = refl
   call-reported round k = ap (λ (r : Report). listedAt r k) (shows-report f m s)
@@ -184,6 +194,7 @@ module _ (f : Floor) (m : Model) (s : Shows f m) where
   pub call-changes : (c : Call) → changesRunning f c ≡ changesBy m c
   unfolding changesRunning recallMakes recallSet changesBy makesBy view
   call-changes (book t c) = refl
+  call-changes (anywhere t number) = refl
   call-changes (stop t) = ap (λ (n : ℕ). eqb n 0) (shows-refusal f m s (stop t))
   call-changes (repair t) = ap (λ (n : ℕ). eqb n 0) (shows-refusal f m s (repair t))
   call-changes round = refl
@@ -196,6 +207,7 @@ module _ (f : Floor) (m : Model) (s : Shows f m) where
   pub call-disturbs : (c : Call) → disturbs f c ≡ disturbsBy m c
   unfolding disturbs disturbsBy
   call-disturbs (book t c) = ap (λ (n : ℕ). eqb n 0) (shows-refusal f m s (book t c))
+  call-disturbs (anywhere t number) = ap (λ (n : ℕ). eqb n 0) (shows-refusal f m s (anywhere t number))
   call-disturbs (stop t) = call-changes (stop t)
   call-disturbs (repair t) = call-changes (repair t)
   call-disturbs round = refl
@@ -221,7 +233,7 @@ booked-same f m s (c ∷ cs) h = rw (call-booked f m s c, shows-refusal f m s c,
 pub said-same : (f : Floor) (m : Model) → Shows f m → (cs : List Call) → All Typed cs → saidIn f cs ≡ saidBy m cs
 unfolding saidIn saidBy
 said-same f m s [] h = refl
-said-same f m s (c ∷ cs) h = rw (shows-refusal f m s c, call-report f m s c, said-same (outcome f c .floor) (valueBy m c) (shows-call f m s c (h .0)) cs (h .1))
+said-same f m s (c ∷ cs) h = rw (shows-refusal f m s c, shows-place f m s c, call-report f m s c, said-same (outcome f c .floor) (valueBy m c) (shows-call f m s c (h .0)) cs (h .1))
 
 pub reported-same : (f : Floor) (m : Model) → Shows f m → (cs : List Call) → All Typed cs → (k : ℕ) → reportedIn f cs k ≡ reportedBy m cs k
 unfolding reportedIn reportedBy

@@ -16,13 +16,15 @@ use Rattle.floor.specs.Model.{runsOf, membersOf, numbersOn}
 use Rattle.floor.specs.Memory.{view}
 use Rattle.floor.specs.Well.{inside, apart, wellFormed}
 use Rattle.floor.specs.Calls.{bookAnswer, stopAnswer, repairAnswer, keepAnswer, forgetAnswer, recallAnswer, roundAnswer}
+use Rattle.floor.specs.Anywhere.{anywhereAnswer}
 use Rattle.floor.specs.Reports.{listedAt}
 use Rattle.floor.specs.Bound.{bound}
 use Rattle.floor.specs.Live.{LivePath, connected, connectedCount}
 
--- "a list holds bookings, stops, repairs and rounds in any order and number; it may be empty"; recalls, and "Keeping and forgetting … may stand in its lists", each with the number of its name
+-- "a list holds bookings, stops, repairs and rounds in any order and number; it may be empty"; bookings without a place, by tile and number; recalls, and "Keeping and forgetting … may stand in its lists", each with the number of its name
 pub data Call : Type 0 where
   book : ℕ → Canister → Call
+  anywhere : ℕ → ℕ → Call
   stop : ℕ → Call
   repair : ℕ → Call
   round : Call
@@ -33,6 +35,7 @@ pub data Call : Type 0 where
 -- a booking's number has its parameter's 32 bits; no other width is needed
 abbrev pub Typed : Call → Type 0
 Typed (book t c) = c .number < 2 ^ 32
+Typed (anywhere t number) = number < 2 ^ 32
 Typed (stop t) = Unit {0}
 Typed (repair t) = Unit {0}
 Typed round = Unit {0}
@@ -50,6 +53,7 @@ pub record Outcome : Type 0 where
 -- a booking's number counts if it is accepted; a round reports what its report lists
 unfoldable pub outcome : Floor → Call → Outcome
 outcome f (book t c) = let r = bookAnswer f t c in record { refusal = r .refusal; floor = r .floor; booked = cond (eqb (r .refusal) 0) (c .number ∷ []) []; reported = λ _. [] }
+outcome f (anywhere t number) = let r = anywhereAnswer f t number in record { refusal = r .refusal; floor = r .floor; booked = cond (eqb (r .refusal) 0) (number ∷ []) []; reported = λ _. [] }
 outcome f (stop t) = let r = stopAnswer f t in record { refusal = r .refusal; floor = r .floor; booked = []; reported = λ _. [] }
 outcome f (repair t) = let r = repairAnswer f t in record { refusal = r .refusal; floor = r .floor; booked = []; reported = λ _. [] }
 outcome f round = let r = roundAnswer f in record { refusal = r .refusal; floor = r .floor; booked = []; reported = listedAt (r .report) }
@@ -87,6 +91,7 @@ recallMakes f name t = ltb t (total (f .settings)) && cond (bit (recallSet f nam
 -- "A tile runs if the latest accepted stop or repair of it since the first floor was a repair or, without one, if it ran on the first floor."; a recall "counts as" its stops and repairs
 unfoldable pub runsBy : Floor → Call → ℕ → Bool → Bool
 runsBy f (book u c) t r = r
+runsBy f (anywhere u number) t r = r
 runsBy f (stop u) t r = cond (eqb (outcome f (stop u) .refusal) 0 && eqb u t) false r
 runsBy f (repair u) t r = cond (eqb (outcome f (repair u) .refusal) 0 && eqb u t) true r
 runsBy f round t r = r
@@ -103,6 +108,7 @@ runsAfter f cs t = latest f cs t (runsOf (view f) t)
 
 abbrev pub isRound : Call → Bool
 isRound (book t c) = false
+isRound (anywhere t number) = false
 isRound (stop t) = false
 isRound (repair t) = false
 isRound round = true
@@ -113,6 +119,7 @@ isRound (recall name) = false
 -- whether it is an accepted stop or repair; a recall counts as those that it makes
 unfoldable pub changesRunning : Floor → Call → Bool
 changesRunning f (book t c) = false
+changesRunning f (anywhere t number) = false
 changesRunning f (stop t) = eqb (outcome f (stop t) .refusal) 0
 changesRunning f (repair t) = eqb (outcome f (repair t) .refusal) 0
 changesRunning f round = false
@@ -120,9 +127,10 @@ changesRunning f (keep name) = false
 changesRunning f (forget name) = false
 changesRunning f (recall name) = eqb (outcome f (recall name) .refusal) 0 && not (allBelow (λ t. not (recallMakes f name t)) (total (f .settings)))
 
--- whether it is an accepted booking, stop or repair; keeping and forgetting are none
+-- whether it is an accepted booking of either sort, stop or repair; keeping and forgetting are none
 unfoldable pub disturbs : Floor → Call → Bool
 disturbs f (book t c) = eqb (outcome f (book t c) .refusal) 0
+disturbs f (anywhere t number) = eqb (outcome f (anywhere t number) .refusal) 0
 disturbs f (stop t) = changesRunning f (stop t)
 disturbs f (repair t) = changesRunning f (repair t)
 disturbs f round = false

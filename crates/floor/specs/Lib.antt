@@ -10,6 +10,8 @@ pub mod Signal
 pub mod Move
 pub mod Reasons
 pub mod Calls
+pub mod Anywhere
+pub mod Placing
 pub mod Reports
 pub mod Bound
 pub mod Live

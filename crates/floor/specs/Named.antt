@@ -15,7 +15,7 @@ use Rattle.floor.specs.Layouts.{nameNumber, letters, held, setOf}
 use Rattle.floor.specs.Model.{runsOf}
 use Rattle.floor.specs.Memory.{zeroLayout, view, headOf}
 use Rattle.floor.specs.Calls.{freshAnswer, runningSet}
-use Rattle.floor.specs.Demand3.{Call, book, stop, repair, round, keep, forget, recall, outcome, floorAfter, recallSet, recallMakes, runsBy, latest, disturbs}
+use Rattle.floor.specs.Demand3.{Call, book, anywhere, stop, repair, round, keep, forget, recall, outcome, floorAfter, recallSet, recallMakes, runsBy, latest, disturbs}
 
 -- ---- a recall
 -- "the stops and repairs needed, in rising tile number": those of n tiles from t on
@@ -79,6 +79,7 @@ pub record Forgetting (f : Floor) (name : ℕ) : Type 0 where
 
 abbrev pub isLaying : Call → Bool
 isLaying (book t c) = false
+isLaying (anywhere t number) = false
 isLaying (stop t) = false
 isLaying (repair t) = false
 isLaying round = false

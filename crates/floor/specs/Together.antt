@@ -3,7 +3,7 @@ use mathlib.Core.Path.{_≡_}
 use mathlib.Core.Logic.{_≢_}
 use mathlib.Core.Bool.{true, false}
 use mathlib.Core.List.{List, [], _∷_, _++_}
-use Prim.Native.Nat.{ℕ, _^_, _<_}
+use Prim.Native.Nat.{ℕ}
 use Rattle.floor.specs.declared.Canister.{Canister}
 use Rattle.floor.specs.declared.Floor.{Floor}
 use Rattle.floor.specs.declared.Report.{Report}
@@ -12,29 +12,41 @@ use Rattle.floor.specs.Model.{runsOf}
 use Rattle.floor.specs.Memory.{view}
 use Rattle.floor.specs.Well.{wellFormed}
 use Rattle.floor.specs.Calls.{zeroReport, roundAnswer}
-use Rattle.floor.specs.Demand3.{Call, book, stop, repair, round, keep, forget, recall, outcome, floorAfter}
+use Rattle.floor.specs.Anywhere.{anywhereAnswer}
+use Rattle.floor.specs.Demand3.{Call, book, anywhere, stop, repair, round, keep, forget, recall, Typed, outcome, floorAfter}
 
 -- a stop or a repair of tile t
 pub data Presses (t : ℕ) : Call → Type 0 where
   stops : Presses t (stop t)
   repairs : Presses t (repair t)
 
+-- a booking on tile t, with a place or without one ([1])
+pub data Books (t : ℕ) : Call → Type 0 where
+  placed : (b : Canister) → Books t (book t b)
+  unplaced : (number : ℕ) → Books t (anywhere t number)
+
 -- two calls that may change places; each pair stands here one way round, since what is said of it reads the same both ways
 pub data Exchangeable : Call → Call → Type 0 where
   -- "Stops and repairs of different tiles"
   presses : {t u : ℕ} {c e : Call} → t ≢ u → Presses t c → Presses u e → Exchangeable c e
   -- "A booking and a stop or repair of another tile"; the number has its width, 32 bits
-  booking : {t u : ℕ} {b : Canister} {e : Call} → t ≢ u → b .number < 2 ^ 32 → Presses u e → Exchangeable (book t b) e
+  booking : {t u : ℕ} {c e : Call} → t ≢ u → Books t c → Typed c → Presses u e → Exchangeable c e
 
--- c and e from f: "the same floor and the same two answers in either order"
-pub record EitherOrder (f : Floor) (c e : Call) : Type 0 where
-  pub same-floor : floorAfter f (c ∷ e ∷ []) ≡ floorAfter f (e ∷ c ∷ [])
-  pub first-answer : outcome (outcome f e .floor) c .refusal ≡ outcome f c .refusal
-  pub second-answer : outcome (outcome f c .floor) e .refusal ≡ outcome f e .refusal
+-- the place that a booking without one tells; zeros for the other calls, which tell none
+unfoldable pub placeTo : Floor → Call → ℕ × ℕ
+placeTo f (book t b) = (0, 0)
+placeTo f (anywhere t number) = let r = anywhereAnswer f t number in (r .a, r .b)
+placeTo f (stop t) = (0, 0)
+placeTo f (repair t) = (0, 0)
+placeTo f round = (0, 0)
+placeTo f (keep name) = (0, 0)
+placeTo f (forget name) = (0, 0)
+placeTo f (recall name) = (0, 0)
 
 -- a round's report; zeros for the other calls, which have none
 unfoldable pub reportTo : Floor → Call → Report
 reportTo f (book t b) = zeroReport
+reportTo f (anywhere t number) = zeroReport
 reportTo f (stop t) = zeroReport
 reportTo f (repair t) = zeroReport
 reportTo f round = roundAnswer f .report
@@ -42,12 +54,21 @@ reportTo f (keep name) = zeroReport
 reportTo f (forget name) = zeroReport
 reportTo f (recall name) = zeroReport
 
--- all that a call answers beside its floor: its refusal number and its report
-abbrev pub said : Floor → Call → ℕ × Report
-said f c = (outcome f c .refusal, reportTo f c)
+-- all that a call answers beside its floor: its refusal number, the place found and its report
+abbrev pub Said : Type 0
+Said = ℕ × (ℕ × ℕ) × Report
+
+abbrev pub said : Floor → Call → Said
+said f c = (outcome f c .refusal, placeTo f c, reportTo f c)
+
+-- c and e from f: "the same floor and the same two answers in either order"
+pub record EitherOrder (f : Floor) (c e : Call) : Type 0 where
+  pub same-floor : floorAfter f (c ∷ e ∷ []) ≡ floorAfter f (e ∷ c ∷ [])
+  pub first-answer : said (outcome f e .floor) c ≡ said f c
+  pub second-answer : said (outcome f c .floor) e ≡ said f e
 
 -- the answers of a list, in its order
-unfoldable pub saidIn : Floor → List Call → List (ℕ × Report)
+unfoldable pub saidIn : Floor → List Call → List Said
 saidIn f [] = []
 saidIn f (c ∷ cs) = said f c ∷ saidIn (outcome f c .floor) cs
 
@@ -59,24 +80,23 @@ pub record Exchanged (f : Floor) (before : List Call) (c e : Call) (after : List
   pub answers : saidIn f (before ++ (c ∷ e ∷ after)) ≡ saidIn f before ++ (said here c ∷ said here e ∷ saidIn (floorAfter here (c ∷ e ∷ [])) after)
   pub exchanged : saidIn f (before ++ (e ∷ c ∷ after)) ≡ saidIn f before ++ (said here e ∷ said here c ∷ saidIn (floorAfter here (c ∷ e ∷ [])) after)
 
--- b on tile t and then c on tile u are both accepted
-abbrev pub BothBooked : Floor → ℕ → Canister → ℕ → Canister → Type 0
-BothBooked f t b u c = (outcome f (book t b) .refusal ≡ 0) × (outcome (outcome f (book t b) .floor) (book u c) .refusal ≡ 0)
+-- c and then e are both accepted
+abbrev pub BothBooked : Floor → Call → Call → Type 0
+BothBooked f c e = (outcome f c .refusal ≡ 0) × (outcome (outcome f c .floor) e .refusal ≡ 0)
 
 -- f is any floor, well formed or not; t and u are any numbers, of tiles or not
 pub record TwoPhones (f : Floor) : Type 0 where
   -- "the same floor and the same two answers in either order, refused ones included"; and so anywhere in a list
   pub either : (c e : Call) → Exchangeable c e → EitherOrder f c e
-  pub anywhere : (before : List Call) (c e : Call) (after : List Call) → Exchangeable c e → Exchanged f before c e after
+  pub in-lists : (before : List Call) (c e : Call) (after : List Call) → Exchangeable c e → Exchanged f before c e after
   -- "On one running tile other than a hopper, stop, repair, stop gives the floor of a single stop": the floor is the same on any tile; on such a one all three are accepted
   pub again : (t : ℕ) → floorAfter f (stop t ∷ repair t ∷ stop t ∷ []) ≡ floorAfter f (stop t ∷ [])
   pub again-accepted : (t : ℕ) → wellFormed f ≡ true → runsOf (view f) t ≡ true → isHopper (f .settings) t ≡ false
       → (outcome f (stop t) .refusal ≡ 0) × (outcome (floorAfter f (stop t ∷ [])) (repair t) .refusal ≡ 0) × (outcome (floorAfter f (stop t ∷ repair t ∷ [])) (stop t) .refusal ≡ 0)
-  -- "Two bookings of given numbers on one floor, both accepted in one order, never are in the other"
-  pub rising : (t u : ℕ) (b c : Canister) → BothBooked f t b u c → ¬ (BothBooked f u c t b)
+  -- "Two bookings of given numbers on one floor, both accepted in one order, never are in the other"; of either sort
+  pub rising : (t u : ℕ) (c e : Call) → Books t c → Books u e → BothBooked f c e → ¬ (BothBooked f e c)
   -- "because numbers must rise": in the other order the first is accepted, and the second refused by 33
-  pub rising-answers : (t u : ℕ) (b c : Canister) → c .number < 2 ^ 32 → BothBooked f t b u c
-      → (outcome f (book u c) .refusal ≡ 0) × (outcome (outcome f (book u c) .floor) (book t b) .refusal ≡ 33)
+  pub rising-answers : (t u : ℕ) (c e : Call) → Books t c → Books u e → Typed e → BothBooked f c e → (outcome f e .refusal ≡ 0) × (outcome (outcome f e .floor) c .refusal ≡ 33)
 
 -- the theorem: for every floor
 abbrev pub Together : Type 0

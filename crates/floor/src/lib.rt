@@ -208,6 +208,15 @@ pub struct Answer {
     pub refusal: u8,
 }
 
+// The answer of a booking without a place: the place found; refused: zeros, which are a place too, so look at the refusal.
+#[repr(C)]
+pub struct Placed {
+    pub floor: Floor,
+    pub a: u16,
+    pub b: u16,
+    pub refusal: u8,
+}
+
 // The answer of a round.
 #[repr(C)]
 pub struct Rounded {

@@ -54,6 +54,11 @@ pub const NUMBER_PAST: u8 = 33;
 // "Some canister of the tile differs by less than d in both a and b."
 pub const TOO_NEAR: u8 = 34;
 
+// "no place on the tile, where 34 stood for this call"
+pub const NO_PLACE: u8 = 40;
+// "more than 64 entries, checked first, with no entry written"
+pub const LIST_TOO_LONG: u8 = 42;
+
 // "bad name, after 30"
 pub const BAD_NAME: u8 = 44;
 

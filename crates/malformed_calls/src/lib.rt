@@ -175,7 +175,14 @@ fn names_refuse(f: Floor) -> bool {
         & same_floor(c, f)
 }
 
-// Book, stop, repair, round, read, write, keep, forget and recall.
+// A booking without a place: 30, the same floor, and zeros.
+fn finds_nothing(f: Floor) -> bool {
+    let answer = calls::book_anywhere(f, 1, 900);
+    let a = answer.floor;
+    (answer.refusal == 30) & (answer.a == 0) & (answer.b == 0) & same_floor(a, f)
+}
+
+// Book with and without a place, stop, repair, round, read, write, keep, forget and recall.
 pub fn all_refuse(f: Floor) -> bool {
     let book = floors::book(f, 1, 900, 0, 0);
     let stop = calls::stop(f, 1);
@@ -198,4 +205,5 @@ pub fn all_refuse(f: Floor) -> bool {
         & empty_reading(f)
         & unwritten(f)
         & names_refuse(f)
+        & finds_nothing(f)
 }

@@ -66,6 +66,18 @@ pub fn booking(f: Floor, tile: u32, number: u32, a: u16, b: u16) -> u64 {
     answer.refusal as u64
 }
 
+// The floor after a booking without a place.
+pub fn anywhere(f: Floor, tile: u32, number: u32) -> Floor {
+    let answer = calls::book_anywhere(f, tile, number);
+    answer.floor
+}
+
+// What a booking without a place answers: the refusal, and the place found with the canister's number.
+pub fn found(f: Floor, tile: u32, number: u32) -> [u64; 2] {
+    let answer = calls::book_anywhere(f, tile, number);
+    [answer.refusal as u64, place(number, answer.a, answer.b)]
+}
+
 // The name of one letter.
 pub fn name(letter: u8) -> Name {
     Name {

@@ -1,0 +1,55 @@
+use native.Mathlib.Omega.{arith}
+use lib.ListN.{take}
+use Rattle.floor.proofs.Lowest.{at}
+use Rattle.book_anywhere.proofs.Tests.{corner-number, corner-place, near-on-floor, none-number, found-number}
+use borrow.Author.Needs.{needs}
+use Rattle.book_anywhere.proofs.find.Statement.{statement}
+use Rattle.book_anywhere.proofs.find.Tie as tie
+use Rattle.book_anywhere.proofs.find.Reads as reads
+use Rattle.book_anywhere.proofs.find.Lts as lts
+use Rattle.book_search.proofs.find_place.Reads as find-place-reads
+use Rattle.book_tile.proofs.book_refusal.Reads as book-refusal-reads
+
+book-refusal-requires : tie.Need-book-refusal-requires
+book-refusal-requires c κs = search needs
+
+returns : tie.Need-returns
+returns c = let g = c .before .before .args in
+    let n = c .before .book-refusal in
+    (corner-number g.s g.last g.tile g.number g.running (take (g.own .count) (g.own .items)) (n .result) (n .ensures) (c .if1 .taken), corner-place g.s g.last g.tile g.number g.running (take (g.own .count) (g.own .items)) (n .result) (n .ensures))
+
+cast-find-place : tie.Need-cast-find-place
+cast-find-place c = search needs
+
+find-place-requires : tie.Need-find-place-requires
+find-place-requires c κs = let g = c .before .before .before .before .args in
+    let n = c .before .before .before .book-refusal in
+    let p = c .before .before .before .before .pre in
+    (p .3 (near-on-floor g.s g.last g.tile g.number g.running (take (g.own .count) (g.own .items)) (n .result) (n .ensures) (c .before .before .if1 .left)), p .1, p .2)
+
+sub-if2 : tie.Need-sub-if2
+sub-if2 c = search needs
+
+returns-2 : tie.Need-returns-2
+returns-2 c = let g = c .before .before .before .before .before .before .before .before .args in
+    let n = c .before .before .before .before .before .before .before .book-refusal in
+    let b = c .before .before .before .find-place .ensures .0 in
+    (none-number g.s g.last g.tile g.number g.running (take (g.own .count) (g.own .items)) (n .result) (n .ensures) (c .before .before .before .before .before .before .if1 .left) (omega (arith, b, c .if2 .taken)), λ h. absurd (omega arith))
+
+returns-3 : tie.Need-returns-3
+returns-3 c = let g = c .before .before .before .before .before .before .before .before .args in
+    let n = c .before .before .before .before .before .before .before .book-refusal in
+    let r = c .before .before .before .find-place .ensures in
+    (found-number g.s g.last g.tile g.number g.running (take (g.own .count) (g.own .items)) (n .result) (n .ensures) (c .before .before .before .before .before .before .if1 .left) (omega (arith, r .0, c .if2 .left)), λ _ i. at g.number (r .1 (c .if2 .left) i) (r .0 i))
+
+pub find-spec : {M : Type 1} → statement M
+find-spec =
+    tie.close
+    (tie.spec
+    book-refusal-requires
+    returns
+    cast-find-place
+    find-place-requires
+    sub-if2
+    returns-2
+    returns-3)

@@ -1,0 +1,113 @@
+use mathlib.Core.Path.{_≡_}
+use Prim.Native.Nat.{_+_, _-_, _≤_, _<_}
+use native.Mathlib.Omega.{arith}
+use lib.Dec.{ltb}
+use lib.ListN.{length, getD, take}
+use borrow.Author.Tests.{ltb-true}
+use Rattle.laws.proofs.Tests.{and-left, and-right}
+use Rattle.floor.specs.Memory.{zeroCanister}
+use Rattle.laws.specs.Every.{All}
+use Rattle.floor.specs.Settings.{spacing}
+use Rattle.book_search.proofs.Search.{Ahead, ahead-lower, ahead-stay}
+use borrow.Author.Needs.{needs}
+use Rattle.book_search.proofs.next_b.Statement.{statement}
+use Rattle.book_search.proofs.next_b.Tie as tie
+use Rattle.book_search.proofs.next_b.Reads as reads
+use Rattle.book_search.proofs.next_b.Lts as lts
+use Rattle.floor.proofs.Settings.spacing.Reads as spacing-reads
+
+abbrev Inv-loop : tie.InvT-loop
+Inv-loop n b items d low next₀ k₀ next k = (k ≤ n) × (n ≤ 16) × (length items ≡ 16) × (b < next) × (next ≤ next₀) × All (Ahead d b next) (take k items)
+
+abbrev μ-loop : tie.MeasureT-loop
+μ-loop n b items d low next₀ k₀ next k = n - k
+
+spacing-requires : tie.Need-spacing-requires Inv-loop μ-loop
+spacing-requires c κs = search needs
+
+sub-next : tie.Need-sub-next Inv-loop μ-loop
+sub-next c = search needs
+
+cast-next : tie.Need-cast-next Inv-loop μ-loop
+cast-next c = search needs
+
+add-next : tie.Need-add-next Inv-loop μ-loop
+add-next c = search needs
+
+loop-holds : tie.Need-loop-holds Inv-loop μ-loop
+loop-holds c = let p = c .before .before .pre in
+    (omega arith, p .0, c .before .before .good .1 .0 .1 .0 .1, omega arith, omega arith, tt)
+
+mul-c : tie.Need-mul-c Inv-loop μ-loop
+mul-c c = search needs
+
+array-copy-out-c : tie.Need-array-copy-out-c Inv-loop μ-loop
+array-copy-out-c c = search needs
+
+cast-beyond : tie.Need-cast-beyond Inv-loop μ-loop
+cast-beyond c = search needs
+
+add-beyond : tie.Need-add-beyond Inv-loop μ-loop
+add-beyond c = search needs
+
+add-k : tie.Need-add-k Inv-loop μ-loop
+add-k c = search needs
+
+loop-less : tie.Need-loop-less Inv-loop μ-loop
+loop-less c = search needs
+
+loop-again : tie.Need-loop-again Inv-loop μ-loop
+loop-again c = let l = c .before .before .before .before .loop in
+    let g = c .before .before .before .before .before .before .before .args in
+    let i = l .inv in
+    let d = c .before .before .before .before .before .before .spacing .result in
+    let x = getD g.t2 (l .k) zeroCanister .b + d in
+    let low = ltb-true g.b x (and-left (ltb g.b x) (ltb x (l .next)) (c .if1 .taken)) in
+    let less = ltb-true x (l .next) (and-right (ltb g.b x) (ltb x (l .next)) (c .if1 .taken)) in
+    (omega arith, i .1, i .2, low, omega arith, ahead-lower d g.b (l .next) g.t2 (l .k) (omega arith) less (i .5))
+
+add-k-2 : tie.Need-add-k-2 Inv-loop μ-loop
+add-k-2 c = search needs
+
+loop-less-2 : tie.Need-loop-less-2 Inv-loop μ-loop
+loop-less-2 c = search needs
+
+loop-again-2 : tie.Need-loop-again-2 Inv-loop μ-loop
+loop-again-2 c = let l = c .before .before .before .before .loop in
+    let g = c .before .before .before .before .before .before .before .args in
+    let i = l .inv in
+    (omega arith, i .1, i .2, i .3, i .4, ahead-stay (c .before .before .before .before .before .before .spacing .result) g.b (l .next) g.t2 (l .k) (omega arith) (c .if1 .left) (i .5))
+
+cast-result : tie.Need-cast-result Inv-loop μ-loop
+cast-result c = search needs
+
+returns : tie.Need-returns Inv-loop μ-loop
+returns c = let l = c .before .loop in
+    let g = c .before .before .before .before .args in
+    let i = l .inv in
+    let e : l .k ≡ g.n = omega arith in
+    (i .3, omega (arith, i .4), rw (e, c .before .before .before .spacing .ensures) at (i .5))
+
+pub next-b-spec : {M : Type 1} → statement M
+next-b-spec =
+    tie.close
+    (tie.spec
+    Inv-loop
+    μ-loop
+    spacing-requires
+    sub-next
+    cast-next
+    add-next
+    loop-holds
+    mul-c
+    array-copy-out-c
+    cast-beyond
+    add-beyond
+    add-k
+    loop-less
+    loop-again
+    add-k-2
+    loop-less-2
+    loop-again-2
+    cast-result
+    returns)
