@@ -72,6 +72,7 @@ extern "C" {
 #define CEROMBY_RUNNING 32        /* repair of a running tile */
 #define CEROMBY_NUMBER_USED 33    /* canister number not above the last booked */
 #define CEROMBY_TOO_CLOSE 34      /* some canister of the tile differs by less than d = l + r in both a and b */
+#define CEROMBY_NO_PLACE 40       /* booking without a place: none on the tile keeps the spacing */
 
 /* Refused because of a layout's name. */
 #define CEROMBY_BAD_NAME 44       /* not 1 to 8 letters A to Z, then zeros */
@@ -160,6 +161,13 @@ typedef struct ceromby_answer {
     uint8_t refusal;
 } ceromby_answer;
 
+typedef struct ceromby_placed {
+    ceromby_floor floor;
+    uint16_t a; /* the place that the canister took; where refused, (0, 0), which is a place too: look at the refusal */
+    uint16_t b;
+    uint8_t refusal;
+} ceromby_placed;
+
 typedef struct ceromby_rounded {
     ceromby_floor floor;
     ceromby_report report;
@@ -182,6 +190,10 @@ ceromby_answer ceromby_fresh(ceromby_settings settings);
 
 /* Adds a canister. Refused by 30, 4, 5, 6, 7, 31, 33, 34. */
 ceromby_answer ceromby_book(ceromby_floor floor, uint32_t tile, ceromby_canister canister);
+
+/* Adds a canister at the place with the lowest b, then the lowest a, that keeps the spacing, as a booking there would.
+   Refused by 30, 4, 5, 6, 31, 33, 40; by 40 exactly when no a and b from 0 to U - l keep it. */
+ceromby_placed ceromby_book_anywhere(ceromby_floor floor, uint32_t tile, uint32_t number);
 
 /* Stops a tile; it keeps its canisters. Refused by 30, 4, 8, 31. */
 ceromby_answer ceromby_stop(ceromby_floor floor, uint32_t tile);

@@ -136,6 +136,19 @@ static void clean_nets(ceromby_floor floor) {
     printf("recall NETS before it was kept: %u\n", ceromby_recall(floor, nets).refusal);
 }
 
+/* Canisters on tile 0 until there is no place left for one more. */
+static void fill(ceromby_floor floor) {
+    ceromby_placed placed = {.floor = floor};
+    for (uint32_t number = 1; placed.refusal == CEROMBY_ACCEPTED; number++) {
+        placed = ceromby_book_anywhere(placed.floor, 0, number);
+        printf("book canister %lu anywhere: %u", (unsigned long)number, placed.refusal);
+        if (placed.refusal == CEROMBY_ACCEPTED)
+            printf(" at (%u, %u)", placed.a, placed.b);
+        printf("\n");
+    }
+    show("  after", placed.floor);
+}
+
 /* Two canisters on three tiles: the second is in the way of the first. */
 static void stand(ceromby_settings settings) {
     settings.columns = 3;
@@ -171,6 +184,7 @@ int main(void) {
     answer = ceromby_book(answer.floor, 0, canister);
     printf("book canister 5: %u\n", answer.refusal);
     store(stop(deliver(answer.floor)));
+    fill(ceromby_fresh(settings).floor);
     stand(settings);
     clean_nets(ceromby_fresh(settings).floor);
     start_blank();

@@ -58,6 +58,11 @@ static void answers(void) {
     SIZE(answer);
     FIELD(answer, floor);
     FIELD(answer, refusal);
+    SIZE(placed);
+    FIELD(placed, floor);
+    FIELD(placed, a);
+    FIELD(placed, b);
+    FIELD(placed, refusal);
     SIZE(rounded);
     FIELD(rounded, floor);
     FIELD(rounded, report);

@@ -38,6 +38,11 @@ fn numbers(rng: &mut Rng, count: usize, near: bool) -> Vec<u32> {
         .collect()
 }
 
+/// Sixteen places of a tile.
+fn lines() -> impl Iterator<Item = (u16, u16)> {
+    (0..16).map(|at| (at % 4 * 250 + 20, at / 4 * 250 + 20))
+}
+
 /// A settled floor with the given count on each tile but the hopper.
 fn filled(settings: Settings, count: usize, near: bool) -> Floor {
     let mut rng = Rng::new(7);
@@ -57,12 +62,8 @@ fn filled(settings: Settings, count: usize, near: bool) -> Floor {
     for tile in tiles {
         let mut mine: Vec<u32> = numbers.drain(..count).collect();
         mine.sort_unstable();
-        for (at, number) in mine.into_iter().enumerate() {
-            floor.canisters[tile * PLACES + at] = Canister {
-                number,
-                a: (at % 4) as u16 * 250 + 20,
-                b: (at / 4) as u16 * 250 + 20,
-            };
+        for ((at, number), (a, b)) in mine.into_iter().enumerate().zip(lines()) {
+            floor.canisters[tile * PLACES + at] = Canister { number, a, b };
         }
         floor.tiles[tile].count = count as u8;
     }
@@ -137,6 +138,41 @@ fn pair(name: String, theirs: Floor) -> Pair {
         tile: 4,
         place: (770, 770),
     }
+}
+
+/// The floors for bookings without a place: nothing but what tile 4 has, or
+/// much on the other tiles. Tile 4 is empty, has one place left, or none.
+pub fn to_book_on() -> Vec<(Pair, &'static str)> {
+    let small = settings(4, 4, 10);
+    let large = settings(8, 8, 27);
+    let floors = [
+        ("4 x 4 fresh", oracle::fresh(small).floor),
+        ("4 x 4 busy, near", filled(small, 6, true)),
+        ("8 x 8 fresh", oracle::fresh(large).floor),
+        ("8 x 8 full, near", filled(large, 16, true)),
+    ];
+    let mut all = Vec::new();
+    for (name, floor) in floors {
+        for (count, tile) in [(0, "empty tile"), (15, "full tile"), (16, "full tile")] {
+            all.push((pair(name.to_string(), with_tile(floor, count)), tile));
+        }
+    }
+    all
+}
+
+/// The floor with so many canisters on tile 4 and no others there.
+fn with_tile(mut floor: Floor, count: usize) -> Floor {
+    let tile = 4;
+    floor.counters.booked -= u32::from(floor.tiles[tile].count);
+    floor.tiles[tile].count = 0;
+    floor.canisters[tile * PLACES..][..PLACES].fill(Canister::ZERO);
+    for (a, b) in lines().take(count) {
+        let number = floor.counters.last + 1;
+        let booked = oracle::book(&floor, tile as u32, Canister { number, a, b });
+        assert_eq!(booked.refusal, 0);
+        floor = booked.floor;
+    }
+    floor
 }
 
 /// Settled floors without canisters, tile by tile more; then 8 x 8 with more

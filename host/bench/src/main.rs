@@ -1,13 +1,14 @@
 //! Time of the library through its binding against the second
-//! implementation, on the same floors in one run. With --growth: how a
-//! round's cost grows with tiles and canisters.
+//! implementation, on the same floors in one run; then of calls that must not
+//! cost much more than another one. With --growth: how a round's cost grows
+//! with tiles and canisters.
 
 mod floors;
 
 use std::hint::black_box;
 use std::time::Instant;
 
-use floors::{both_shapes, growing, Pair};
+use floors::{both_shapes, growing, to_book_on, Pair};
 
 /// Repetitions of each measure; the median counts. They are many and short,
 /// so that other work on the machine spoils few of them.
@@ -38,28 +39,29 @@ fn median(mut times: Vec<f64>) -> f64 {
 }
 
 /// Measures the two by turns and prints a line.
-fn measure(
-    floor: &str,
-    call: &str,
-    answer: u8,
-    library: &mut dyn FnMut(),
-    oracle: &mut dyn FnMut(),
-) {
-    let (many, others) = (calls_for(library), calls_for(oracle));
+fn measure(floor: &str, call: &str, answer: u8, one: &mut dyn FnMut(), other: &mut dyn FnMut()) {
+    let (many, others) = (calls_for(one), calls_for(other));
     let (mut ours, mut theirs) = (Vec::new(), Vec::new());
     for at in 0..REPETITIONS {
         if at % 2 == 0 {
-            ours.push(batch(many, library));
-            theirs.push(batch(others, oracle));
+            ours.push(batch(many, one));
+            theirs.push(batch(others, other));
         } else {
-            theirs.push(batch(others, oracle));
-            ours.push(batch(many, library));
+            theirs.push(batch(others, other));
+            ours.push(batch(many, one));
         }
     }
     let ratios = ours.iter().zip(&theirs).map(|(one, other)| one / other);
     let ratio = median(ratios.collect());
-    let (library, oracle) = (median(ours), median(theirs));
-    println!("{floor:22} {call:6} {answer:3} {library:12.0} {oracle:12.0} {ratio:8.2}");
+    let (one, other) = (median(ours), median(theirs));
+    println!("{floor:18} {call:25} {answer:3} {one:12.0} {other:12.0} {ratio:8.2}");
+}
+
+fn head(one: &str, other: &str) {
+    println!(
+        "{:18} {:25} {:>3} {one:>12} {other:>12} {:>8}",
+        "floor", "call", "", "ratio"
+    );
 }
 
 /// One row: the same call of both, with the library's answer.
@@ -107,6 +109,12 @@ fn timed_calls(pair: &Pair) {
     );
     row!(
         name,
+        "book anywhere",
+        ceromby::book_anywhere(ours, tile, number),
+        oracle::book_anywhere(theirs, tile, number)
+    );
+    row!(
+        name,
         "stop",
         ceromby::stop(ours, tile),
         oracle::stop(theirs, tile)
@@ -127,6 +135,23 @@ fn timed_calls(pair: &Pair) {
     row!(name, "load", ceromby::load(image), oracle::load(image));
 }
 
+/// A booking without a place beside one at the place that it takes, or at (0, 0)
+/// where there is none. At most 1.2 on an empty tile and 2 on a full one.
+fn anywhere() {
+    for (pair, on) in to_book_on() {
+        let (ours, tile) = (black_box(&pair.ours), pair.tile);
+        let number = pair.theirs.counters.last + 1;
+        let ceromby::Placed { a, b, .. } = ceromby::book_anywhere(ours, tile, number);
+        let place = ceromby::Canister { number, a, b };
+        row!(
+            &pair.name,
+            &format!("book anywhere, {on}"),
+            ceromby::book_anywhere(ours, tile, number),
+            ceromby::book(ours, tile, place)
+        );
+    }
+}
+
 /// How a round's cost grows: floor and canisters by row.
 fn growth() {
     for pair in growing() {
@@ -141,15 +166,14 @@ fn growth() {
 }
 
 fn main() {
-    println!("medians of {REPETITIONS}, the two by turns; 34: a full tile refuses");
-    println!(
-        "{:22} {:6} {:>3} {:>12} {:>12} {:>8}",
-        "floor", "call", "", "library ns", "oracle ns", "ratio"
-    );
+    println!("medians of {REPETITIONS}, the two by turns; 34, 40: a full tile refuses");
+    head("library ns", "oracle ns");
     if std::env::args().any(|word| word == "--growth") {
         return growth();
     }
     for pair in both_shapes() {
         timed_calls(&pair);
     }
+    head("library ns", "book ns");
+    anywhere();
 }

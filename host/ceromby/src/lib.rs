@@ -4,17 +4,20 @@
 mod types;
 
 pub use types::{
-    reason, Answer, Canister, Counters, Delivery, Floor, Layout, Name, Reading, Report, Rounded,
-    Settings, Side, Tile, Written, DISTANCE_NONE, LONGEST_IMAGE, MAX_HOPPERS, MAX_LAYOUTS,
+    reason, Answer, Canister, Counters, Delivery, Floor, Layout, Name, Placed, Reading, Report,
+    Rounded, Settings, Side, Tile, Written, DISTANCE_NONE, LONGEST_IMAGE, MAX_HOPPERS, MAX_LAYOUTS,
     MAX_TILES, PLACES,
 };
 
 mod raw {
-    use crate::types::{Answer, Canister, Floor, Name, Reading, Rounded, Settings, Written};
+    use crate::types::{
+        Answer, Canister, Floor, Name, Placed, Reading, Rounded, Settings, Written,
+    };
 
     extern "C" {
         pub fn ceromby_fresh(settings: Settings) -> Answer;
         pub fn ceromby_book(floor: Floor, tile: u32, canister: Canister) -> Answer;
+        pub fn ceromby_book_anywhere(floor: Floor, tile: u32, number: u32) -> Placed;
         pub fn ceromby_stop(floor: Floor, tile: u32) -> Answer;
         pub fn ceromby_repair(floor: Floor, tile: u32) -> Answer;
         pub fn ceromby_keep(floor: Floor, name: Name) -> Answer;
@@ -45,6 +48,13 @@ pub fn fresh(settings: Settings) -> Answer {
 pub fn book(floor: &Floor, tile: u32, canister: Canister) -> Answer {
     // SAFETY: plain values in and out.
     unsafe { raw::ceromby_book(*floor, tile, canister) }
+}
+
+/// Adds a canister at the place with the lowest b, then the lowest a, that
+/// keeps the spacing. [`Placed::place`] tells it.
+pub fn book_anywhere(floor: &Floor, tile: u32, number: u32) -> Placed {
+    // SAFETY: plain values in and out.
+    unsafe { raw::ceromby_book_anywhere(*floor, tile, number) }
 }
 
 /// Stops a tile.

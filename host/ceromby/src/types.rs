@@ -178,6 +178,26 @@ pub struct Answer {
     pub refusal: u8,
 }
 
+/// The answer of a booking without a place.
+#[repr(C)]
+#[derive(Clone, Copy, PartialEq, Eq, Debug)]
+pub struct Placed {
+    pub floor: Floor,
+    /// The place that the canister took. Beside a refusal it is (0, 0), which
+    /// is a place too; `place` gives none then.
+    pub a: u16,
+    pub b: u16,
+    /// 0 for accepted.
+    pub refusal: u8,
+}
+
+impl Placed {
+    /// The place (a, b) that the canister took, if it was accepted.
+    pub fn place(&self) -> Option<(u16, u16)> {
+        (self.refusal == 0).then_some((self.a, self.b))
+    }
+}
+
 #[repr(C)]
 #[derive(Clone, Copy, PartialEq, Eq, Debug)]
 pub struct Rounded {

@@ -1,8 +1,8 @@
 //! One short way through every call.
 
 use ceromby::{
-    book, forget, fresh, keep, load, read, reason, recall, repair, round, stop, tile, write,
-    Canister, Layout, Name, Settings,
+    book, book_anywhere, forget, fresh, keep, load, read, reason, recall, repair, round, stop,
+    tile, write, Canister, Layout, Name, Settings,
 };
 
 const SETTINGS: Settings = Settings {
@@ -37,6 +37,34 @@ fn the_first_trial() {
     let stopped = stop(&last.floor, 0);
     assert_eq!((stopped.refusal, repair(&stopped.floor, 0).refusal), (0, 0));
     assert_eq!(stop(&stopped.floor, 0).refusal, 31);
+}
+
+#[test]
+fn bookings_without_a_place() {
+    let mut floor = fresh(SETTINGS).floor;
+    for (number, a, b) in [(1, 0, 0), (2, 40, 0), (5, 0, 40), (9, 40, 40)] {
+        let placed = book_anywhere(&floor, 0, number);
+        assert_eq!((placed.refusal, placed.place()), (0, Some((a, b))));
+        let there = book(&floor, 0, Canister { number, a, b });
+        assert_eq!((there.refusal, there.floor), (0, placed.floor));
+        floor = placed.floor;
+    }
+    let halted = stop(&floor, 0).floor;
+    let mut malformed = floor;
+    malformed.counters.booked = 3;
+    for (floor, tile, number, refusal) in [
+        (floor, 0, 10, 40),
+        (floor, 0, 9, 33),
+        (halted, 0, 9, 31),
+        (halted, 0, 0, 6),
+        (floor, 1, 0, 5),
+        (floor, 256, 10, 4),
+        (malformed, 256, 10, 30),
+    ] {
+        let placed = book_anywhere(&floor, tile, number);
+        assert_eq!((placed.refusal, placed.place()), (refusal, None));
+        assert_eq!((placed.floor, placed.a, placed.b), (floor, 0, 0));
+    }
 }
 
 #[test]

@@ -3,8 +3,8 @@
 use std::mem::{offset_of, size_of};
 
 use ceromby::{
-    Answer, Canister, Counters, Delivery, Floor, Layout, Name, Reading, Report, Rounded, Settings,
-    Side, Tile, Written,
+    Answer, Canister, Counters, Delivery, Floor, Layout, Name, Placed, Reading, Report, Rounded,
+    Settings, Side, Tile, Written,
 };
 
 macro_rules! layout {
@@ -35,6 +35,7 @@ fn as_in_c() {
         "delivery" Delivery { numbers, count }
         "report" Report { grants, reasons, missing, deliveries }
         "answer" Answer { floor, refusal }
+        "placed" Placed { floor, a, b, refusal }
         "rounded" Rounded { floor, report, refusal }
         "reading" Reading { refusal, tile, members }
         "written" Written { refusal, length }

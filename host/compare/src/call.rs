@@ -4,10 +4,12 @@ use std::hint::black_box;
 use std::panic::{self, catch_unwind, AssertUnwindSafe};
 use std::sync::atomic::{AtomicBool, Ordering};
 
-use oracle::{Answer, Canister, Floor, Reading, Report, RoundAnswer, Settings, Tile, WriteAnswer};
+use oracle::{
+    Answer, Canister, Floor, PlaceAnswer, Reading, Report, RoundAnswer, Settings, Tile, WriteAnswer,
+};
 
 use crate::layouts::{self, Name};
-use crate::{convert, reasons};
+use crate::{convert, places, reasons};
 
 #[derive(Clone, PartialEq, Debug)]
 pub enum Call {
@@ -22,10 +24,22 @@ pub enum Call {
     Keep { name: Name },
     Forget { name: Name },
     Recall { name: Name },
+    BookAnywhere { tile: u32, number: u32 },
 }
 
-pub const NAMES: [&str; 11] = [
-    "fresh", "book", "stop", "repair", "round", "read", "write", "load", "keep", "forget", "recall",
+pub const NAMES: [&str; 12] = [
+    "fresh",
+    "book",
+    "stop",
+    "repair",
+    "round",
+    "read",
+    "write",
+    "load",
+    "keep",
+    "forget",
+    "recall",
+    "book anywhere",
 ];
 
 pub const BOOK: usize = 1;
@@ -34,6 +48,7 @@ pub const REPAIR: usize = 3;
 pub const KEEP: usize = 8;
 pub const FORGET: usize = 9;
 pub const RECALL: usize = 10;
+pub const BOOK_ANYWHERE: usize = 11;
 
 impl Call {
     /// Its place among `NAMES`.
@@ -50,6 +65,7 @@ impl Call {
             Call::Keep { .. } => KEEP,
             Call::Forget { .. } => FORGET,
             Call::Recall { .. } => RECALL,
+            Call::BookAnywhere { .. } => BOOK_ANYWHERE,
         }
     }
 
@@ -71,6 +87,7 @@ impl Call {
     pub fn tile(&self) -> Option<u32> {
         match self {
             Call::Book { tile, .. }
+            | Call::BookAnywhere { tile, .. }
             | Call::Stop { tile }
             | Call::Repair { tile }
             | Call::Read { tile } => Some(*tile),
@@ -101,6 +118,9 @@ impl From<oracle::random::Call> for Call {
     fn from(call: oracle::random::Call) -> Call {
         match call {
             oracle::random::Call::Book { tile, canister } => Call::Book { tile, canister },
+            oracle::random::Call::BookAnywhere { tile, number } => {
+                Call::BookAnywhere { tile, number }
+            }
             oracle::random::Call::Stop { tile } => Call::Stop { tile },
             oracle::random::Call::Repair { tile } => Call::Repair { tile },
             oracle::random::Call::Round => Call::Round,
@@ -122,6 +142,7 @@ impl From<oracle::random::Call> for Call {
 #[derive(PartialEq)]
 pub enum Outcome {
     Answer(Answer),
+    Placed(PlaceAnswer),
     Round(RoundAnswer),
     Reading(Reading),
     Written(WriteAnswer, Vec<u8>),
@@ -131,6 +152,7 @@ impl Outcome {
     pub fn refusal(&self) -> u8 {
         match self {
             Outcome::Answer(answer) => answer.refusal,
+            Outcome::Placed(answer) => answer.refusal,
             Outcome::Round(answer) => answer.refusal,
             Outcome::Reading(answer) => answer.refusal,
             Outcome::Written(answer, _) => answer.refusal,
@@ -144,6 +166,14 @@ impl Outcome {
                 buffer.get(..answer.length as usize)
             }
             _ => None,
+        }
+    }
+
+    /// The place that a booking without one tells, (0, 0) for other calls.
+    pub fn place(&self) -> (u16, u16) {
+        match self {
+            Outcome::Placed(answer) => (answer.a, answer.b),
+            _ => (0, 0),
         }
     }
 
@@ -164,6 +194,7 @@ impl Outcome {
                 *before
             }
             (Outcome::Answer(answer), _) => answer.floor,
+            (Outcome::Placed(answer), _) => answer.floor,
             (Outcome::Round(answer), _) => answer.floor,
             _ => *before,
         }
@@ -204,6 +235,10 @@ fn by_library(floor: &Floor, call: &Call) -> Outcome {
         Call::Book { tile, canister } => {
             ceromby::book(&theirs(), *tile, convert::to_canister(canister))
         }
+        Call::BookAnywhere { tile, number } => {
+            let answer = ceromby::book_anywhere(&theirs(), *tile, *number);
+            return Outcome::Placed(convert::from_placed(&answer));
+        }
         Call::Stop { tile } => ceromby::stop(&theirs(), *tile),
         Call::Repair { tile } => ceromby::repair(&theirs(), *tile),
         Call::Round => {
@@ -228,6 +263,9 @@ fn by_oracle(floor: &Floor, call: &Call) -> Outcome {
     Outcome::Answer(match call {
         Call::Fresh { settings } => oracle::fresh(*settings),
         Call::Book { tile, canister } => oracle::book(floor, *tile, *canister),
+        Call::BookAnywhere { tile, number } => {
+            return Outcome::Placed(oracle::book_anywhere(floor, *tile, *number));
+        }
         Call::Stop { tile } => oracle::stop(floor, *tile),
         Call::Repair { tile } => oracle::repair(floor, *tile),
         Call::Round => return Outcome::Round(oracle::round(floor)),
@@ -311,8 +349,11 @@ pub fn both(floor: &Floor, call: &Call) -> Result<Outcome, Trouble> {
         let text = format!("{} gives or writes something else", call.name());
         return Err(Trouble::promise("acceptance", text));
     }
-    match &library {
-        Outcome::Round(answer) if answer.refusal == 0 => reasons::check(floor, answer)?,
+    match (&library, call) {
+        (Outcome::Round(answer), _) if answer.refusal == 0 => reasons::check(floor, answer)?,
+        (Outcome::Placed(answer), Call::BookAnywhere { tile, number }) => {
+            places::check(floor, *tile, *number, answer)?;
+        }
         _ => layouts::check(floor, call, &library)?,
     }
     Ok(library)
@@ -325,6 +366,7 @@ fn keeps_all(floor: &Floor, call: &Call, outcome: &Outcome) -> bool {
             answer.floor == Floor::ZERO
         }
         (Outcome::Answer(answer), _) => answer.floor == *floor,
+        (Outcome::Placed(answer), _) => answer.floor == *floor && (answer.a, answer.b) == (0, 0),
         (Outcome::Round(answer), _) => answer.floor == *floor && answer.report == Report::ZERO,
         (Outcome::Reading(answer), _) => {
             answer.tile == Tile::ZERO && answer.members == [Canister::ZERO; 16]
@@ -360,6 +402,10 @@ fn describe(library: &Outcome, oracle: &Outcome) -> String {
     fields.note("answer", &library.refusal(), &oracle.refusal());
     match (library, oracle) {
         (Outcome::Answer(one), Outcome::Answer(other)) => fields.floor(&one.floor, &other.floor),
+        (Outcome::Placed(one), Outcome::Placed(other)) => {
+            fields.note("place told", &(one.a, one.b), &(other.a, other.b));
+            fields.floor(&one.floor, &other.floor);
+        }
         (Outcome::Round(one), Outcome::Round(other)) => {
             let (ones, others) = (&one.report, &other.report);
             fields.each("grant of tile", &ones.grants, &others.grants);

@@ -1,8 +1,8 @@
 //! Between the binding's structs and the oracle's.
 
 use oracle::{
-    Answer, Canister, Counters, Delivery, Floor, Layout, Reading, Report, RoundAnswer, Settings,
-    Tile, WriteAnswer,
+    Answer, Canister, Counters, Delivery, Floor, Layout, PlaceAnswer, Reading, Report, RoundAnswer,
+    Settings, Tile, WriteAnswer,
 };
 
 pub fn to_settings(from: &Settings) -> ceromby::Settings {
@@ -105,6 +105,15 @@ pub fn from_answer(from: &ceromby::Answer) -> Answer {
     Answer {
         refusal: from.refusal,
         floor: from_floor(&from.floor),
+    }
+}
+
+pub fn from_placed(from: &ceromby::Placed) -> PlaceAnswer {
+    PlaceAnswer {
+        refusal: from.refusal,
+        floor: from_floor(&from.floor),
+        a: from.a,
+        b: from.b,
     }
 }
 

@@ -1,32 +1,46 @@
 //! Neighbouring calls made in either order.
 
 use oracle::random::{self, Rng};
-use oracle::{Floor, Report};
+use oracle::{Canister, Floor, Report};
 
-use crate::call::{both, Call, Trouble, BOOK, NAMES, REPAIR, STOP};
+use crate::call::{both, Call, Trouble, BOOK, BOOK_ANYWHERE, NAMES, REPAIR, STOP};
 use crate::makers;
 
-/// The pairs of kinds whose order must not show on different tiles.
-pub const FREE: [[usize; 2]; 5] = [
+/// The pairs to make, the last one of two bookings. A booking is of either sort.
+pub const MADE: [[usize; 2]; 6] = [
     [STOP, STOP],
     [STOP, REPAIR],
     [REPAIR, REPAIR],
     [BOOK, STOP],
     [BOOK, REPAIR],
+    [BOOK, BOOK],
 ];
 
-/// The place of two bookings, after the pairs of `FREE`.
-const BOOKINGS: usize = FREE.len();
+/// The pairs of kinds: those whose order must not show on different tiles, then
+/// two bookings.
+const PAIRS: [[usize; 2]; 10] = [
+    [STOP, STOP],
+    [STOP, REPAIR],
+    [REPAIR, REPAIR],
+    [BOOK, STOP],
+    [BOOK, REPAIR],
+    [BOOK_ANYWHERE, STOP],
+    [BOOK_ANYWHERE, REPAIR],
+    [BOOK, BOOK],
+    [BOOK, BOOK_ANYWHERE],
+    [BOOK_ANYWHERE, BOOK_ANYWHERE],
+];
+
+/// How many of `PAIRS` aren't of two bookings.
+const FREE: usize = 7;
 
 /// Which pair two calls are; bookings may share a tile.
 fn pair_of(one: &Call, other: &Call) -> Option<usize> {
-    let mut kinds = [one.kind(), other.kind()];
-    kinds.sort_unstable();
-    if kinds == [BOOK, BOOK] {
-        return Some(BOOKINGS);
-    }
-    let pair = FREE.iter().position(|free| *free == kinds);
-    pair.filter(|_| one.tile() != other.tile())
+    let fits = |kinds: &[usize; 2]| {
+        *kinds == [one.kind(), other.kind()] || *kinds == [other.kind(), one.kind()]
+    };
+    let pair = PAIRS.iter().position(fits)?;
+    (pair >= FREE || one.tile() != other.tile()).then_some(pair)
 }
 
 const CLASSES: [&str; 4] = ["both accepted", "one refused", "both refused", "malformed"];
@@ -58,8 +72,8 @@ impl Met {
 /// How often each was met.
 #[derive(Default)]
 pub struct Counts {
-    pairs: [[u64; 4]; 6],
-    within: [u64; 5],
+    pairs: [[u64; 4]; PAIRS.len()],
+    within: [u64; FREE],
     stop_again: u64,
 }
 
@@ -67,7 +81,7 @@ impl Counts {
     /// Notes a check of so many calls.
     pub fn note(&mut self, met: Met, calls: usize) {
         match met {
-            Met::Pair { pair, .. } if calls > 2 && pair < BOOKINGS => self.within[pair] += 1,
+            Met::Pair { pair, .. } if calls > 2 && pair < FREE => self.within[pair] += 1,
             Met::Pair { pair, class } => self.pairs[pair][class] += 1,
             Met::StopAgain { accepted } => self.stop_again += u64::from(accepted),
         }
@@ -76,8 +90,7 @@ impl Counts {
     /// Lines of counts, each with its name.
     pub fn lines(&self) -> Vec<(String, Vec<(&'static str, u64)>)> {
         let mut lines = Vec::new();
-        for (pair, counts) in self.pairs.iter().enumerate() {
-            let [one, other] = FREE.get(pair).unwrap_or(&[BOOK, BOOK]);
+        for (pair, ([one, other], counts)) in PAIRS.iter().zip(&self.pairs).enumerate() {
             let mut cells: Vec<_> = CLASSES.into_iter().zip(*counts).collect();
             if let Some(within) = self.within.get(pair) {
                 cells.push(("within a list", *within));
@@ -92,9 +105,17 @@ impl Counts {
     }
 }
 
-/// What came of some calls: the answers, with the rounds' reports, and the floor.
+/// What a call told: its answer, the place, the report.
+#[derive(PartialEq)]
+struct Told {
+    refusal: u8,
+    place: (u16, u16),
+    report: Report,
+}
+
+/// What came of some calls, and the floor.
 struct Course {
-    answers: Vec<(u8, Report)>,
+    answers: Vec<Told>,
     floor: Floor,
 }
 
@@ -106,7 +127,11 @@ impl Course {
         };
         for call in calls {
             let outcome = both(&course.floor, call)?;
-            course.answers.push((outcome.refusal(), outcome.report()));
+            course.answers.push(Told {
+                refusal: outcome.refusal(),
+                place: outcome.place(),
+                report: outcome.report(),
+            });
             course.floor = outcome.floor_after(call, &course.floor);
         }
         Ok(course)
@@ -114,7 +139,7 @@ impl Course {
 
     /// The first two answers.
     fn two(&self) -> [u8; 2] {
-        [self.answers[0].0, self.answers[1].0]
+        [self.answers[0].refusal, self.answers[1].refusal]
     }
 }
 
@@ -135,7 +160,7 @@ pub fn check(first: &Floor, calls: &[Call]) -> Result<Option<Met>, Trouble> {
         return Ok(None);
     };
     match pair_of(one, other) {
-        Some(BOOKINGS) => bookings(first, one, other),
+        Some(pair) if pair >= FREE => bookings(first, pair, one, other),
         Some(pair) => exchanged(first, pair, calls, [other, one].into_iter().chain(rest)),
         None => Ok(None),
     }
@@ -153,7 +178,7 @@ fn exchanged<'a>(
     turned.answers.swap(0, 1);
     let differ = (0..calls.len()).find(|at| straight.answers[*at] != turned.answers[*at]);
     if let Some(at) = differ {
-        let (one, other) = (straight.answers[at].0, turned.answers[at].0);
+        let (one, other) = (straight.answers[at].refusal, turned.answers[at].refusal);
         let name = calls[at].name();
         return broken(format!("{name} answers {one}, or {other} in other order"));
     }
@@ -165,7 +190,7 @@ fn exchanged<'a>(
 }
 
 /// Two bookings accepted in one order: in the other the first is accepted, the second is 33.
-fn bookings(first: &Floor, one: &Call, other: &Call) -> Result<Option<Met>, Trouble> {
+fn bookings(first: &Floor, pair: usize, one: &Call, other: &Call) -> Result<Option<Met>, Trouble> {
     let straight = Course::of(first, [one, other])?.two();
     let turned = Course::of(first, [other, one])?.two();
     let accepted = [straight, turned].contains(&[0, 0]);
@@ -175,14 +200,13 @@ fn bookings(first: &Floor, one: &Call, other: &Call) -> Result<Option<Met>, Trou
         ));
     }
     let class = if accepted { 0 } else { class(straight) };
-    let pair = BOOKINGS;
     Ok(Some(Met::Pair { pair, class }))
 }
 
 /// Stop, repair, stop gives the floor of a single stop; where that is accepted, so are the other two.
 fn stop_again(first: &Floor, calls: &[Call]) -> Result<Option<Met>, Trouble> {
     let once = Course::of(first, &calls[..1])?;
-    let accepted = once.answers[0].0 == 0;
+    let accepted = once.answers[0].refusal == 0;
     let again = Course::of(&once.floor, &calls[1..])?;
     if again.floor != once.floor || (accepted && again.two() != [0, 0]) {
         return broken("stop, repair, stop isn't a single stop".into());
@@ -190,13 +214,17 @@ fn stop_again(first: &Floor, calls: &[Call]) -> Result<Option<Met>, Trouble> {
     Ok(Some(Met::StopAgain { accepted }))
 }
 
-/// Two calls of a pair that both could be accepted, mostly.
-pub fn pair(rng: &mut Rng, floor: &Floor, pair: usize) -> Vec<Call> {
-    let [one, other] = *FREE.get(pair).unwrap_or(&[BOOK, BOOK]);
+/// Two calls of these kinds that both could be accepted, mostly.
+pub fn pair(rng: &mut Rng, floor: &Floor, [one, other]: [usize; 2]) -> Vec<Call> {
     loop {
         let mut calls = vec![call(rng, floor, other), call(rng, floor, one)];
-        if let Call::Book { canister, .. } = &mut calls[1] {
-            canister.number = canister.number.saturating_add(rng.below(3) as u32);
+        if let Call::BookAnywhere { number, .. }
+        | Call::Book {
+            canister: Canister { number, .. },
+            ..
+        } = &mut calls[1]
+        {
+            *number = number.saturating_add(rng.below(3) as u32);
         }
         if rng.chance(1, 2) {
             calls.swap(0, 1);
@@ -219,7 +247,7 @@ fn call(rng: &mut Rng, floor: &Floor, kind: usize) -> Call {
     }
 }
 
-/// A booking, on a fill tile if a few tries meet one.
+/// A booking of either sort, on a fill tile if a few tries meet one.
 fn booking(rng: &mut Rng, floor: &Floor) -> Call {
     let fill = |call: &Call| {
         let tile = call.tile().map_or(64, |tile| tile as usize);

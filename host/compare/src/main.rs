@@ -14,6 +14,7 @@ mod layout_damage;
 mod layout_images;
 mod layouts;
 mod makers;
+mod places;
 mod promise;
 mod reasons;
 mod runs;
@@ -67,6 +68,7 @@ fn requests(plan: Plan, tally: &mut Tally) -> Result<(), Found> {
         single::several(&mut rng, tally).map_err(found("several hoppers"))?;
         single::layouts(&mut rng, tally).map_err(found("a list about layouts"))?;
         single::blank(&mut rng, tally).map_err(found("a blank controller"))?;
+        single::places(&mut rng, tally).map_err(found("bookings"))?;
     }
     Ok(())
 }

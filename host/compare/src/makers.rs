@@ -42,7 +42,7 @@ pub fn any_call(rng: &mut Rng, floor: &Floor) -> Call {
     }
 }
 
-/// A booking with any arguments.
+/// A booking of either sort with any arguments.
 pub fn any_booking(rng: &mut Rng, floor: &Floor) -> Call {
     let last = floor.counters.last;
     let number = match rng.below(8) {
@@ -53,6 +53,14 @@ pub fn any_booking(rng: &mut Rng, floor: &Floor) -> Call {
         _ => last.saturating_add(1),
     };
     let tile = random::any_tile(rng, floor);
+    match rng.chance(1, 3) {
+        true => Call::BookAnywhere { tile, number },
+        false => booking_on(rng, floor, tile, number),
+    }
+}
+
+/// A booking at any place of a tile.
+pub fn booking_on(rng: &mut Rng, floor: &Floor, tile: u32, number: u32) -> Call {
     let canister = Canister {
         number,
         a: coordinate(rng, floor, tile, |canister| canister.a),
@@ -180,6 +188,31 @@ pub fn packed_with(rng: &mut Rng, settings: Settings, near: bool) -> Floor {
         booked: held as u32,
         ..Counters::ZERO
     };
+    floor
+}
+
+/// A packed floor of two tiles with up to three places of the fill tile left,
+/// and none but those where no millimetre is to spare.
+pub fn nearly_full_floor(rng: &mut Rng) -> Floor {
+    let mut settings = Settings {
+        columns: 2,
+        rows: 1,
+        hoppers: only(1),
+        sources: only(0),
+        ..dense(rng)
+    };
+    if rng.chance(1, 2) {
+        settings.width = 3 * settings.spacing() as u16 + settings.length;
+    }
+    let near = rng.chance(1, 2);
+    let mut floor = packed_with(rng, settings, near);
+    for left in (PLACES - rng.below(4) as usize..PLACES).rev() {
+        let at = rng.range(0, left as u64) as usize;
+        floor.canisters[at..=left].rotate_left(1);
+        floor.canisters[left] = Canister::ZERO;
+        floor.tiles[0].count = left as u8;
+        floor.counters.booked = left as u32;
+    }
     floor
 }
 

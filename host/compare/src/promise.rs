@@ -21,6 +21,8 @@ pub struct Record {
     delivered: [u32; MAX_HOPPERS],
     waits: Waits,
     settled: Settled,
+    /// The tile of the latest accepted booking, and whether that had no place.
+    latest: Option<(u32, bool)>,
 }
 
 fn held(floor: &Floor) -> impl Iterator<Item = u32> + '_ {
@@ -32,6 +34,15 @@ fn held(floor: &Floor) -> impl Iterator<Item = u32> + '_ {
 
 fn broken(text: impl Into<String>) -> Result<(), Trouble> {
     Err(Trouble::promise("demand 3", text.into()))
+}
+
+/// The booking of an accepted call: tile, number, and whether without a place.
+fn booking(call: &Call) -> Option<(u32, u32, bool)> {
+    match call {
+        Call::Book { tile, canister } => Some((*tile, canister.number, false)),
+        Call::BookAnywhere { tile, number } => Some((*tile, *number, true)),
+        _ => None,
+    }
 }
 
 impl Record {
@@ -46,6 +57,7 @@ impl Record {
             delivered: floor.counters.delivered,
             waits: Waits::new(),
             settled: Settled::default(),
+            latest: None,
         }
     }
 
@@ -60,18 +72,16 @@ impl Record {
             return Ok(());
         }
         self.count(call, outcome)?;
+        if let Some((tile, number, anywhere)) = booking(call) {
+            self.add(number)?;
+            self.note_sort(tile, anywhere, &mut tally.places.mixed);
+        }
         self.waits.note(before, call, outcome, &mut tally.waits)?;
         self.settled.note(before, call, outcome, &mut tally.settled)
     }
 
     fn count(&mut self, call: &Call, outcome: &Outcome) -> Result<(), Trouble> {
         match (call, outcome) {
-            (Call::Book { canister, .. }, _) => {
-                self.booked += 1;
-                if !self.numbers.insert(canister.number) {
-                    return broken(format!("number {} booked twice", canister.number));
-                }
-            }
             (Call::Stop { tile } | Call::Repair { tile }, _) => {
                 let Some(runs) = self.running.get_mut(*tile as usize) else {
                     return broken(format!("{} of tile {tile} accepted", call.name()));
@@ -88,6 +98,23 @@ impl Record {
             _ => {}
         }
         Ok(())
+    }
+
+    /// Counts bookings of the two sorts that follow each other on a tile.
+    fn note_sort(&mut self, tile: u32, anywhere: bool, mixed: &mut [u64; 2]) {
+        if self.latest == Some((tile, !anywhere)) {
+            mixed[usize::from(anywhere)] += 1;
+        }
+        self.latest = Some((tile, anywhere));
+    }
+
+    /// Counts an accepted booking.
+    fn add(&mut self, number: u32) -> Result<(), Trouble> {
+        self.booked += 1;
+        match self.numbers.insert(number) {
+            true => Ok(()),
+            false => broken(format!("number {number} booked twice")),
+        }
     }
 
     /// What a layout has is known from the stops and repairs before it was kept.

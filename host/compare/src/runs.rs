@@ -300,6 +300,7 @@ fn arbitrary_floor(rng: &mut Rng) -> Floor {
         0 => makers::packed_floor(rng),
         1 => makers::facing_floor(rng),
         2 => makers::delivering_floor(rng),
+        3 => makers::nearly_full_floor(rng),
         _ => random::floor(rng),
     }
 }
@@ -354,6 +355,10 @@ pub fn damaged(rng: &mut Rng, tally: &mut Tally) -> Result<(), Box<Failure>> {
         let name = layouts::any_name(rng, &first);
         let calls = [
             Call::Book { tile, canister },
+            Call::BookAnywhere {
+                tile,
+                number: canister.number,
+            },
             Call::Stop { tile },
             Call::Repair { tile },
             Call::Round,

@@ -105,6 +105,9 @@ fn call(call: &Call) -> String {
     match call {
         Call::Fresh { settings: s } => format!("fresh {}", settings(s)),
         Call::Book { tile, canister: c } => format!("book on tile {tile}: {}", canister(c)),
+        Call::BookAnywhere { tile, number } => {
+            format!("book number {number} anywhere on tile {tile}")
+        }
         Call::Stop { tile } => format!("stop tile {tile}"),
         Call::Repair { tile } => format!("repair tile {tile}"),
         Call::Round => "round".into(),

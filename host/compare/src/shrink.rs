@@ -330,6 +330,7 @@ fn crop(case: &mut Case, line: Line) -> Option<()> {
 fn rename_tiles(calls: &mut [Call], tiles: usize, kept: impl Fn(u8) -> Option<u8>) -> Option<()> {
     for call in calls {
         if let Call::Book { tile, .. }
+        | Call::BookAnywhere { tile, .. }
         | Call::Stop { tile }
         | Call::Repair { tile }
         | Call::Read { tile } = call
@@ -372,6 +373,13 @@ fn smaller_calls(floor: &Floor, call: &Call) -> Vec<Call> {
                 with(canister.number, 0, canister.b),
                 with(canister.number, canister.a, 0),
             ]
+        }
+        Call::BookAnywhere { tile, number } => {
+            let next = floor.counters.last.wrapping_add(1);
+            vec![Call::BookAnywhere {
+                tile: *tile,
+                number: next.min(*number),
+            }]
         }
         Call::Write { size } => vec![
             Call::Write { size: size / 2 },

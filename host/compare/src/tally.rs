@@ -5,10 +5,10 @@ use std::fmt::Display;
 use oracle::{Floor, Grid, RoundAnswer, Side};
 
 use crate::call::{Call, Outcome, NAMES};
-use crate::{arrows, blank, exchange, hoppers, layouts, reasons, waits};
+use crate::{arrows, blank, exchange, hoppers, layouts, places, reasons, waits};
 
 /// The answers that each call can give, in the order of `NAMES`.
-const ANSWERS: [&[u8]; 11] = [
+const ANSWERS: [&[u8]; 12] = [
     &[0, 1, 2, 3],
     &[0, 30, 4, 5, 6, 7, 31, 33, 34],
     &[0, 30, 4, 8, 31],
@@ -20,6 +20,7 @@ const ANSWERS: [&[u8]; 11] = [
     &[0, 30, 44, 46],
     &[0, 30, 44, 45],
     &[0, 30, 44, 45],
+    &[0, 30, 4, 5, 6, 31, 33, 40],
 ];
 
 #[derive(Default)]
@@ -37,6 +38,7 @@ pub struct Tally {
     reasons: reasons::Counts,
     pub layouts: layouts::Counts,
     blank: blank::Counts,
+    pub places: places::Counts,
     pub settled: u64,
     /// Arrows kept and lists held to the bound in the runs for single requests.
     tied: [u64; 2],
@@ -68,6 +70,7 @@ impl Tally {
         self.reasons.add(&further.reasons);
         self.layouts.add(&further.layouts);
         self.blank.add(&further.blank);
+        self.places.add(&further.places);
         self.settled += further.settled;
         self.tied = [further.kept, further.drained];
         self.closest = self.closest.max(further.closest);
@@ -82,6 +85,9 @@ impl Tally {
             self.blank.note_load(bytes);
         }
         self.layouts.note(before, call, outcome.refusal());
+        if let (Call::BookAnywhere { tile, number }, Outcome::Placed(answer)) = (call, outcome) {
+            self.places.note(before, *tile, *number, answer);
+        }
         match (outcome, call) {
             _ if outcome.refusal() != 0 => {}
             (Outcome::Round(answer), _) => self.note_round(before, answer),
@@ -133,13 +139,14 @@ impl Tally {
         let mut missing = Vec::new();
         for ((name, answers), counts) in NAMES.iter().zip(ANSWERS).zip(&self.answers) {
             let cells = answers.iter().map(|at| (*at, counts[usize::from(*at)]));
-            print_line(&format!("{name:8}"), cells, &mut missing);
+            print_line(&format!("{name:13}"), cells, &mut missing);
         }
         let lines = [
             self.exchanges.lines(),
             self.waits.lines(),
             self.reasons.lines(),
             self.layouts.lines(),
+            self.places.lines(),
         ];
         for (name, cells) in lines.into_iter().flatten() {
             print_line(&name, cells, &mut missing);

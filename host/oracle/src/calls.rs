@@ -28,40 +28,51 @@ fn fresh_floor(settings: Settings) -> Floor {
 }
 
 pub fn book(floor: &Floor, tile: u32, canister: Canister) -> Answer {
-    match checked_source(floor, tile, &canister) {
-        Ok(tile) => {
-            let mut after = *floor;
-            after.insert(tile, canister);
-            after.counters = Counters {
-                last: canister.number,
-                booked: floor.counters.booked + 1,
-                ..floor.counters
-            };
-            Answer::accepted(after)
+    let Canister { number, a, b } = canister;
+    match checked_source(floor, tile, number, Some((a, b))) {
+        Ok(tile) if has_room(floor, tile, &canister) => {
+            Answer::accepted(add(floor, tile, canister))
         }
+        Ok(_) => Answer::refused(refusal::TOO_CLOSE, floor),
         Err(refusal) => Answer::refused(refusal, floor),
     }
 }
 
-/// The tile to book on, or the first refusal in the paper's order.
-fn checked_source(floor: &Floor, tile: u32, canister: &Canister) -> Result<usize, u8> {
+/// The floor with one canister more, which was booked.
+pub(crate) fn add(floor: &Floor, tile: usize, canister: Canister) -> Floor {
+    let mut after = *floor;
+    after.insert(tile, canister);
+    after.counters = Counters {
+        last: canister.number,
+        booked: floor.counters.booked + 1,
+        ..floor.counters
+    };
+    after
+}
+
+/// The tile to book on, or the first refusal in the paper's order of all that
+/// come before the spacing. A booking without a place can't be 7.
+pub(crate) fn checked_source(
+    floor: &Floor,
+    tile: u32,
+    number: u32,
+    place: Option<(u16, u16)>,
+) -> Result<usize, u8> {
     let settings = &floor.settings;
     let tile = checked_tile(floor, tile)?;
     let span = settings.span();
     if !settings.is_source(tile) {
         Err(refusal::NOT_A_SOURCE)
-    } else if canister.number == 0 {
+    } else if number == 0 {
         Err(refusal::NUMBER_ZERO)
-    } else if canister.a > span || canister.b > span {
+    } else if place.is_some_and(|(a, b)| a > span || b > span) {
         Err(refusal::OUTSIDE)
-    } else if faults::on(Fault::NumberBeforeStopped) && canister.number <= floor.counters.last {
+    } else if faults::on(Fault::NumberBeforeStopped) && number <= floor.counters.last {
         Err(refusal::NUMBER_USED)
     } else if floor.tiles[tile].running == 0 {
         Err(refusal::STOPPED)
-    } else if canister.number <= floor.counters.last {
+    } else if number <= floor.counters.last {
         Err(refusal::NUMBER_USED)
-    } else if !has_room(floor, tile, canister) {
-        Err(refusal::TOO_CLOSE)
     } else {
         Ok(tile)
     }

@@ -95,6 +95,14 @@ faults! {
     EmptyRefused "empty-refused" "an empty image is still 9"
     OneByteLoads "one-byte-loads" "one byte loads the standard floor too"
     StandardExchanged "standard-exchanged" "the standard floor has hopper 4 and fill tile 10"
+    LowestAFirst "lowest-a-first" "a place is sought by the lowest a, then the lowest b"
+    PlaceTooClose "place-too-close" "a place at a spacing of d - 1 is taken"
+    LastRowLeftOut "last-row-left-out" "40 though the row b = U - l has room"
+    SearchShort "search-short" "a place is sought up to U - l - 1 alone"
+    TooCloseAnywhere "too-close-anywhere" "34 in place of 40"
+    NoPlaceBeforeUsed "no-place-before-used" "40 before 33"
+    OtherPlaceTold "other-place-told" "the place told isn't the one taken"
+    RefusedPlace "refused-place" "a refused booking without a place tells one"
 }
 
 #[cfg(feature = "faults")]

@@ -5,6 +5,7 @@
 #![no_std]
 #![forbid(unsafe_code)]
 
+mod anywhere;
 mod calls;
 mod check;
 #[cfg(feature = "faults")]
@@ -20,6 +21,7 @@ pub mod refusal;
 mod round;
 mod types;
 
+pub use anywhere::{book_anywhere, place_by_candidates, place_by_pairs};
 pub use calls::{book, fresh, read, repair, stop};
 pub use check::{settings_refusal, well_formed};
 pub use grid::{Grid, Side, Spot};
@@ -27,6 +29,7 @@ pub use image::{load, write, LONGEST_IMAGE, STANDARD};
 pub use layouts::{forget, keep, name, recall};
 pub use round::round;
 pub use types::{
-    only, Answer, Canister, Counters, Delivery, Floor, Layout, Reading, Report, RoundAnswer,
-    Settings, Tile, WriteAnswer, MAX_HOPPERS, MAX_LAYOUTS, MAX_TILES, NONE, NO_SIDE, PLACES,
+    only, Answer, Canister, Counters, Delivery, Floor, Layout, PlaceAnswer, Reading, Report,
+    RoundAnswer, Settings, Tile, WriteAnswer, MAX_HOPPERS, MAX_LAYOUTS, MAX_TILES, NONE, NO_SIDE,
+    PLACES,
 };

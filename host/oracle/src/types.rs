@@ -119,6 +119,17 @@ pub struct Answer {
     pub floor: Floor,
 }
 
+/// The answer of a booking without a place.
+#[repr(C)]
+#[derive(Clone, Copy, PartialEq, Eq, Debug)]
+pub struct PlaceAnswer {
+    pub refusal: u8,
+    pub floor: Floor,
+    /// The place that the canister took.
+    pub a: u16,
+    pub b: u16,
+}
+
 #[repr(C)]
 #[derive(Clone, Copy, PartialEq, Eq, Debug)]
 pub struct RoundAnswer {

@@ -6,7 +6,7 @@ use oracle::Floor;
 use super::{arbitrary_floor, begin, damaged_floor, finish, list_settings, Failure};
 use crate::call::Call;
 use crate::tally::Tally;
-use crate::{arrows, blank, exchange, layouts, makers};
+use crate::{arrows, blank, exchange, layouts, makers, places};
 
 /// Every pair in either order, on a well-formed floor and on a damaged one.
 pub fn exchange_once(rng: &mut Rng, tally: &mut Tally) -> Result<(), Box<Failure>> {
@@ -16,8 +16,8 @@ pub fn exchange_once(rng: &mut Rng, tally: &mut Tally) -> Result<(), Box<Failure
             false => damaged_floor(rng, tally).0,
         };
         finish(begin(first, sound, None), tally, |run| {
-            for pair in 0..=exchange::FREE.len() {
-                run.exchange(exchange::pair(rng, &first, pair))?;
+            for kinds in exchange::MADE {
+                run.exchange(exchange::pair(rng, &first, kinds))?;
             }
             run.exchange(exchange::stop_twice(rng, &first))
         })?;
@@ -36,15 +36,15 @@ pub fn exchange_in_list(rng: &mut Rng, tally: &mut Tally) -> Result<(), Box<Fail
         for _ in 0..rng.range(5, 50) {
             let floor = run.floor;
             if rng.chance(1, 4) {
-                let pair = rng.range(0, exchange::FREE.len() as u64) as usize;
-                run.exchange(exchange::pair(rng, &floor, pair))?;
+                let kinds = rng.pick(&exchange::MADE);
+                run.exchange(exchange::pair(rng, &floor, kinds))?;
             }
             run.make(random::call(rng, &floor).into())?;
         }
         let middle = run.floor;
         let before = run.case.calls.len();
-        let pair = rng.below(exchange::FREE.len() as u64) as usize;
-        for call in exchange::pair(rng, &middle, pair) {
+        let kinds = rng.pick(&exchange::MADE[..exchange::MADE.len() - 1]);
+        for call in exchange::pair(rng, &middle, kinds) {
             run.make(call)?;
         }
         for _ in 0..rng.range(5, 50) {
@@ -161,5 +161,18 @@ pub fn blank(rng: &mut Rng, tally: &mut Tally) -> Result<(), Box<Failure>> {
         }
         run.check()?;
         run.drain(rng, 1_000)
+    })
+}
+
+/// A few tiles filled by bookings with and without a place.
+pub fn places(rng: &mut Rng, tally: &mut Tally) -> Result<(), Box<Failure>> {
+    let settings = list_settings(rng);
+    let first = places::floor(rng, settings);
+    finish(begin(first, true, None), tally, |run| {
+        for _ in 0..rng.range(4, 40) {
+            let floor = run.floor;
+            run.make(places::list_call(rng, &floor))?;
+        }
+        run.check()
     })
 }

@@ -6,6 +6,7 @@ use super::*;
 #[derive(Clone, Copy, PartialEq, Eq, Debug)]
 pub enum Call {
     Book { tile: u32, canister: Canister },
+    BookAnywhere { tile: u32, number: u32 },
     Stop { tile: u32 },
     Repair { tile: u32 },
     Round,
@@ -18,9 +19,13 @@ pub enum Call {
 pub fn call(rng: &mut Rng, floor: &Floor) -> Call {
     match rng.below(22) {
         0..=10 => Call::Round,
-        11..=16 => Call::Book {
+        11..=14 => Call::Book {
             tile: booking_tile(rng, floor),
             canister: booking(rng, floor),
+        },
+        15 | 16 => Call::BookAnywhere {
+            tile: booking_tile(rng, floor),
+            number: booking(rng, floor).number,
         },
         17 => Call::Stop {
             tile: tile_that(rng, floor, |tile| tile.running == 1),
@@ -45,7 +50,7 @@ pub fn call(rng: &mut Rng, floor: &Floor) -> Call {
 /// A call that every well-formed floor refuses.
 pub fn refused_call(rng: &mut Rng, floor: &Floor) -> Call {
     let outside = rng.u32(64, u32::MAX);
-    match rng.below(7) {
+    match rng.below(8) {
         0 => Call::Stop { tile: outside },
         1 => Call::Repair { tile: outside },
         3 => Call::Keep {
@@ -59,6 +64,10 @@ pub fn refused_call(rng: &mut Rng, floor: &Floor) -> Call {
         },
         2 => Call::Stop {
             tile: any_hopper(rng, floor),
+        },
+        6 => Call::BookAnywhere {
+            tile: booking_tile(rng, floor),
+            number: 0,
         },
         _ => Call::Book {
             tile: booking_tile(rng, floor),

@@ -3,8 +3,8 @@
 use crate::naive;
 use oracle::random::{self, Rng};
 use oracle::{
-    book, forget, fresh, keep, read, recall, repair, round, settings_refusal, stop, well_formed,
-    write, Canister, Floor, Layout, Report, LONGEST_IMAGE,
+    book, book_anywhere, forget, fresh, keep, read, recall, repair, round, settings_refusal, stop,
+    well_formed, write, Canister, Floor, Layout, Report, LONGEST_IMAGE,
 };
 
 fn try_all(rng: &mut Rng, floor: &Floor, buffer: &mut [u8]) {
@@ -37,6 +37,11 @@ fn try_all(rng: &mut Rng, floor: &Floor, buffer: &mut [u8]) {
         } else {
             assert!(well_formed(&answer.floor));
         }
+    }
+    let answer = book_anywhere(floor, tile, canister.number);
+    assert_eq!(answer.refusal == 30, !sound);
+    if answer.refusal != 0 {
+        assert_eq!((answer.floor, answer.a, answer.b), (*floor, 0, 0));
     }
     let answer = round(floor);
     assert_eq!(answer.refusal, if sound { 0 } else { 30 });

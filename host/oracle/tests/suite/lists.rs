@@ -5,8 +5,8 @@ use std::collections::{BTreeMap, BTreeSet};
 use crate::common::*;
 use oracle::random::{self, Call, Rng};
 use oracle::{
-    book, forget, keep, recall, repair, round, stop, well_formed, Floor, Grid, Report, Settings,
-    Side,
+    book, book_anywhere, forget, keep, recall, repair, round, stop, well_formed, Floor, Grid,
+    Report, Settings, Side,
 };
 
 /// What the paper lets us know about a list from its answers alone.
@@ -40,10 +40,8 @@ impl Record {
             return (refusal, after);
         }
         match call {
-            Call::Book { canister, .. } => {
-                assert!(self.numbers.insert(canister.number));
-                self.booked += 1;
-            }
+            Call::Book { canister, .. } => self.add(canister.number),
+            Call::BookAnywhere { number, .. } => self.add(number),
             Call::Stop { tile } => self.running[tile as usize] = false,
             Call::Repair { tile } => self.running[tile as usize] = true,
             Call::Keep { name } => {
@@ -65,6 +63,11 @@ impl Record {
         (refusal, after)
     }
 
+    fn add(&mut self, number: u32) {
+        assert!(self.numbers.insert(number));
+        self.booked += 1;
+    }
+
     fn check(&self, floor: &Floor) {
         check_places(floor);
         let now = held(floor);
@@ -81,6 +84,10 @@ impl Record {
 pub fn perform(call: Call, floor: &Floor) -> (u8, Floor, Report) {
     let answer = match call {
         Call::Book { tile, canister } => book(floor, tile, canister),
+        Call::BookAnywhere { tile, number } => {
+            let answer = book_anywhere(floor, tile, number);
+            return (answer.refusal, answer.floor, Report::ZERO);
+        }
         Call::Stop { tile } => stop(floor, tile),
         Call::Repair { tile } => repair(floor, tile),
         Call::Keep { name } => keep(floor, name),
@@ -230,7 +237,7 @@ fn drain(rng: &mut Rng, first: &Floor, cap: u64) -> Option<u64> {
 
 #[test]
 fn random_lists_keep_the_promises() {
-    let mut accepted = [0; 7];
+    let mut accepted = [0; 8];
     let mut refused = BTreeSet::new();
     for seed in 0..1_500 {
         let mut rng = Rng::new(seed);
@@ -250,6 +257,7 @@ fn random_lists_keep_the_promises() {
                     Call::Keep { .. } => 4,
                     Call::Forget { .. } => 5,
                     Call::Recall { .. } => 6,
+                    Call::BookAnywhere { .. } => 7,
                 };
                 accepted[kind] += 1;
             } else {
@@ -260,7 +268,7 @@ fn random_lists_keep_the_promises() {
         record.check(&floor);
     }
     assert!(accepted.iter().all(|count| *count > 500), "{accepted:?}");
-    let all: BTreeSet<u8> = [4, 5, 6, 7, 8, 31, 32, 33, 34, 45, 46].into();
+    let all: BTreeSet<u8> = [4, 5, 6, 7, 8, 31, 32, 33, 34, 40, 45, 46].into();
     assert_eq!(refused, all);
 }
 

@@ -1,5 +1,6 @@
 //! Tests against the paper.
 
+mod anywhere;
 mod arrows;
 mod blank;
 mod common;
