@@ -4,7 +4,9 @@ ghost use lib.ListN.{length};
 ghost use Rattle.floor.specs.Layouts.{nameNumber};
 ghost use Rattle.floor.specs.Calls.{freshAnswer, bookAnswer, stopAnswer, repairAnswer, keepAnswer, forgetAnswer, recallAnswer, roundAnswer, readAnswer};
 ghost use Rattle.floor.specs.Anywhere.{anywhereAnswer};
+ghost use Rattle.book_list.specs.Listing.{listAnswer, listAfter};
 ghost use Rattle.image.specs.Image.{loadAnswer, writeAnswer, written};
+use book_list::Booking;
 use floor::Answer;
 use floor::Canister;
 use floor::Floor;
@@ -34,6 +36,13 @@ pub extern "C" fn ceromby_book_anywhere(floor: Floor, tile: u32, number: u32) ->
     ensures { λ r. ⌜ r ≡ anywhereAnswer floor tile number ⌝ }
 {
     calls::book_anywhere(floor, tile, number)
+}
+
+#[no_mangle]
+pub extern "C" fn ceromby_book_list(floor: Floor, list: &mut [Booking]) -> Answer
+    ensures { λ r. ⌜ (r ≡ listAnswer floor (now (list .entry))) × (now (list .exit) ≡ listAfter floor (now (list .entry))) ⌝ }
+{
+    calls::book_list(floor, list)
 }
 
 #[no_mangle]

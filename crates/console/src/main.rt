@@ -83,7 +83,7 @@ fn turn(before: Session, buf: &mut [u8], kept: usize) -> After
     }
 }
 
-// The end of the input: a last line without its end is obeyed. `more`: there may be input, and no reads are left.
+// The end of the input: a last line without its end is obeyed; a list that has no `end` is not sent. `more`: there may be input, and no reads are left.
 fn finish(s: Session, rest: &[u8], more: bool) {
     if more {
         console_say::text(b"console: no reads are left; the lines after line ");
@@ -91,8 +91,12 @@ fn finish(s: Session, rest: &[u8], more: bool) {
         console_say::text(b" are not read\n");
         return;
     }
+    let mut last = s;
     if s.going && 0 < rest.len() {
-        line_done(s, rest);
+        last = line_done(s, rest);
+    }
+    if last.entries.begun {
+        console_say::text(b"list: not sent, there is no end\n");
     }
 }
 

@@ -1,11 +1,78 @@
 // One typed line obeyed: the commands beside the single calls, and which command a line names.
+use book_list::Booking;
 use console_session::Session;
+use floor::Canister;
 use floor::Delivery;
 use floor::Floor;
 use floor::refusals;
 
 // `rounds` takes at most this many.
 const MOST: u32 = 100000;
+
+// Begins a list, or begins it again.
+fn list(s: Session, line: &[u8]) -> Session {
+    if !console_parse::ended(line, 1) {
+        return console_session::cannot(s, line);
+    }
+    let mut next = s;
+    let entries = console_list::none(true);
+    next.entries = entries;
+    next
+}
+
+// Sends the list that was typed, and tells each answer.
+fn send(s: Session, line: &[u8]) -> Session {
+    if !console_parse::ended(line, 1) {
+        return console_session::cannot(s, line);
+    }
+    let typed = s.entries;
+    let list = typed.list;
+    let mut next = s;
+    let closed = console_list::none(false);
+    next.entries = closed;
+    let floor = s.floor;
+    let answer = calls::book_places(floor, list, typed.count);
+    if answer.refusal != 0 || !s.made {
+        return console_session::refused(next, b"list", answer.refusal);
+    }
+    let places = answer.list;
+    console_list::tell(places, typed.count);
+    let booked = answer.floor;
+    next.floor = booked;
+    next
+}
+
+// A line of a list: an entry, or its end.
+fn obey_list(s: Session, line: &[u8]) -> Session {
+    if console_parse::is(line, 0, b"end") {
+        return send(s, line);
+    }
+    if console_parse::is(line, 0, b"list") {
+        return list(s, line);
+    }
+    if console_parse::is(line, 0, b"quit") {
+        return rest(s, line);
+    }
+    let n = console_parse::numbers_at(line, 0, 4);
+    if !(n.good & console_parse::ended(line, 4)) {
+        return console_session::cannot(s, line);
+    }
+    let c = Canister {
+        number: n.at[1],
+        a: console_parse::short(n.at[2]),
+        b: console_parse::short(n.at[3]),
+    };
+    let entry = Booking {
+        tile: n.at[0],
+        canister: c,
+        answer: 0,
+    };
+    let mut next = s;
+    let typed = s.entries;
+    let more = console_list::with_entry(typed, entry);
+    next.entries = more;
+    next
+}
 
 // A round, and what it gave.
 struct Stepped {
@@ -146,6 +213,9 @@ fn why(s: Session) -> Session {
 
 // Obeys one line.
 pub fn obey(s: Session, line: &[u8]) -> Session {
+    if s.entries.begun {
+        return obey_list(s, line);
+    }
     if console_parse::is(line, 0, b"fresh") {
         return console_calls::fresh(s, line, false);
     }
@@ -154,6 +224,9 @@ pub fn obey(s: Session, line: &[u8]) -> Session {
     }
     if console_parse::is(line, 0, b"book") {
         return console_calls::book(s, line);
+    }
+    if console_parse::is(line, 0, b"list") {
+        return list(s, line);
     }
     if console_parse::is(line, 0, b"stop") {
         return console_calls::stop(s, line);

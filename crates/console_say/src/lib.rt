@@ -67,6 +67,7 @@ fn meaning(n: u8) {
         refusals::NUMBER_PAST => text(b"number not above the last booked"),
         refusals::TOO_NEAR => text(b"too near a canister of the tile"),
         refusals::NO_PLACE => text(b"no place on the tile"),
+        refusals::LIST_TOO_LONG => text(b"more than 64 entries"),
         refusals::BAD_NAME => text(b"not a name of 1 to 8 letters A to Z"),
         refusals::NOT_HELD => text(b"no layout has that name"),
         refusals::EIGHT_HELD => text(b"eight other names are held"),
@@ -467,6 +468,9 @@ pub fn help() {
     text(b"      book TILE NUMBER: at the free place with the lowest B, then the lowest A\n");
     text(
         b"      keep NAME | recall NAME | forget NAME | layouts   (NAME: 1 to 8 letters A to Z)\n",
+    );
+    text(
+        b"      list, then TILE NUMBER A B on a line each, then end: up to 64 bookings in one call\n",
     );
     text(b"      show | help | quit | # a remark\n");
     text(

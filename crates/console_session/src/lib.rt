@@ -2,16 +2,18 @@
 ghost use Prim.Native.Nat.{_-_, _<_, _^_};
 ghost use Rattle.laws.specs.Define.{sum};
 ghost use mathlib.Core.Path.{_≡_};
+use console_list::Entries;
 use floor::Counters;
 use floor::Floor;
 use floor::Settings;
 
-// The floor, what the last round's report says of each tile, how many lines were read, how many rounds the floor went, whether
-// a fresh has made it, whether to go on.
+// The floor, what the last round's report says of each tile, the entries of a list that is being typed, how many lines were read,
+// how many rounds the floor went, whether a fresh has made it, whether to go on.
 pub struct Session {
     pub floor: Floor,
     pub reasons: [u8; 64],
     pub missing: [u16; 64],
+    pub entries: Entries,
     pub lines: u64,
     pub rounds: u64,
     pub made: bool,
@@ -31,10 +33,12 @@ pub fn begin() -> Session {
     };
     let none = calls::fresh(nothing);
     let floor = none.floor;
+    let entries = console_list::none(false);
     Session {
         floor: floor,
         reasons: [0; 64],
         missing: [0; 64],
+        entries: entries,
         lines: 0,
         rounds: 0,
         made: false,

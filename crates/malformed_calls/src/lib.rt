@@ -1,5 +1,6 @@
 // Whether every call that takes a floor refuses one that isn't well formed: 30 and the same floor, zeros for a reading, the same
-// bytes for a writing.
+// bytes for a writing; a list of bookings answers 30 in every entry.
+use book_list::Booking;
 use floor::Canister;
 use floor::Delivery;
 use floor::Floor;
@@ -182,7 +183,41 @@ fn finds_nothing(f: Floor) -> bool {
     (answer.refusal == 30) & (answer.a == 0) & (answer.b == 0) & same_floor(a, f)
 }
 
-// Book with and without a place, stop, repair, round, read, write, keep, forget and recall.
+// The answer of the entry with k entries before it, where n are written: 30, or 99, which stood there.
+fn due(k: usize, n: usize) -> u8 {
+    if k < n { 30 } else { 99 }
+}
+
+// Whether the first n entries have the answer 30, the others 99 still.
+fn answered(list: [Booking; 64], n: usize) -> bool {
+    let mut all = true;
+    let mut k: usize = 0;
+    while k < 64 {
+        let b = list[k];
+        all = all & (b.answer == due(k, n));
+        k += 1;
+    }
+    all
+}
+
+// A list of n bookings.
+fn list_refuses(f: Floor, n: usize, refusal: u8, written: usize) -> bool {
+    let entry = Booking {
+        tile: 1,
+        canister: Canister {
+            number: 900,
+            a: 0,
+            b: 0,
+        },
+        answer: 99,
+    };
+    let made = calls::book_places(f, [entry; 64], n);
+    let list = made.list;
+    let after = made.floor;
+    (made.refusal == refusal) & answered(list, written) & same_floor(after, f)
+}
+
+// Book with and without a place, lists of 5, 64 and 65 bookings, stop, repair, round, read, write, keep, forget and recall.
 pub fn all_refuse(f: Floor) -> bool {
     let book = floors::book(f, 1, 900, 0, 0);
     let stop = calls::stop(f, 1);
@@ -206,4 +241,7 @@ pub fn all_refuse(f: Floor) -> bool {
         & unwritten(f)
         & names_refuse(f)
         & finds_nothing(f)
+        & list_refuses(f, 5, 0, 5)
+        & list_refuses(f, 64, 0, 64)
+        & list_refuses(f, 65, 42, 0)
 }

@@ -1,0 +1,5 @@
+pub mod Upto
+pub mod Kept
+pub mod Widths
+pub mod Singly
+pub mod Samples

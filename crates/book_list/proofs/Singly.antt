@@ -1,0 +1,168 @@
+-- A list of bookings in one call is its bookings made singly: `booking-lists`.
+use mathlib.Core.Path.{_≡_, refl, sym, ap, _∙_, subst}
+use mathlib.Core.Logic.{_⊎_, inl, inr}
+use mathlib.Core.Bool.{Bool, true, false, cond}
+use mathlib.Core.List.{List, [], _∷_, _++_, map, append-assoc}
+use Prim.Native.Nat.{ℕ, _≤_, _<_}
+use borrow.Author.Tests.{lt-ltb, le-ltb}
+use lib.ListN.{length, take, drop, length-take}
+use native.Mathlib.Nat.{le-trans, min-le-left}
+use Rattle.laws.proofs.Lists.{all-append}
+use Rattle.floor.specs.declared.Floor.{Floor}
+use Rattle.floor.specs.declared.Answer.{Answer}
+use Rattle.floor.specs.Well.{wellFormed}
+use Rattle.floor.specs.Demand3.{Call, book, Typed, outcome, floorAfter, bookedIn, reportedIn}
+use Rattle.floor.proofs.Chain.{bookedBy, Made, books}
+use Rattle.floor.proofs.Lists.{after-both}
+use Rattle.floor.proofs.Theorem.{demand3}
+use Rattle.book_list.specs.declared.Booking.{Booking}
+use Rattle.book_list.specs.declared.Listed.{Listed}
+use Rattle.book_list.specs.Listing.{answered, single, floorSingly, entriesSingly, tooLong, listAnswer, listAfter}
+use Rattle.book_list.specs.Parts.{placesAnswer}
+use Rattle.book_list.specs.Singly.{callsOf, answersIn, acceptedIn, Singly, Covered, ByValue, BookingLists}
+use Rattle.book_list.proofs.Kept.{book-malformed}
+
+-- ---- at most 64 entries: the call is its bookings made singly
+list-floor : (f : Floor) (l : List Booking) → floorSingly f l ≡ floorAfter f (callsOf l)
+unfolding floorSingly floorAfter outcome
+list-floor f [] = refl
+list-floor f (b ∷ l) = list-floor (single f b .floor) l
+
+list-answers : (f : Floor) (l : List Booking) → map (λ b. b .answer) (entriesSingly f l) ≡ answersIn f (callsOf l)
+unfolding entriesSingly answersIn outcome
+list-answers f [] = refl
+list-answers f (b ∷ l) = ap (λ (k : List ℕ). single f b .refusal ∷ k) (list-answers (single f b .floor) l)
+
+list-bookings : (f : Floor) (l : List Booking) → callsOf (entriesSingly f l) ≡ callsOf l
+unfolding entriesSingly
+list-bookings f [] = refl
+list-bookings f (b ∷ l) = ap (λ (k : List Call). book (b .tile) (b .canister) ∷ k) (list-bookings (single f b .floor) l)
+
+list-booked : (f : Floor) (l : List Booking) → acceptedIn (entriesSingly f l) ≡ bookedIn f (callsOf l)
+unfolding entriesSingly bookedIn outcome
+list-booked f [] = refl
+list-booked f (b ∷ l) = ap (λ k. bookedBy (b .canister) (single f b) ++ k) (list-booked (single f b .floor) l)
+
+list-reported : (f : Floor) (l : List Booking) (k : ℕ) → reportedIn f (callsOf l) k ≡ []
+unfolding reportedIn outcome
+list-reported f [] k = refl
+list-reported f (b ∷ l) k = list-reported (single f b .floor) l k
+
+few : (l : List Booking) → length l ≤ 64 → tooLong (length l) ≡ false
+few l h = le-ltb 64 (length l) h
+
+list-singly : (f : Floor) (l : List Booking) → length l ≤ 64 → Singly f l
+unfolding listAnswer listAfter
+list-singly f l h =
+    let e = few l h in
+    record {
+      after = entriesSingly f l;
+      is-after = rw e;
+      number = rw e;
+      same-floor = rw e (list-floor f l);
+      same-answers = list-answers f l;
+      same-bookings = list-bookings f l;
+      same-booked = list-booked f l;
+      none-reported = list-reported f l;
+    }
+
+-- ---- more: nothing is done
+list-too-long : (f : Floor) (l : List Booking) → 64 < length l → (listAnswer f l ≡ record { refusal = 42; floor = f }) × (listAfter f l ≡ l)
+unfolding listAnswer listAfter
+list-too-long f l h =
+    let e : tooLong (length l) ≡ true = lt-ltb 64 (length l) h in
+    (rw e, rw e)
+
+list-number : (f : Floor) (l : List Booking) → (listAnswer f l .refusal ≡ 0) ⊎ (listAnswer f l .refusal ≡ 42)
+unfolding listAnswer
+list-number f l = go (tooLong (length l))
+  where
+    go : (b : Bool) → (_≡_ {A = ℕ} (cond b 42 0) 0) ⊎ (_≡_ {A = ℕ} (cond b 42 0) 42)
+    go true = inr refl
+    go false = inl refl
+
+-- ---- a malformed floor
+malformed-singly : (f : Floor) (l : List Booking) → wellFormed f ≡ false → (floorSingly f l ≡ f) × (entriesSingly f l ≡ map (λ b. answered b 30) l)
+unfolding floorSingly entriesSingly
+malformed-singly f [] w = (refl, refl)
+malformed-singly f (b ∷ l) w =
+    let e : single f b ≡ record { refusal = 30; floor = f } = book-malformed f (b .tile) (b .canister) w in
+    let k = malformed-singly f l w in
+    (ap (λ (r : Answer). floorSingly (r .floor) l) e ∙ k .0, ap (λ (r : Answer). answered b (r .refusal) ∷ entriesSingly (r .floor) l) e ∙ ap (λ t. answered b 30 ∷ t) (k .1))
+
+list-malformed : (f : Floor) (l : List Booking) → wellFormed f ≡ false → length l ≤ 64 → (listAnswer f l ≡ record { refusal = 0; floor = f }) × (listAfter f l ≡ map (λ b. answered b 30) l)
+unfolding listAnswer listAfter
+list-malformed f l w h =
+    let k = malformed-singly f l w in
+    (rw (few l h, k .0), rw (few l h) (k .1))
+
+list-empty : (f : Floor) → (listAnswer f [] ≡ record { refusal = 0; floor = f }) × (listAfter f [] ≡ [])
+unfolding listAnswer listAfter floorSingly entriesSingly
+list-empty f = (refl, refl)
+
+-- ---- among other calls
+both-booked : (f : Floor) (cs ds : List Call) → bookedIn f (cs ++ ds) ≡ bookedIn f cs ++ bookedIn (floorAfter f cs) ds
+unfolding floorAfter bookedIn
+both-booked f [] ds = refl
+both-booked f (c ∷ cs) ds = ap (λ k. outcome f c .booked ++ k) (both-booked (outcome f c .floor) cs ds) ∙ sym (append-assoc (outcome f c .booked) _ _)
+
+both-reported : (f : Floor) (cs ds : List Call) (k : ℕ) → reportedIn f (cs ++ ds) k ≡ reportedIn f cs k ++ reportedIn (floorAfter f cs) ds k
+unfolding floorAfter reportedIn
+both-reported f [] ds k = refl
+both-reported f (c ∷ cs) ds k = ap (λ t. outcome f c .reported k ++ t) (both-reported (outcome f c .floor) cs ds k) ∙ sym (append-assoc (outcome f c .reported k) _ _)
+
+list-covered : (f : Floor) (before : List Call) (l : List Booking) (after : List Call) → length l ≤ 64 → Covered f before l after
+list-covered f before l after h =
+    let here = floorAfter f before in
+    let S = list-singly here l h in
+    let e : floorAfter here (callsOf l) ≡ listAnswer here l .floor = sym (S .same-floor) in
+    let b : bookedIn here (callsOf l) ≡ acceptedIn (listAfter here l) = sym (S .same-booked) ∙ ap acceptedIn (S .is-after) in
+    record {
+      here = here;
+      is-here = refl;
+      next = listAnswer here l .floor;
+      is-next = refl;
+      same-floor = after-both f before (callsOf l ++ after) ∙ after-both here (callsOf l) after ∙ ap (λ (g : Floor). floorAfter g after) e;
+      same-booked = both-booked f before (callsOf l ++ after) ∙ ap (λ t. bookedIn f before ++ t) (both-booked here (callsOf l) after ∙ (λ i. b i ++ bookedIn (e i) after));
+      same-reported = λ k. both-reported f before (callsOf l ++ after) k
+          ∙ ap (λ t. reportedIn f before k ++ t) (both-reported here (callsOf l) after k ∙ (λ i. S .none-reported k i ++ reportedIn (e i) after k));
+      promises = λ w ts us vs. demand3 f w (before ++ (callsOf l ++ after)) (all-append Typed before (callsOf l ++ after) ts (all-append Typed (callsOf l) after us vs));
+    }
+
+-- ---- by value
+few-taken : (n : ℕ) (l : List Booking) → n ≤ 64 → tooLong (length (take n l)) ≡ false
+few-taken n l h = few (take n l) (subst (λ k. k ≤ 64) (sym (length-take n l)) (le-trans (min-le-left n (length l)) h))
+
+none-booked : (f : Floor) (l : List Booking) → _≡_ {A = Listed} (record { floor = floorSingly f (take 0 l); list = entriesSingly f (take 0 l) ++ drop 0 l; refusal = 42 }) (record { floor = f; list = l; refusal = 42 })
+unfolding floorSingly entriesSingly
+none-booked f [] = refl
+none-booked f (b ∷ l) = refl
+
+list-by-value : (f : Floor) (l : List Booking) (n : ℕ) → ByValue f l n
+unfolding placesAnswer listAnswer listAfter
+list-by-value f l n = record { as-list = λ h. rw (le-ltb 64 n h, few-taken n l h); too-long = λ h. rw (lt-ltb 64 n h) (none-booked f l) }
+
+pub booking-lists : BookingLists
+booking-lists =
+    record {
+      every = λ f l. record { number = list-number f l; too-long = list-too-long f l; singly = list-singly f l; malformed = list-malformed f l };
+      empty = list-empty;
+      covered = list-covered;
+      by-value = list-by-value;
+    }
+
+-- ---- among real calls, each answered by its contract: a list call is the bookings that it made
+made-singly : (f g : Floor) (l : List Booking) (cs : List Call) (bs : List ℕ) (ns : ℕ → List ℕ) → Made (floorSingly f l) cs g bs ns → Made f (callsOf l ++ cs) g (acceptedIn (entriesSingly f l) ++ bs) ns
+unfolding floorSingly entriesSingly
+made-singly f g [] cs bs ns p = p
+made-singly f g (b ∷ l) cs bs ns p =
+    subst (λ (k : List ℕ). Made f (callsOf (b ∷ l) ++ cs) g k ns) (sym (append-assoc (bookedBy (b .canister) (single f b)) (acceptedIn (entriesSingly (single f b .floor) l)) bs))
+    (books (b .tile) (b .canister) (single f b) refl (made-singly (single f b .floor) g l cs bs ns p))
+
+pub made-list : (f g : Floor) (l : List Booking) (r : Answer) (after : List Booking) (cs : List Call) (bs : List ℕ) (ns : ℕ → List ℕ)
+    → length l ≤ 64 → r ≡ listAnswer f l → after ≡ listAfter f l → Made (r .floor) cs g bs ns → Made f (callsOf l ++ cs) g (acceptedIn after ++ bs) ns
+unfolding listAnswer listAfter
+made-list f g l r after cs bs ns h e a p =
+    let k : r .floor ≡ floorSingly f l = ap (λ (x : Answer). x .floor) e ∙ rw (few l h) in
+    let m : after ≡ entriesSingly f l = a ∙ rw (few l h) in
+    subst (λ (t : List Booking). Made f (callsOf l ++ cs) g (acceptedIn t ++ bs) ns) (sym m) (made-singly f g l cs bs ns (subst (λ (z : Floor). Made z cs g bs ns) k p))

@@ -1,0 +1,101 @@
+use mathlib.Core.Path.{_≡_, refl, sym, ap, _∙_, subst}
+use mathlib.Core.List.{List, _++_}
+use Prim.Native.Nat.{ℕ, _-_, _≤_, _<_}
+use native.Mathlib.Omega.{arith}
+use native.Mathlib.Numerals.{add-one}
+use lib.ListN.{length, set, getD, take, drop}
+use Rattle.floor.specs.Well.{wellFormed}
+use Rattle.floor.specs.declared.Floor.{Floor}
+use Rattle.floor.specs.declared.Answer.{Answer}
+use Rattle.book_list.specs.declared.Booking.{Booking}
+use Rattle.book_list.specs.declared.Begun.{Begun}
+use Rattle.book_list.specs.declared.Done.{Done}
+use Rattle.book_list.specs.Listing.{floorSingly, entriesSingly}
+use Rattle.book_list.specs.Parts.{entryOf, turnsOf, placesAnswer}
+use Rattle.book_list.proofs.Upto.{floorUpto, listUpto, list-step, floor-step, upto-floor, upto-list, turns-few}
+use Rattle.book_list.proofs.Kept.{begun-well}
+use borrow.Author.Needs.{needs}
+use Rattle.book_list.proofs.book_places.Statement.{statement}
+use Rattle.book_list.proofs.book_places.Tie as tie
+use Rattle.book_list.proofs.book_places.Reads as reads
+use Rattle.book_list.proofs.book_places.Lts as lts
+use Rattle.book_list.proofs.answer_of.Reads as answer-of-reads
+use Rattle.book_list.proofs.begin_list.Reads as begin-list-reads
+use Rattle.book_list.proofs.book_entry.Reads as book-entry-reads
+
+abbrev zb : Booking
+zb = record { tile = 0; canister = record { number = 0; a = 0; b = 0 }; answer = 0 }
+
+abbrev Inv-loop : tie.InvT-loop
+Inv-loop n turns well now₀ places₀ i₀ now places i = (i ≤ turns) × (turns ≤ 64) × (length places₀ ≡ 64) × (places ≡ listUpto i now₀ places₀) × (now ≡ floorUpto i now₀ places₀) × (i < turns → well ≡ wellFormed now)
+
+abbrev μ-loop : tie.MeasureT-loop
+μ-loop n turns well now₀ places₀ i₀ now places i = turns - i
+
+begin-list-requires : tie.Need-begin-list-requires Inv-loop μ-loop
+begin-list-requires c κs = search needs
+
+loop-holds : tie.Need-loop-holds Inv-loop μ-loop
+loop-holds c =
+    let g = c .before .args in
+    let e = c .begin-list .ensures in
+    let t : c .begin-list .result .turns ≤ 64 = rw e (turns-few g.n) in
+    (omega arith, t, search needs, refl, refl, λ h. ap (λ (b : Begun). b .well) e ∙ begun-well g.floor g.n 0 (subst (λ (b : Begun). 0 < b .turns) e h))
+
+mul-b : tie.Need-mul-b Inv-loop μ-loop
+mul-b c = search needs
+
+array-copy-out-b : tie.Need-array-copy-out-b Inv-loop μ-loop
+array-copy-out-b c = omega arith
+
+book-entry-requires : tie.Need-book-entry-requires Inv-loop μ-loop
+book-entry-requires c κs = c .before .before .loop .inv .5 (omega arith)
+
+mul-places : tie.Need-mul-places Inv-loop μ-loop
+mul-places c = search needs
+
+array-set-from-places : tie.Need-array-set-from-places Inv-loop μ-loop
+array-set-from-places c = omega arith
+
+add-i : tie.Need-add-i Inv-loop μ-loop
+add-i c = search needs
+
+loop-less : tie.Need-loop-less Inv-loop μ-loop
+loop-less c = search needs
+
+loop-again : tie.Need-loop-again Inv-loop μ-loop
+loop-again c =
+    let l = c .before .before .before .before .before .loop in
+    let g = c .before .before .before .before .before .before .before .args in
+    let r = c .before .before .book-entry in
+    let small : l .i < length (g.list) = omega (arith, l .inv .2) in
+    let p : getD (l .places) (l .i) zb ≡ getD (listUpto (l .i) g.floor g.list) (l .i) zb = ap (λ (ws : List Booking). getD ws (l .i) zb) (l .inv .3) in
+    let e : r .result ≡ entryOf (floorUpto (l .i) g.floor g.list) (getD (listUpto (l .i) g.floor g.list) (l .i) zb) =
+    r .ensures .0 ∙ ap (λ (z : Floor). entryOf z (getD (l .places) (l .i) zb)) (l .inv .4) ∙ ap (λ (b : Booking). entryOf (floorUpto (l .i) g.floor g.list) b) p in (
+      omega arith,
+      l .inv .1,
+      l .inv .2,
+      ap (λ (ws : List Booking). set ws (l .i) (r .result .booking)) (l .inv .3) ∙ ap (λ (d : Done). set (listUpto (l .i) g.floor g.list) (l .i) (d .booking)) e
+          ∙ list-step (l .i) g.floor g.list zb small ∙ ap (λ (k : ℕ). listUpto k g.floor g.list) (sym (add-one (l .i))),
+      ap (λ (d : Done). d .floor) e ∙ floor-step (l .i) g.floor g.list zb small ∙ ap (λ (k : ℕ). floorUpto k g.floor g.list) (sym (add-one (l .i))),
+      λ h. l .inv .5 (omega arith) ∙ sym (r .ensures .1),
+    )
+
+answer-of-requires : tie.Need-answer-of-requires Inv-loop μ-loop
+answer-of-requires c κs = search needs
+
+returns : tie.Need-returns Inv-loop μ-loop
+unfolding placesAnswer
+returns c =
+    let l = c .before .before .loop in
+    let g = c .before .before .before .before .args in
+    let b = c .before .before .before .begin-list in
+    let z : l .i ≡ b .result .turns = omega arith in
+    let k : l .i ≡ turnsOf g.n = z ∙ ap (λ (x : Begun). x .turns) (b .ensures) in
+    let pf : l .now ≡ floorSingly g.floor (take (turnsOf g.n) g.list) = l .inv .4 ∙ ap (λ (j : ℕ). floorUpto j g.floor g.list) k ∙ upto-floor (turnsOf g.n) g.floor g.list in
+    let pl : l .places ≡ entriesSingly g.floor (take (turnsOf g.n) g.list) ++ drop (turnsOf g.n) g.list = l .inv .3 ∙ ap (λ (j : ℕ). listUpto j g.floor g.list) k ∙ upto-list (turnsOf g.n) g.floor g.list in
+    let pr = ap (λ (a : Answer). a .refusal) (c .answer-of .ensures) in
+    λ i. record { floor = pf i; list = pl i; refusal = pr i }
+
+pub book-places-spec : {M : Type 1} → statement M
+book-places-spec = tie.close (tie.spec Inv-loop μ-loop begin-list-requires loop-holds mul-b array-copy-out-b book-entry-requires mul-places array-set-from-places add-i loop-less loop-again answer-of-requires returns)

@@ -1,0 +1,132 @@
+// A list of bookings in one call. It takes any bytes, and its contract determines the whole answer, and every entry, on all of them.
+ghost use mathlib.Core.Path.{_≡_};
+ghost use Rattle.floor.specs.Well.{wellFormed};
+ghost use Rattle.book_list.specs.Listing.{listAnswer, listAfter};
+ghost use Rattle.book_list.specs.Parts.{begunOf, entryOf, answerOf, placesAnswer};
+use book_call::book_checked;
+use check_floor::well_formed;
+use floor::Answer;
+use floor::Canister;
+use floor::Floor;
+use floor::refusals;
+
+// An entry of a list: a tile, a canister with its place, and the number that the booking is refused by, 0 where it is accepted.
+#[repr(C)]
+pub struct Booking {
+    pub tile: u32,
+    pub canister: Canister,
+    pub answer: u8,
+}
+
+// The most entries of a list.
+const LONGEST: usize = 64;
+
+// How a list begins: how many entries are booked, and whether the floor is well formed.
+pub struct Begun {
+    pub turns: usize,
+    pub well: bool,
+}
+
+// All entries, or none where there are more than 64: then the floor is not looked at.
+pub fn begin_list(floor: Floor, n: usize) -> Begun
+    ensures { λ r. ⌜ r ≡ begunOf floor n ⌝ }
+{
+    if LONGEST < n {
+        return Begun {
+            turns: 0,
+            well: false,
+        };
+    }
+    let well = well_formed(floor);
+    Begun {
+        turns: n,
+        well: well,
+    }
+}
+
+// One entry booked: the floor, and the entry with its answer.
+pub struct Done {
+    pub floor: Floor,
+    pub booking: Booking,
+}
+
+// Books one entry where it is known whether the floor is well formed; it is afterwards if it was before.
+pub fn book_entry(floor: Floor, b: Booking, well: bool) -> Done
+    requires { ⌜ well ≡ wellFormed floor ⌝ }
+    ensures { λ r. ⌜ (r ≡ entryOf floor b) × (wellFormed (r .floor) ≡ wellFormed floor) ⌝ }
+{
+    let canister = b.canister;
+    let r = book_checked(floor, b.tile, canister, well);
+    let after = r.floor;
+    Done {
+        floor: after,
+        booking: Booking {
+            tile: b.tile,
+            canister: canister,
+            answer: r.refusal,
+        },
+    }
+}
+
+// The call's own answer.
+pub fn answer_of(n: usize, floor: Floor) -> Answer
+    ensures { λ r. ⌜ r ≡ answerOf n floor ⌝ }
+{
+    let mut number: u8 = 0;
+    if LONGEST < n {
+        number = refusals::LIST_TOO_LONG;
+    }
+    Answer {
+        floor: floor,
+        refusal: number,
+    }
+}
+
+// Books each entry in order and writes its answer; more than 64 entries are refused by 42. The floor is checked once.
+pub fn book_list(floor: Floor, list: &mut [Booking]) -> Answer
+    ensures { λ r. ⌜ (r ≡ listAnswer floor (now (list .entry))) × (now (list .exit) ≡ listAfter floor (now (list .entry))) ⌝ }
+{
+    let start = begin_list(floor, list.len());
+    let mut now = floor;
+    let mut i: usize = 0;
+    while i < start.turns {
+        let b = list[i];
+        let r = book_entry(now, b, start.well);
+        list[i] = r.booking;
+        now = r.floor;
+        i += 1;
+    }
+    answer_of(list.len(), now)
+}
+
+// A list by value: 64 places, with the answers of those that were used.
+pub struct Listed {
+    pub floor: Floor,
+    pub list: [Booking; 64],
+    pub refusal: u8,
+}
+
+// The same for the first n of 64 places, for a caller that has the entries by value.
+pub fn book_places(floor: Floor, list: [Booking; 64], n: usize) -> Listed
+    ensures { λ r. ⌜ r ≡ placesAnswer floor list n ⌝ }
+{
+    let start = begin_list(floor, n);
+    let turns = start.turns;
+    let well = start.well;
+    let mut now = floor;
+    let mut places = list;
+    for i in 0usize..turns {
+        let b = places[i];
+        let r = book_entry(now, b, well);
+        let done = r.booking;
+        let after = r.floor;
+        places[i] = done;
+        now = after;
+    }
+    let own = answer_of(n, now);
+    Listed {
+        floor: now,
+        list: places,
+        refusal: own.refusal,
+    }
+}
