@@ -1,13 +1,13 @@
 /* The canister floor. Every struct goes by value; nothing is kept between calls, so calls may run side by side.
-   Any bytes may stand in a struct: a floor that isn't well formed is refused by 30.
+   Any bytes may stand in a struct: a floor that isn't well formed is refused by 30 (ceromby_book_list: in every entry).
 
    A refused call gives the floor that was handed in (ceromby_fresh and ceromby_load: the all-zero floor, which is refused
-   by 30 everywhere), zeros for everything else (a refused reading has distance 0, not 255), and leaves the buffer. The
-   numbers given at each call stand in the order in which they are tested.
+   by 30 everywhere), zeros for everything else (a refused reading has distance 0, not 255), and leaves the buffer or list.
+   The numbers given at each call stand in the order in which they are tested.
 
-   What the caller owes: a pointer to `length` bytes that stay valid and that nobody else writes during the call (any
-   pointer but NULL where length is 0); for ceromby_write nobody else reads them either. A floor takes 8,696 bytes, and a
-   call about 100 KB of stack. */
+   What the caller owes: a pointer to `length` bytes, or for ceromby_book_list to `length` entries, that stay valid and
+   that nobody else writes during the call (any pointer but NULL where length is 0); for ceromby_write and
+   ceromby_book_list nobody else reads them either. A floor takes 8,696 bytes, and a call about 100 KB of stack. */
 
 #ifndef CEROMBY_H
 #define CEROMBY_H
@@ -33,6 +33,7 @@ extern "C" {
 #define CEROMBY_MAX_HOPPERS 4
 #define CEROMBY_PLACES 16 /* canister places of one tile */
 #define CEROMBY_MAX_LAYOUTS 8
+#define CEROMBY_LONGEST_LIST 64 /* bookings in one call */
 
 /* The set of one tile, 0 to 63: with one hopper, .hoppers = CEROMBY_TILE(5). Sets are joined by |. */
 #define CEROMBY_TILE(t) (UINT64_C(1) << (t))
@@ -74,6 +75,9 @@ extern "C" {
 #define CEROMBY_TOO_CLOSE 34      /* some canister of the tile differs by less than d = l + r in both a and b */
 #define CEROMBY_NO_PLACE 40       /* booking without a place: none on the tile keeps the spacing */
 
+/* Refused because of a list. */
+#define CEROMBY_LIST_TOO_LONG 42  /* more than 64 bookings */
+
 /* Refused because of a layout's name. */
 #define CEROMBY_BAD_NAME 44       /* not 1 to 8 letters A to Z, then zeros */
 #define CEROMBY_NAME_NOT_HELD 45  /* recalling or forgetting a name that isn't held */
@@ -84,6 +88,13 @@ typedef struct ceromby_canister {
     uint16_t a;      /* south-west corner, from the tile's; eastward */
     uint16_t b;      /* the same, northward */
 } ceromby_canister;
+
+/* An entry of a list of bookings. */
+typedef struct ceromby_booking {
+    uint32_t tile;
+    ceromby_canister canister;
+    uint8_t answer; /* what the single booking would answer, 0 for accepted; what stood here before doesn't matter */
+} ceromby_booking;
 
 typedef struct ceromby_side {
     uint8_t code;
@@ -194,6 +205,12 @@ ceromby_answer ceromby_book(ceromby_floor floor, uint32_t tile, ceromby_canister
 /* Adds a canister at the place with the lowest b, then the lowest a, that keeps the spacing, as a booking there would.
    Refused by 30, 4, 5, 6, 31, 33, 40; by 40 exactly when no a and b from 0 to U - l keep it. */
 ceromby_placed ceromby_book_anywhere(ceromby_floor floor, uint32_t tile, uint32_t number);
+
+/* Makes the bookings of a list one after the other, each on the floor that those before it gave, and writes each one's
+   answer into its entry; the rest of the entry stays. A refused one doesn't stop those after it, and on a malformed floor
+   every entry receives 30. The call itself is refused by 42 alone, which is tested first: then no entry is written. So
+   look at each entry's answer; the call's refusal 0 doesn't mean that all were accepted. */
+ceromby_answer ceromby_book_list(ceromby_floor floor, ceromby_booking *list, size_t length);
 
 /* Stops a tile; it keeps its canisters. Refused by 30, 4, 8, 31. */
 ceromby_answer ceromby_stop(ceromby_floor floor, uint32_t tile);

@@ -149,6 +149,26 @@ static void fill(ceromby_floor floor) {
     show("  after", placed.floor);
 }
 
+/* A list from a phone: the second is too close to the first, the last has a number below the third's. */
+static void fill_by_list(ceromby_floor floor) {
+    ceromby_booking list[] = {
+        {.tile = 0, .canister = {.number = 3, .a = 0, .b = 0}},
+        {.tile = 0, .canister = {.number = 4, .a = 39, .b = 39}},
+        {.tile = 0, .canister = {.number = 5, .a = 40, .b = 0}},
+        {.tile = 0, .canister = {.number = 4, .a = 0, .b = 40}},
+    };
+    size_t length = sizeof list / sizeof list[0];
+    ceromby_answer answer = ceromby_book_list(floor, list, length);
+    printf("book a list: %u, answers", answer.refusal);
+    for (size_t i = 0; i < length; i++)
+        printf(" %u", list[i].answer);
+    printf("\n");
+    show("  after", answer.floor);
+    static ceromby_booking longer[CEROMBY_LONGEST_LIST + 1];
+    answer = ceromby_book_list(floor, longer, CEROMBY_LONGEST_LIST + 1);
+    printf("book a list of 65: %u, first answer %u\n", answer.refusal, longer[0].answer);
+}
+
 /* Two canisters on three tiles: the second is in the way of the first. */
 static void stand(ceromby_settings settings) {
     settings.columns = 3;
@@ -185,6 +205,7 @@ int main(void) {
     printf("book canister 5: %u\n", answer.refusal);
     store(stop(deliver(answer.floor)));
     fill(ceromby_fresh(settings).floor);
+    fill_by_list(ceromby_fresh(settings).floor);
     stand(settings);
     clean_nets(ceromby_fresh(settings).floor);
     start_blank();

@@ -12,6 +12,10 @@ static void values(void) {
     FIELD(canister, number);
     FIELD(canister, a);
     FIELD(canister, b);
+    SIZE(booking);
+    FIELD(booking, tile);
+    FIELD(booking, canister);
+    FIELD(booking, answer);
     SIZE(side);
     FIELD(side, code);
     SIZE(tile);

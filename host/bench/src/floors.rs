@@ -160,6 +160,36 @@ pub fn to_book_on() -> Vec<(Pair, &'static str)> {
     all
 }
 
+/// The floors for lists of bookings, each with a list that is accepted whole.
+pub fn to_list_on() -> Vec<(Pair, Vec<ceromby::Booking>)> {
+    let large = settings(8, 8, 27);
+    let floors = [
+        ("8 x 8 fresh", oracle::fresh(large).floor, 0),
+        ("8 x 8 busy, near", filled(large, 6, true), 6),
+    ];
+    floors
+        .into_iter()
+        .map(|(name, floor, held)| (pair(name.to_string(), floor), list(&floor, held)))
+        .collect()
+}
+
+/// As many bookings as a call takes, tile after tile, beside so many canisters.
+fn list(floor: &Floor, held: usize) -> Vec<ceromby::Booking> {
+    let tiles = (0..64).filter(|tile| !floor.settings.is_hopper(*tile));
+    let places = lines().skip(held);
+    let all = places.flat_map(|place| tiles.clone().map(move |tile| (tile as u32, place)));
+    let entry = |(number, (tile, (a, b)))| ceromby::Booking {
+        tile,
+        canister: ceromby::Canister { number, a, b },
+        answer: 0,
+    };
+    (floor.counters.last + 1..)
+        .zip(all)
+        .take(ceromby::LONGEST_LIST)
+        .map(entry)
+        .collect()
+}
+
 /// The floor with so many canisters on tile 4 and no others there.
 fn with_tile(mut floor: Floor, count: usize) -> Floor {
     let tile = 4;

@@ -8,7 +8,7 @@ mod floors;
 use std::hint::black_box;
 use std::time::Instant;
 
-use floors::{both_shapes, growing, to_book_on, Pair};
+use floors::{both_shapes, growing, to_book_on, to_list_on, Pair};
 
 /// Repetitions of each measure; the median counts. They are many and short,
 /// so that other work on the machine spoils few of them.
@@ -152,6 +152,32 @@ fn anywhere() {
     }
 }
 
+/// A list of 64 bookings in one call beside the same made singly. At most 0.35.
+fn lists() {
+    for (pair, mut list) in to_list_on() {
+        let ours = black_box(&pair.ours);
+        let single = list.clone();
+        let answer = ceromby::book_list(ours, &mut list);
+        assert!(answer.refusal == 0 && list.iter().all(|entry| entry.answer == 0));
+        assert!(answer.floor == singly(ours, &single));
+        row!(
+            &pair.name,
+            "book list of 64",
+            ceromby::book_list(ours, black_box(&mut list)).refusal,
+            ceromby::book_list(ours, black_box(&mut list)),
+            singly(ours, black_box(&single))
+        );
+    }
+}
+
+fn singly(floor: &ceromby::Floor, list: &[ceromby::Booking]) -> ceromby::Floor {
+    let mut floor = *floor;
+    for entry in list {
+        floor = ceromby::book(&floor, entry.tile, entry.canister).floor;
+    }
+    floor
+}
+
 /// How a round's cost grows: floor and canisters by row.
 fn growth() {
     for pair in growing() {
@@ -176,4 +202,6 @@ fn main() {
     }
     head("library ns", "book ns");
     anywhere();
+    head("library ns", "singly ns");
+    lists();
 }

@@ -4,20 +4,21 @@
 mod types;
 
 pub use types::{
-    reason, Answer, Canister, Counters, Delivery, Floor, Layout, Name, Placed, Reading, Report,
-    Rounded, Settings, Side, Tile, Written, DISTANCE_NONE, LONGEST_IMAGE, MAX_HOPPERS, MAX_LAYOUTS,
-    MAX_TILES, PLACES,
+    reason, Answer, Booking, Canister, Counters, Delivery, Floor, Layout, Name, Placed, Reading,
+    Report, Rounded, Settings, Side, Tile, Written, DISTANCE_NONE, LONGEST_IMAGE, LONGEST_LIST,
+    MAX_HOPPERS, MAX_LAYOUTS, MAX_TILES, PLACES,
 };
 
 mod raw {
     use crate::types::{
-        Answer, Canister, Floor, Name, Placed, Reading, Rounded, Settings, Written,
+        Answer, Booking, Canister, Floor, Name, Placed, Reading, Rounded, Settings, Written,
     };
 
     extern "C" {
         pub fn ceromby_fresh(settings: Settings) -> Answer;
         pub fn ceromby_book(floor: Floor, tile: u32, canister: Canister) -> Answer;
         pub fn ceromby_book_anywhere(floor: Floor, tile: u32, number: u32) -> Placed;
+        pub fn ceromby_book_list(floor: Floor, list: *mut Booking, length: usize) -> Answer;
         pub fn ceromby_stop(floor: Floor, tile: u32) -> Answer;
         pub fn ceromby_repair(floor: Floor, tile: u32) -> Answer;
         pub fn ceromby_keep(floor: Floor, name: Name) -> Answer;
@@ -55,6 +56,16 @@ pub fn book(floor: &Floor, tile: u32, canister: Canister) -> Answer {
 pub fn book_anywhere(floor: &Floor, tile: u32, number: u32) -> Placed {
     // SAFETY: plain values in and out.
     unsafe { raw::ceromby_book_anywhere(*floor, tile, number) }
+}
+
+/// Makes the bookings of a list one after the other and gives each entry its
+/// own answer. The list itself is refused if it has more than [`LONGEST_LIST`]
+/// entries: then none is written. Otherwise the answer's refusal is 0, also
+/// where entries were refused.
+pub fn book_list(floor: &Floor, list: &mut [Booking]) -> Answer {
+    // SAFETY: the pointer and length are those of a slice that outlives the
+    // call; the borrow is exclusive.
+    unsafe { raw::ceromby_book_list(*floor, list.as_mut_ptr(), list.len()) }
 }
 
 /// Stops a tile.

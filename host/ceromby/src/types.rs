@@ -12,6 +12,8 @@ pub const PLACES: usize = 16;
 pub const DISTANCE_NONE: u8 = 255;
 /// Most layouts that a floor keeps.
 pub const MAX_LAYOUTS: usize = 8;
+/// Most bookings in one call.
+pub const LONGEST_LIST: usize = 64;
 /// Bytes of the longest image, which has eight layouts and one hopper.
 pub const LONGEST_IMAGE: usize = 8_908;
 
@@ -35,6 +37,16 @@ pub struct Canister {
     pub number: u32,
     pub a: u16,
     pub b: u16,
+}
+
+/// An entry of a list of bookings.
+#[repr(C)]
+#[derive(Clone, Copy, PartialEq, Eq, Debug)]
+pub struct Booking {
+    pub tile: u32,
+    pub canister: Canister,
+    /// What the single booking would answer, 0 for accepted.
+    pub answer: u8,
 }
 
 /// 0 none, 1 west, 2 south, 3 north, 4 east.

@@ -1,8 +1,8 @@
 //! One short way through every call.
 
 use ceromby::{
-    book, book_anywhere, forget, fresh, keep, load, read, reason, recall, repair, round, stop,
-    tile, write, Canister, Layout, Name, Settings,
+    book, book_anywhere, book_list, forget, fresh, keep, load, read, reason, recall, repair, round,
+    stop, tile, write, Booking, Canister, Layout, Name, Settings, LONGEST_LIST,
 };
 
 const SETTINGS: Settings = Settings {
@@ -65,6 +65,66 @@ fn bookings_without_a_place() {
         assert_eq!((placed.refusal, placed.place()), (refusal, None));
         assert_eq!((placed.floor, placed.a, placed.b), (floor, 0, 0));
     }
+}
+
+#[test]
+fn lists_of_bookings() {
+    let floor = fresh(SETTINGS).floor;
+    let entry = |tile, number, a, b| Booking {
+        tile,
+        canister: Canister { number, a, b },
+        answer: 200,
+    };
+    let handed = [
+        entry(0, 3, 0, 0),
+        entry(0, 4, 39, 39),
+        entry(0, 5, 40, 0),
+        entry(0, 4, 0, 40),
+        entry(1, 6, 0, 0),
+        entry(0, 6, 0, 71),
+    ];
+    let mut list = handed;
+    let answer = book_list(&floor, &mut list);
+    assert_eq!(list.map(|entry| entry.answer), [0, 34, 0, 33, 5, 7]);
+    let after = book(&floor, 0, handed[0].canister).floor;
+    let after = book(&after, 0, handed[2].canister).floor;
+    assert_eq!((answer.refusal, answer.floor), (0, after));
+    for entry in &mut list {
+        entry.answer = 200;
+    }
+    assert_eq!(list, handed);
+    assert_eq!(book_list(&floor, &mut []).floor, floor);
+    let mut malformed = floor;
+    malformed.tiles[0].running = 2;
+    let answer = book_list(&malformed, &mut list);
+    assert_eq!((answer.refusal, answer.floor), (0, malformed));
+    assert_eq!(list.map(|entry| entry.answer), [30; 6]);
+}
+
+#[test]
+fn lists_that_are_too_long() {
+    let floor = fresh(SETTINGS).floor;
+    let mut malformed = floor;
+    malformed.tiles[0].running = 2;
+    let entry = Booking {
+        tile: 0,
+        canister: Canister {
+            number: 3,
+            a: 0,
+            b: 0,
+        },
+        answer: 200,
+    };
+    let mut list = [entry; LONGEST_LIST + 1];
+    for floor in [floor, malformed] {
+        let answer = book_list(&floor, &mut list);
+        assert_eq!((answer.refusal, answer.floor), (42, floor));
+        assert_eq!(list, [entry; LONGEST_LIST + 1]);
+    }
+    assert_eq!(book_list(&floor, &mut list[1..]).refusal, 0);
+    let answers = list.map(|entry| entry.answer);
+    assert_eq!((answers[0], answers[1]), (200, 0));
+    assert_eq!(answers[2..], [33; 63]);
 }
 
 #[test]

@@ -3,8 +3,8 @@
 use std::mem::{offset_of, size_of};
 
 use ceromby::{
-    Answer, Canister, Counters, Delivery, Floor, Layout, Name, Placed, Reading, Report, Rounded,
-    Settings, Side, Tile, Written,
+    Answer, Booking, Canister, Counters, Delivery, Floor, Layout, Name, Placed, Reading, Report,
+    Rounded, Settings, Side, Tile, Written,
 };
 
 macro_rules! layout {
@@ -25,6 +25,7 @@ macro_rules! layout {
 fn as_in_c() {
     let ours = layout! {
         "canister" Canister { number, a, b }
+        "booking" Booking { tile, canister, answer }
         "side" Side { code }
         "tile" Tile { running, distance, next, token, count }
         "settings" Settings { columns, rows, hoppers, sources, width, length, gap, travel }

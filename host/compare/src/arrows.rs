@@ -1,9 +1,10 @@
 //! Arrows between neighbours that are equally near.
 
-use oracle::random::{self, Rng};
+use oracle::random::Rng;
 use oracle::{Floor, Grid, Side, Spot, NONE};
 
 use crate::call::{Call, Outcome, Trouble};
+use crate::makers;
 
 /// For each side, whether the neighbour there is a nearest one; none without a distance.
 fn nearest(floor: &Floor, spot: Spot) -> [bool; 4] {
@@ -95,7 +96,7 @@ pub fn tie_call(rng: &mut Rng, floor: &Floor) -> Call {
         1 | 2 if !stopped.is_empty() => Call::Repair {
             tile: rng.pick(&stopped),
         },
-        3 => random::call(rng, floor).into(),
+        3 => makers::call(rng, floor),
         _ => Call::Round,
     }
 }

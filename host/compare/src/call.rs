@@ -5,11 +5,12 @@ use std::panic::{self, catch_unwind, AssertUnwindSafe};
 use std::sync::atomic::{AtomicBool, Ordering};
 
 use oracle::{
-    Answer, Canister, Floor, PlaceAnswer, Reading, Report, RoundAnswer, Settings, Tile, WriteAnswer,
+    Answer, Booking, Canister, Floor, PlaceAnswer, Reading, Report, RoundAnswer, Settings, Tile,
+    WriteAnswer,
 };
 
 use crate::layouts::{self, Name};
-use crate::{convert, places, reasons};
+use crate::{book_lists, convert, places, reasons};
 
 #[derive(Clone, PartialEq, Debug)]
 pub enum Call {
@@ -25,9 +26,10 @@ pub enum Call {
     Forget { name: Name },
     Recall { name: Name },
     BookAnywhere { tile: u32, number: u32 },
+    BookList { list: Vec<Booking> },
 }
 
-pub const NAMES: [&str; 12] = [
+pub const NAMES: [&str; 13] = [
     "fresh",
     "book",
     "stop",
@@ -40,6 +42,7 @@ pub const NAMES: [&str; 12] = [
     "forget",
     "recall",
     "book anywhere",
+    "book list",
 ];
 
 pub const BOOK: usize = 1;
@@ -66,6 +69,7 @@ impl Call {
             Call::Forget { .. } => FORGET,
             Call::Recall { .. } => RECALL,
             Call::BookAnywhere { .. } => BOOK_ANYWHERE,
+            Call::BookList { .. } => 12,
         }
     }
 
@@ -143,6 +147,7 @@ impl From<oracle::random::Call> for Call {
 pub enum Outcome {
     Answer(Answer),
     Placed(PlaceAnswer),
+    Listed(Answer, Vec<Booking>),
     Round(RoundAnswer),
     Reading(Reading),
     Written(WriteAnswer, Vec<u8>),
@@ -151,12 +156,21 @@ pub enum Outcome {
 impl Outcome {
     pub fn refusal(&self) -> u8 {
         match self {
-            Outcome::Answer(answer) => answer.refusal,
+            Outcome::Answer(answer) | Outcome::Listed(answer, _) => answer.refusal,
             Outcome::Placed(answer) => answer.refusal,
             Outcome::Round(answer) => answer.refusal,
             Outcome::Reading(answer) => answer.refusal,
             Outcome::Written(answer, _) => answer.refusal,
         }
+    }
+
+    /// The call's refusal, or the answers of the entries of an accepted list.
+    pub fn answers(&self) -> impl Iterator<Item = u8> + '_ {
+        let (own, list) = match self {
+            Outcome::Listed(answer, list) if answer.refusal == 0 => (None, &list[..]),
+            _ => (Some(self.refusal()), &[][..]),
+        };
+        own.into_iter().chain(list.iter().map(|entry| entry.answer))
     }
 
     /// The image that was written; none if that was refused.
@@ -193,7 +207,7 @@ impl Outcome {
             {
                 *before
             }
-            (Outcome::Answer(answer), _) => answer.floor,
+            (Outcome::Answer(answer) | Outcome::Listed(answer, _), _) => answer.floor,
             (Outcome::Placed(answer), _) => answer.floor,
             (Outcome::Round(answer), _) => answer.floor,
             _ => *before,
@@ -228,6 +242,22 @@ fn written(floor: &ceromby::Floor, size: usize) -> (ceromby::Written, Vec<u8>) {
     (answer, buffer)
 }
 
+/// A list of bookings with an entry before and one after it that must stay.
+fn listed(floor: &ceromby::Floor, list: &[Booking]) -> (ceromby::Answer, Vec<Booking>) {
+    let edge = Booking {
+        tile: 0,
+        canister: Canister::ZERO,
+        answer: 99,
+    };
+    let framed = [&[edge], list, &[edge]].concat();
+    let mut handed: Vec<_> = framed.iter().map(convert::to_booking).collect();
+    let answer = ceromby::book_list(floor, &mut handed[1..=list.len()]);
+    let mut after: Vec<_> = handed.iter().map(convert::from_booking).collect();
+    let edges = [after.pop(), Some(after.remove(0))];
+    assert!(edges == [Some(edge); 2], "a list is written beyond its end");
+    (answer, after)
+}
+
 fn by_library(floor: &Floor, call: &Call) -> Outcome {
     let theirs = || convert::to_floor(floor);
     let answer = match call {
@@ -238,6 +268,10 @@ fn by_library(floor: &Floor, call: &Call) -> Outcome {
         Call::BookAnywhere { tile, number } => {
             let answer = ceromby::book_anywhere(&theirs(), *tile, *number);
             return Outcome::Placed(convert::from_placed(&answer));
+        }
+        Call::BookList { list } => {
+            let (answer, list) = listed(&theirs(), list);
+            return Outcome::Listed(convert::from_answer(&answer), list);
         }
         Call::Stop { tile } => ceromby::stop(&theirs(), *tile),
         Call::Repair { tile } => ceromby::repair(&theirs(), *tile),
@@ -265,6 +299,11 @@ fn by_oracle(floor: &Floor, call: &Call) -> Outcome {
         Call::Book { tile, canister } => oracle::book(floor, *tile, *canister),
         Call::BookAnywhere { tile, number } => {
             return Outcome::Placed(oracle::book_anywhere(floor, *tile, *number));
+        }
+        Call::BookList { list } => {
+            let mut list = list.clone();
+            let answer = oracle::book_list(floor, &mut list);
+            return Outcome::Listed(answer, list);
         }
         Call::Stop { tile } => oracle::stop(floor, *tile),
         Call::Repair { tile } => oracle::repair(floor, *tile),
@@ -354,6 +393,9 @@ pub fn both(floor: &Floor, call: &Call) -> Result<Outcome, Trouble> {
         (Outcome::Placed(answer), Call::BookAnywhere { tile, number }) => {
             places::check(floor, *tile, *number, answer)?;
         }
+        (Outcome::Listed(answer, list), Call::BookList { list: handed }) => {
+            book_lists::check(floor, handed, answer, list)?;
+        }
         _ => layouts::check(floor, call, &library)?,
     }
     Ok(library)
@@ -366,6 +408,10 @@ fn keeps_all(floor: &Floor, call: &Call, outcome: &Outcome) -> bool {
             answer.floor == Floor::ZERO
         }
         (Outcome::Answer(answer), _) => answer.floor == *floor,
+        (Outcome::Listed(answer, list), _) => {
+            answer.floor == *floor
+                && matches!(call, Call::BookList { list: handed } if handed == list)
+        }
         (Outcome::Placed(answer), _) => answer.floor == *floor && (answer.a, answer.b) == (0, 0),
         (Outcome::Round(answer), _) => answer.floor == *floor && answer.report == Report::ZERO,
         (Outcome::Reading(answer), _) => {
@@ -402,6 +448,10 @@ fn describe(library: &Outcome, oracle: &Outcome) -> String {
     fields.note("answer", &library.refusal(), &oracle.refusal());
     match (library, oracle) {
         (Outcome::Answer(one), Outcome::Answer(other)) => fields.floor(&one.floor, &other.floor),
+        (Outcome::Listed(one, list), Outcome::Listed(other, others)) => {
+            fields.each("entry", list, others);
+            fields.floor(&one.floor, &other.floor);
+        }
         (Outcome::Placed(one), Outcome::Placed(other)) => {
             fields.note("place told", &(one.a, one.b), &(other.a, other.b));
             fields.floor(&one.floor, &other.floor);

@@ -1,8 +1,8 @@
 //! Between the binding's structs and the oracle's.
 
 use oracle::{
-    Answer, Canister, Counters, Delivery, Floor, Layout, PlaceAnswer, Reading, Report, RoundAnswer,
-    Settings, Tile, WriteAnswer,
+    Answer, Booking, Canister, Counters, Delivery, Floor, Layout, PlaceAnswer, Reading, Report,
+    RoundAnswer, Settings, Tile, WriteAnswer,
 };
 
 pub fn to_settings(from: &Settings) -> ceromby::Settings {
@@ -23,6 +23,22 @@ pub fn to_canister(from: &Canister) -> ceromby::Canister {
         number: from.number,
         a: from.a,
         b: from.b,
+    }
+}
+
+pub fn to_booking(from: &Booking) -> ceromby::Booking {
+    ceromby::Booking {
+        tile: from.tile,
+        canister: to_canister(&from.canister),
+        answer: from.answer,
+    }
+}
+
+pub fn from_booking(from: &ceromby::Booking) -> Booking {
+    Booking {
+        tile: from.tile,
+        canister: from_canister(from.canister),
+        answer: from.answer,
     }
 }
 

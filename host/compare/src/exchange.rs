@@ -105,10 +105,11 @@ impl Counts {
     }
 }
 
-/// What a call told: its answer, the place, the report.
+/// What a call told: its answer or those of its entries, the place, the report.
 #[derive(PartialEq)]
 struct Told {
     refusal: u8,
+    answers: Vec<u8>,
     place: (u16, u16),
     report: Report,
 }
@@ -129,6 +130,7 @@ impl Course {
             let outcome = both(&course.floor, call)?;
             course.answers.push(Told {
                 refusal: outcome.refusal(),
+                answers: outcome.answers().collect(),
                 place: outcome.place(),
                 report: outcome.report(),
             });
@@ -178,8 +180,12 @@ fn exchanged<'a>(
     turned.answers.swap(0, 1);
     let differ = (0..calls.len()).find(|at| straight.answers[*at] != turned.answers[*at]);
     if let Some(at) = differ {
-        let (one, other) = (straight.answers[at].refusal, turned.answers[at].refusal);
+        let (one, other) = (&straight.answers[at], &turned.answers[at]);
         let name = calls[at].name();
+        let (one, other) = match one.refusal == other.refusal && one.answers != other.answers {
+            true => (format!("{:?}", one.answers), format!("{:?}", other.answers)),
+            false => (one.refusal.to_string(), other.refusal.to_string()),
+        };
         return broken(format!("{name} answers {one}, or {other} in other order"));
     }
     if straight.floor != turned.floor {

@@ -318,7 +318,7 @@ pub fn list_call(rng: &mut Rng, floor: &Floor) -> Call {
     let tiles = floor.settings.tile_count() as u64;
     let tile = rng.below(tiles) as u32;
     match rng.below(16) {
-        0..=3 => random::call(rng, floor).into(),
+        0..=3 => makers::call(rng, floor),
         4 | 5 => Call::Stop { tile },
         6 => Call::Repair { tile },
         7 => makers::loading(rng, floor),

@@ -2,6 +2,7 @@
 
 mod arrows;
 mod blank;
+mod book_lists;
 mod call;
 mod convert;
 mod exchange;
@@ -69,6 +70,7 @@ fn requests(plan: Plan, tally: &mut Tally) -> Result<(), Found> {
         single::layouts(&mut rng, tally).map_err(found("a list about layouts"))?;
         single::blank(&mut rng, tally).map_err(found("a blank controller"))?;
         single::places(&mut rng, tally).map_err(found("bookings"))?;
+        single::book_lists(&mut rng, tally).map_err(found("lists of bookings"))?;
     }
     Ok(())
 }

@@ -7,7 +7,7 @@ use oracle::{
 };
 
 use crate::call::Call;
-use crate::{images, layouts};
+use crate::{book_lists, images, layouts};
 
 /// The image of a floor. None for a malformed one: the length 0 of its refused
 /// write is no empty image.
@@ -18,9 +18,18 @@ pub fn image(floor: &Floor) -> Option<Vec<u8>> {
     (answer.refusal == 0).then_some(buffer)
 }
 
+/// A call that belongs in a list: one of `oracle::random`, or several bookings
+/// in one.
+pub fn call(rng: &mut Rng, floor: &Floor) -> Call {
+    match rng.chance(1, 48) {
+        true => book_lists::few(rng, floor),
+        false => random::call(rng, floor).into(),
+    }
+}
+
 /// Any call with any arguments, at times several of them wrong.
 pub fn any_call(rng: &mut Rng, floor: &Floor) -> Call {
-    match rng.below(26) {
+    match rng.below(27) {
         0..=6 => Call::Round,
         7..=12 => any_booking(rng, floor),
         13 => Call::Stop {
@@ -38,6 +47,7 @@ pub fn any_call(rng: &mut Rng, floor: &Floor) -> Call {
             settings: random::any_settings(rng),
         },
         21 | 22 => layouts::any_call(rng, floor),
+        23 => book_lists::any_list(rng, floor),
         _ => random::call(rng, floor).into(),
     }
 }
@@ -61,12 +71,17 @@ pub fn any_booking(rng: &mut Rng, floor: &Floor) -> Call {
 
 /// A booking at any place of a tile.
 pub fn booking_on(rng: &mut Rng, floor: &Floor, tile: u32, number: u32) -> Call {
-    let canister = Canister {
+    let canister = canister_on(rng, floor, tile, number);
+    Call::Book { tile, canister }
+}
+
+/// A canister at any place of a tile.
+pub fn canister_on(rng: &mut Rng, floor: &Floor, tile: u32, number: u32) -> Canister {
+    Canister {
         number,
         a: coordinate(rng, floor, tile, |canister| canister.a),
         b: coordinate(rng, floor, tile, |canister| canister.b),
-    };
-    Call::Book { tile, canister }
+    }
 }
 
 /// Often at, or just off, a spacing from a canister of the tile.
@@ -189,6 +204,15 @@ pub fn packed_with(rng: &mut Rng, settings: Settings, near: bool) -> Floor {
         ..Counters::ZERO
     };
     floor
+}
+
+/// A fresh floor of 8 x 8 tiles with room for sixteen canisters each.
+pub fn roomy_floor(rng: &mut Rng) -> Floor {
+    let mut settings = dense(rng);
+    (settings.columns, settings.rows) = (8, 8);
+    settings.hoppers = random::hoppers(rng, &settings, 1);
+    settings.sources = !settings.hoppers;
+    oracle::fresh(settings).floor
 }
 
 /// A packed floor of two tiles with up to three places of the fill tile left,

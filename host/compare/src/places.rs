@@ -195,7 +195,7 @@ pub fn list_call(rng: &mut Rng, floor: &Floor) -> Call {
         14..=21 => makers::booking_on(rng, floor, tile, number),
         22 | 23 => Call::Stop { tile },
         24..=26 => Call::Repair { tile },
-        27 | 28 => random::call(rng, floor).into(),
+        27 | 28 => makers::call(rng, floor),
         29 => makers::any_booking(rng, floor),
         _ => Call::Round,
     }

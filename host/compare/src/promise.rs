@@ -36,12 +36,19 @@ fn broken(text: impl Into<String>) -> Result<(), Trouble> {
     Err(Trouble::promise("demand 3", text.into()))
 }
 
-/// The booking of an accepted call: tile, number, and whether without a place.
-fn booking(call: &Call) -> Option<(u32, u32, bool)> {
-    match call {
-        Call::Book { tile, canister } => Some((*tile, canister.number, false)),
-        Call::BookAnywhere { tile, number } => Some((*tile, *number, true)),
-        _ => None,
+/// The accepted bookings of an accepted call: tile, number, and whether without
+/// a place.
+fn bookings(call: &Call, outcome: &Outcome) -> Vec<(u32, u32, bool)> {
+    match (call, outcome) {
+        (Call::Book { tile, canister }, _) => vec![(*tile, canister.number, false)],
+        (Call::BookAnywhere { tile, number }, _) => vec![(*tile, *number, true)],
+        (_, Outcome::Listed(_, list)) => {
+            let accepted = list.iter().filter(|entry| entry.answer == 0);
+            accepted
+                .map(|entry| (entry.tile, entry.canister.number, false))
+                .collect()
+        }
+        _ => Vec::new(),
     }
 }
 
@@ -72,7 +79,7 @@ impl Record {
             return Ok(());
         }
         self.count(call, outcome)?;
-        if let Some((tile, number, anywhere)) = booking(call) {
+        for (tile, number, anywhere) in bookings(call, outcome) {
             self.add(number)?;
             self.note_sort(tile, anywhere, &mut tally.places.mixed);
         }

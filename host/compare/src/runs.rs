@@ -3,9 +3,10 @@
 pub mod single;
 
 use oracle::random::{self, Rng};
-use oracle::{Canister, Floor, Settings, LONGEST_IMAGE};
+use oracle::{Canister, Floor, Settings, LONGEST_IMAGE, LONGEST_LIST};
 
 use crate::blank;
+use crate::book_lists;
 use crate::call::{both, Call, Outcome, Trouble};
 use crate::exchange;
 use crate::first::First;
@@ -78,11 +79,14 @@ impl<'a> Run<'a> {
 
     fn judge(&mut self, call: &Call, outcome: &Outcome) -> Result<(), Trouble> {
         let refusal = outcome.refusal();
-        if self.case.must.is_some_and(|must| must != refusal) {
-            let text = format!(
-                "{} answers {refusal} on a floor that is broken",
-                call.name()
-            );
+        let mut answers = outcome.answers();
+        let must = self.case.must.map(|must| match call {
+            Call::BookList { list } if list.len() > LONGEST_LIST => 42,
+            _ => must,
+        });
+        let other = |answer: &u8| must.is_some_and(|must| *answer != must);
+        if let Some(answer) = answers.find(other) {
+            let text = format!("{} answers {answer} on a floor that is broken", call.name());
             return Err(Trouble::promise("known damage", text));
         }
         if let Call::Load { bytes } = call {
@@ -94,7 +98,7 @@ impl<'a> Run<'a> {
             return Ok(());
         }
         // Before the first accepted fresh floor there is none.
-        if refusal == 30 && self.floor != Floor::ZERO {
+        if outcome.answers().any(|answer| answer == 30) && self.floor != Floor::ZERO {
             let text = format!("{} finds the floor of a list malformed", call.name());
             return Err(Trouble::promise("well formed", text));
         }
@@ -257,7 +261,7 @@ fn list_call(rng: &mut Rng, floor: &Floor) -> Call {
         },
         2 => makers::writing(rng, floor),
         3 => makers::loading(rng, floor),
-        _ => random::call(rng, floor).into(),
+        _ => makers::call(rng, floor),
     }
 }
 
@@ -353,6 +357,12 @@ pub fn damaged(rng: &mut Rng, tally: &mut Tally) -> Result<(), Box<Failure>> {
             b: rng.range(0, first.settings.span().into()) as u16,
         };
         let name = layouts::any_name(rng, &first);
+        let length = match rng.below(16) {
+            0..=11 => rng.below(4) as usize,
+            12 => LONGEST_LIST,
+            _ => rng.range(65, 70) as usize,
+        };
+        let list = book_lists::list_of(rng, &first, length);
         let calls = [
             Call::Book { tile, canister },
             Call::BookAnywhere {
@@ -369,6 +379,7 @@ pub fn damaged(rng: &mut Rng, tally: &mut Tally) -> Result<(), Box<Failure>> {
             Call::Keep { name: name.clone() },
             Call::Forget { name: name.clone() },
             Call::Recall { name },
+            list,
         ];
         for call in calls {
             run.floor = first;

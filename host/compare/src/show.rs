@@ -2,7 +2,7 @@
 
 use std::fmt::Write;
 
-use oracle::{Canister, Floor, Layout, Settings, Tile};
+use oracle::{Booking, Canister, Floor, Layout, Settings, Tile};
 
 use crate::call::Call;
 use crate::layouts::Name;
@@ -108,6 +108,17 @@ fn call(call: &Call) -> String {
         Call::BookAnywhere { tile, number } => {
             format!("book number {number} anywhere on tile {tile}")
         }
+        Call::BookList { list } => {
+            let entry = |entry: &Booking| {
+                let (tile, canister) = (entry.tile, canister(&entry.canister));
+                format!(
+                    "\n    on tile {tile}: {canister}, answer {} before",
+                    entry.answer
+                )
+            };
+            let entries: String = list.iter().map(entry).collect();
+            format!("book a list of {}:{entries}", list.len())
+        }
         Call::Stop { tile } => format!("stop tile {tile}"),
         Call::Repair { tile } => format!("repair tile {tile}"),
         Call::Round => "round".into(),
@@ -140,7 +151,11 @@ pub fn size(case: &Case) -> String {
     match case.calls.last() {
         Some(Call::Load { bytes }) => format!("{} bytes", bytes.len()),
         Some(Call::Fresh { settings: s }) => settings(s),
-        _ => {
+        last => {
+            let list = match last {
+                Some(Call::BookList { list }) => format!(", a list of {}", list.len()),
+                _ => String::new(),
+            };
             let s = &case.first.settings;
             let held: u32 = case.first.tiles.iter().map(|t| u32::from(t.count)).sum();
             let calls = case.calls.len();
@@ -148,7 +163,10 @@ pub fn size(case: &Case) -> String {
                 0 | 1 => String::new(),
                 _ => format!(", {calls} calls"),
             };
-            format!("{} x {} tiles, {held} canisters{more}", s.columns, s.rows)
+            format!(
+                "{} x {} tiles, {held} canisters{list}{more}",
+                s.columns, s.rows
+            )
         }
     }
 }

@@ -1,8 +1,8 @@
 //! Looks for the smallest case that shows the same trouble.
 
 use oracle::{
-    only, Canister, Counters, Floor, Grid, Layout, Settings, Side, Tile, MAX_HOPPERS, NONE,
-    NO_SIDE, PLACES,
+    only, Booking, Canister, Counters, Floor, Grid, Layout, Settings, Side, Tile, MAX_HOPPERS,
+    NONE, NO_SIDE, PLACES,
 };
 
 use crate::call::{Call, Trouble};
@@ -329,6 +329,14 @@ fn crop(case: &mut Case, line: Line) -> Option<()> {
 /// The calls with their tiles' new numbers; none if one of them is gone.
 fn rename_tiles(calls: &mut [Call], tiles: usize, kept: impl Fn(u8) -> Option<u8>) -> Option<()> {
     for call in calls {
+        if let Call::BookList { list } = call {
+            let tiles_of = list
+                .iter_mut()
+                .filter(|entry| (entry.tile as usize) < tiles);
+            for entry in tiles_of {
+                entry.tile = kept(entry.tile as u8)?.into();
+            }
+        }
         if let Call::Book { tile, .. }
         | Call::BookAnywhere { tile, .. }
         | Call::Stop { tile }
@@ -374,6 +382,7 @@ fn smaller_calls(floor: &Floor, call: &Call) -> Vec<Call> {
                 with(canister.number, canister.a, 0),
             ]
         }
+        Call::BookList { list } => smaller_lists(floor, list),
         Call::BookAnywhere { tile, number } => {
             let next = floor.counters.last.wrapping_add(1);
             vec![Call::BookAnywhere {
@@ -396,6 +405,23 @@ fn smaller_calls(floor: &Floor, call: &Call) -> Vec<Call> {
             .into(),
         _ => Vec::new(),
     }
+}
+
+/// Half of a list, one entry less, or a lower number.
+fn smaller_lists(floor: &Floor, list: &[Booking]) -> Vec<Call> {
+    let half = list.len() / 2;
+    let mut lists = vec![list[..half].to_vec(), list[half..].to_vec()];
+    for at in 0..list.len() {
+        let mut fewer = list.to_vec();
+        fewer.remove(at);
+        lists.push(fewer);
+        let mut lower = list.to_vec();
+        let next = floor.counters.last.saturating_add(at as u32 + 1);
+        lower[at].canister.number = next.min(lower[at].canister.number);
+        lists.push(lower);
+    }
+    let book = |list| Call::BookList { list };
+    lists.into_iter().map(book).collect()
 }
 
 /// Plain measures, one hopper, the first four tiles alone, no fill tiles.

@@ -5,10 +5,10 @@ use std::fmt::Display;
 use oracle::{Floor, Grid, RoundAnswer, Side};
 
 use crate::call::{Call, Outcome, NAMES};
-use crate::{arrows, blank, exchange, hoppers, layouts, places, reasons, waits};
+use crate::{arrows, blank, book_lists, exchange, hoppers, layouts, places, reasons, waits};
 
 /// The answers that each call can give, in the order of `NAMES`.
-const ANSWERS: [&[u8]; 12] = [
+const ANSWERS: [&[u8]; 13] = [
     &[0, 1, 2, 3],
     &[0, 30, 4, 5, 6, 7, 31, 33, 34],
     &[0, 30, 4, 8, 31],
@@ -21,6 +21,7 @@ const ANSWERS: [&[u8]; 12] = [
     &[0, 30, 44, 45],
     &[0, 30, 44, 45],
     &[0, 30, 4, 5, 6, 31, 33, 40],
+    &[0, 42],
 ];
 
 #[derive(Default)]
@@ -39,6 +40,7 @@ pub struct Tally {
     pub layouts: layouts::Counts,
     blank: blank::Counts,
     pub places: places::Counts,
+    book_lists: book_lists::Counts,
     pub settled: u64,
     /// Arrows kept and lists held to the bound in the runs for single requests.
     tied: [u64; 2],
@@ -71,6 +73,7 @@ impl Tally {
         self.layouts.add(&further.layouts);
         self.blank.add(&further.blank);
         self.places.add(&further.places);
+        self.book_lists.add(&further.book_lists);
         self.settled += further.settled;
         self.tied = [further.kept, further.drained];
         self.closest = self.closest.max(further.closest);
@@ -87,6 +90,9 @@ impl Tally {
         self.layouts.note(before, call, outcome.refusal());
         if let (Call::BookAnywhere { tile, number }, Outcome::Placed(answer)) = (call, outcome) {
             self.places.note(before, *tile, *number, answer);
+        }
+        if let Outcome::Listed(answer, list) = outcome {
+            self.book_lists.note(before, list, answer.refusal);
         }
         match (outcome, call) {
             _ if outcome.refusal() != 0 => {}
@@ -151,7 +157,8 @@ impl Tally {
         for (name, cells) in lines.into_iter().flatten() {
             print_line(&name, cells, &mut missing);
         }
-        for (name, cells) in self.hoppers.lines() {
+        let lines = [self.hoppers.lines(), self.book_lists.lines()];
+        for (name, cells) in lines.into_iter().flatten() {
             print_line(&name, cells, &mut missing);
         }
         for (name, count) in self.events() {

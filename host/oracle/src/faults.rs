@@ -103,6 +103,14 @@ faults! {
     NoPlaceBeforeUsed "no-place-before-used" "40 before 33"
     OtherPlaceTold "other-place-told" "the place told isn't the one taken"
     RefusedPlace "refused-place" "a refused booking without a place tells one"
+    ListStops "list-stops" "a list ends at its first refused entry"
+    SixtyFourRefused "sixty-four-refused" "42 for 64 entries"
+    MalformedBeforeLong "malformed-before-long" "30 before 42"
+    ListMalformed "list-malformed" "a list on a malformed floor is refused by 30 itself"
+    AnswersTurned "answers-turned" "the answers of a list stand in the other order"
+    RefusedWritten "refused-written" "refused entries alone receive an answer"
+    FirstFloorJudges "first-floor-judges" "every entry is judged on the floor before the list"
+    LongListWritten "long-list-written" "the entries of a list that is 42 are written"
 }
 
 #[cfg(feature = "faults")]

@@ -15,6 +15,7 @@ mod faults;
 mod grid;
 mod image;
 mod layouts;
+mod list;
 pub mod random;
 pub mod reason;
 pub mod refusal;
@@ -27,9 +28,10 @@ pub use check::{settings_refusal, well_formed};
 pub use grid::{Grid, Side, Spot};
 pub use image::{load, write, LONGEST_IMAGE, STANDARD};
 pub use layouts::{forget, keep, name, recall};
+pub use list::{book_list, LONGEST_LIST};
 pub use round::round;
 pub use types::{
-    only, Answer, Canister, Counters, Delivery, Floor, Layout, PlaceAnswer, Reading, Report,
-    RoundAnswer, Settings, Tile, WriteAnswer, MAX_HOPPERS, MAX_LAYOUTS, MAX_TILES, NONE, NO_SIDE,
-    PLACES,
+    only, Answer, Booking, Canister, Counters, Delivery, Floor, Layout, PlaceAnswer, Reading,
+    Report, RoundAnswer, Settings, Tile, WriteAnswer, MAX_HOPPERS, MAX_LAYOUTS, MAX_TILES, NONE,
+    NO_SIDE, PLACES,
 };

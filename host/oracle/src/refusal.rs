@@ -24,6 +24,8 @@ pub const TOO_CLOSE: u8 = 34;
 
 pub const NO_PLACE: u8 = 40;
 
+pub const LIST_TOO_LONG: u8 = 42;
+
 pub const BAD_NAME: u8 = 44;
 pub const NAME_NOT_HELD: u8 = 45;
 pub const LAYOUTS_FULL: u8 = 46;

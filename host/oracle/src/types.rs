@@ -24,6 +24,16 @@ pub struct Canister {
     pub b: u16,
 }
 
+/// An entry of a list of bookings.
+#[repr(C)]
+#[derive(Clone, Copy, PartialEq, Eq, Debug)]
+pub struct Booking {
+    pub tile: u32,
+    pub canister: Canister,
+    /// What the single booking would answer.
+    pub answer: u8,
+}
+
 #[repr(C)]
 #[derive(Clone, Copy, PartialEq, Eq, Debug)]
 pub struct Tile {

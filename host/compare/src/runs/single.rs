@@ -6,7 +6,7 @@ use oracle::Floor;
 use super::{arbitrary_floor, begin, damaged_floor, finish, list_settings, Failure};
 use crate::call::Call;
 use crate::tally::Tally;
-use crate::{arrows, blank, exchange, layouts, makers, places};
+use crate::{arrows, blank, book_lists, exchange, layouts, makers, places};
 
 /// Every pair in either order, on a well-formed floor and on a damaged one.
 pub fn exchange_once(rng: &mut Rng, tally: &mut Tally) -> Result<(), Box<Failure>> {
@@ -39,7 +39,7 @@ pub fn exchange_in_list(rng: &mut Rng, tally: &mut Tally) -> Result<(), Box<Fail
                 let kinds = rng.pick(&exchange::MADE);
                 run.exchange(exchange::pair(rng, &floor, kinds))?;
             }
-            run.make(random::call(rng, &floor).into())?;
+            run.make(makers::call(rng, &floor))?;
         }
         let middle = run.floor;
         let before = run.case.calls.len();
@@ -49,7 +49,7 @@ pub fn exchange_in_list(rng: &mut Rng, tally: &mut Tally) -> Result<(), Box<Fail
         }
         for _ in 0..rng.range(5, 50) {
             let floor = run.floor;
-            run.make(random::call(rng, &floor).into())?;
+            run.make(makers::call(rng, &floor))?;
         }
         run.check()?;
         let calls = run.case.calls.split_off(before);
@@ -66,7 +66,7 @@ pub fn crowd(rng: &mut Rng, tally: &mut Tally) -> Result<(), Box<Failure>> {
             let floor = run.floor;
             run.make(match rng.chance(3, 4) {
                 true => Call::Round,
-                false => random::call(rng, &floor).into(),
+                false => makers::call(rng, &floor),
             })?;
         }
         run.check()
@@ -109,7 +109,7 @@ pub fn several(rng: &mut Rng, tally: &mut Tally) -> Result<(), Box<Failure>> {
         for _ in 0..rng.below(60) {
             let floor = run.floor;
             run.make(match rng.below(16) {
-                0..=3 => random::call(rng, &floor).into(),
+                0..=3 => makers::call(rng, &floor),
                 4 => random::refused_call(rng, &floor).into(),
                 5 => makers::loading(rng, &floor),
                 _ => Call::Round,
@@ -156,7 +156,7 @@ pub fn blank(rng: &mut Rng, tally: &mut Tally) -> Result<(), Box<Failure>> {
                 0 => run.store(makers::buffer_size(rng, &floor)).map(drop)?,
                 1 => run.make(blank::short_load(rng)).map(drop)?,
                 2..=7 => run.make(Call::Round).map(drop)?,
-                _ => run.make(random::call(rng, &floor).into()).map(drop)?,
+                _ => run.make(makers::call(rng, &floor)).map(drop)?,
             }
         }
         run.check()?;
@@ -172,6 +172,26 @@ pub fn places(rng: &mut Rng, tally: &mut Tally) -> Result<(), Box<Failure>> {
         for _ in 0..rng.range(4, 40) {
             let floor = run.floor;
             run.make(places::list_call(rng, &floor))?;
+        }
+        run.check()
+    })
+}
+
+/// Bookings by lists, with other calls between them.
+pub fn book_lists(rng: &mut Rng, tally: &mut Tally) -> Result<(), Box<Failure>> {
+    let first = match rng.below(4) {
+        0 => makers::roomy_floor(rng),
+        1 => oracle::fresh(list_settings(rng)).floor,
+        2 => makers::nearly_full_floor(rng),
+        _ => random::floor(rng),
+    };
+    finish(begin(first, true, None), tally, |run| {
+        for _ in 0..rng.range(2, 10) {
+            let floor = run.floor;
+            run.make(match rng.chance(1, 3) {
+                true => book_lists::any_list(rng, &floor),
+                false => random::call(rng, &floor).into(),
+            })?;
         }
         run.check()
     })

@@ -3,8 +3,9 @@
 use crate::naive;
 use oracle::random::{self, Rng};
 use oracle::{
-    book, book_anywhere, forget, fresh, keep, read, recall, repair, round, settings_refusal, stop,
-    well_formed, write, Canister, Floor, Layout, Report, LONGEST_IMAGE,
+    book, book_anywhere, book_list, forget, fresh, keep, read, recall, repair, round,
+    settings_refusal, stop, well_formed, write, Booking, Canister, Floor, Layout, Report,
+    LONGEST_IMAGE,
 };
 
 fn try_all(rng: &mut Rng, floor: &Floor, buffer: &mut [u8]) {
@@ -43,6 +44,17 @@ fn try_all(rng: &mut Rng, floor: &Floor, buffer: &mut [u8]) {
     if answer.refusal != 0 {
         assert_eq!((answer.floor, answer.a, answer.b), (*floor, 0, 0));
     }
+    let mut list = [Booking {
+        tile,
+        canister,
+        answer: 0x5a,
+    }; 3];
+    let answer = book_list(floor, &mut list);
+    assert_eq!(answer.refusal, 0);
+    for entry in list {
+        assert_eq!(entry.answer == 30, !sound);
+    }
+    assert!(sound || answer.floor == *floor);
     let answer = round(floor);
     assert_eq!(answer.refusal, if sound { 0 } else { 30 });
     if !sound {

@@ -5,8 +5,8 @@ use std::collections::{BTreeMap, BTreeSet};
 use crate::common::*;
 use oracle::random::{self, Call, Rng};
 use oracle::{
-    book, book_anywhere, forget, keep, recall, repair, round, stop, well_formed, Floor, Grid,
-    Report, Settings, Side,
+    book, book_anywhere, book_list, forget, keep, recall, repair, round, stop, well_formed,
+    Booking, Floor, Grid, Report, Settings, Side,
 };
 
 /// What the paper lets us know about a list from its answers alone.
@@ -61,6 +61,16 @@ impl Record {
             }
         }
         (refusal, after)
+    }
+
+    /// Makes a list of bookings and notes each that was accepted.
+    fn make_list(&mut self, list: &mut [Booking], floor: &Floor) -> Floor {
+        let answer = book_list(floor, list);
+        assert_eq!(answer.refusal, 0);
+        for entry in list.iter().filter(|entry| entry.answer == 0) {
+            self.add(entry.canister.number);
+        }
+        answer.floor
     }
 
     fn add(&mut self, number: u32) {
@@ -235,9 +245,26 @@ fn drain(rng: &mut Rng, first: &Floor, cap: u64) -> Option<u64> {
     Some(rounds)
 }
 
+/// A few bookings for one call.
+fn bookings(rng: &mut Rng, floor: &Floor) -> Vec<Booking> {
+    let mut list = Vec::new();
+    for at in 0..40 {
+        if let Call::Book { tile, mut canister } = random::call(rng, floor) {
+            canister.number = canister.number.saturating_add(at);
+            list.push(Booking {
+                tile,
+                canister,
+                answer: 0,
+            });
+        }
+    }
+    list
+}
+
 #[test]
 fn random_lists_keep_the_promises() {
     let mut accepted = [0; 8];
+    let mut listed = 0;
     let mut refused = BTreeSet::new();
     for seed in 0..1_500 {
         let mut rng = Rng::new(seed);
@@ -245,6 +272,12 @@ fn random_lists_keep_the_promises() {
         let mut record = Record::of(&first);
         let mut floor = first;
         for _ in 0..rng.below(300) {
+            if rng.chance(1, 40) {
+                let mut list = bookings(&mut rng, &floor);
+                floor = record.make_list(&mut list, &floor);
+                assert!(well_formed(&floor));
+                listed += list.iter().filter(|entry| entry.answer == 0).count();
+            }
             let call = random::call(&mut rng, &floor);
             let (refusal, after) = record.make(call, &floor);
             assert!(well_formed(&after));
@@ -268,6 +301,7 @@ fn random_lists_keep_the_promises() {
         record.check(&floor);
     }
     assert!(accepted.iter().all(|count| *count > 500), "{accepted:?}");
+    assert!(listed > 500, "{listed}");
     let all: BTreeSet<u8> = [4, 5, 6, 7, 8, 31, 32, 33, 34, 40, 45, 46].into();
     assert_eq!(refused, all);
 }

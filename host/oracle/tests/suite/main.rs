@@ -3,6 +3,7 @@
 mod anywhere;
 mod arrows;
 mod blank;
+mod book_list;
 mod common;
 mod floors;
 mod full;
