@@ -6,6 +6,7 @@ ghost use Rattle.floor.specs.Calls.{freshAnswer, bookAnswer, stopAnswer, repair
 ghost use Rattle.floor.specs.Anywhere.{anywhereAnswer};
 ghost use Rattle.book_list.specs.Listing.{listAnswer, listAfter};
 ghost use Rattle.image.specs.Image.{loadAnswer, writeAnswer, written};
+ghost use Rattle.throughput.specs.Window.{feedTold};
 use book_list::Booking;
 use floor::Answer;
 use floor::Canister;
@@ -16,6 +17,8 @@ use floor::Reading;
 use floor::Rounded;
 use floor::Settings;
 use image::Written;
+use throughput::Throughput;
+use throughput::Told;
 
 #[no_mangle]
 pub extern "C" fn ceromby_fresh(settings: Settings) -> Answer
@@ -106,4 +109,11 @@ pub extern "C" fn ceromby_write(floor: Floor, buffer: &mut [u8]) -> Written
     ensures { λ r. ⌜ (r ≡ writeAnswer floor (length (now (buffer .entry)))) × (now (buffer .exit) ≡ written floor (now (buffer .entry))) ⌝ }
 {
     image_calls::write(floor, buffer)
+}
+
+#[no_mangle]
+pub extern "C" fn ceromby_feed(throughput: Throughput, count: u32) -> Told
+    ensures { λ r. ⌜ r ≡ feedTold throughput count ⌝ }
+{
+    throughput::feed_told(throughput, count)
 }

@@ -79,6 +79,7 @@ struct Stepped {
     session: Session,
     refusal: u8,
     deliveries: [Delivery; 4],
+    closed: bool,
 }
 
 fn step(s: Session) -> Stepped {
@@ -88,8 +89,12 @@ fn step(s: Session) -> Stepped {
     let deliveries = report.deliveries;
     let reasons = report.reasons;
     let missing = report.missing;
+    let before = s.records;
+    let followed = console_throughput::follow(before, deliveries);
     let mut next = s;
     if answer.refusal == 0 {
+        let records = followed.records;
+        next.records = records;
         let moved = answer.floor;
         next.floor = moved;
         next.reasons = reasons;
@@ -100,6 +105,7 @@ fn step(s: Session) -> Stepped {
         session: next,
         refusal: answer.refusal,
         deliveries: deliveries,
+        closed: followed.closed,
     }
 }
 
@@ -114,10 +120,19 @@ fn round(s: Session, line: &[u8]) -> Session {
     }
     let deliveries = done.deliveries;
     console_say::delivered(next.rounds, next.floor.settings.hoppers, deliveries);
+    window(next, done.closed);
     next
 }
 
-// Goes n rounds and tells the rounds that deliver; ends early where a round is refused.
+// The rates of the windows that a round closed.
+fn window(s: Session, closed: bool) {
+    if closed {
+        let records = s.records;
+        console_throughput::closed(s.rounds, s.floor.settings.hoppers, records);
+    }
+}
+
+// Goes n rounds and tells the rounds that deliver or close a window; ends early where a round is refused.
 fn go(s: Session, n: u32) -> Session {
     let mut next = s;
     let mut k: u32 = 0;
@@ -132,6 +147,7 @@ fn go(s: Session, n: u32) -> Session {
         if console_say::some(deliveries) {
             console_say::delivered(next.rounds, next.floor.settings.hoppers, deliveries);
         }
+        window(next, done.closed);
         k += 1;
     }
     console_say::rounds(n, next.rounds);
@@ -211,6 +227,16 @@ fn why(s: Session) -> Session {
     s
 }
 
+// The throughput of each hopper.
+fn throughput(s: Session) -> Session {
+    if !s.made {
+        return console_session::refused(s, b"throughput", refusals::MALFORMED);
+    }
+    let records = s.records;
+    console_throughput::show(s.floor.settings.hoppers, records);
+    s
+}
+
 // Obeys one line.
 pub fn obey(s: Session, line: &[u8]) -> Session {
     if s.entries.begun {
@@ -256,6 +282,9 @@ fn rest(s: Session, line: &[u8]) -> Session {
     }
     if console_parse::is(line, 0, b"why") {
         return why(s);
+    }
+    if console_parse::is(line, 0, b"throughput") {
+        return throughput(s);
     }
     if console_parse::is(line, 0, b"help") {
         console_say::help();

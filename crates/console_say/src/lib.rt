@@ -472,9 +472,12 @@ pub fn help() {
     text(
         b"      list, then TILE NUMBER A B on a line each, then end: up to 64 bookings in one call\n",
     );
-    text(b"      show | help | quit | # a remark\n");
+    text(b"      show | throughput | help | quit | # a remark\n");
     text(
         b"      why: of each tile that wasn't empty in the last round, that it moved or why it stood\n",
+    );
+    text(
+        b"      throughput: closed rates in deliveries a round, over 256 rounds, and the open window\n",
     );
     text(b"      tile = column x H + row, from the south-west; rounds takes at most 100000\n");
     text(b"      show: north row first; each tile as number:canisters arrow distance\n");

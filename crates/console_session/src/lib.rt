@@ -6,11 +6,14 @@ use console_list::Entries;
 use floor::Counters;
 use floor::Floor;
 use floor::Settings;
+use throughput::Throughput;
 
-// The floor, what the last round's report says of each tile, the entries of a list that is being typed, how many lines were read,
-// how many rounds the floor went, whether a fresh has made it, whether to go on.
+// The floor, the throughput of each hopper, what the last round's report says of each tile, the entries of a list that is being
+// typed, how many lines were read, how many rounds the floor went, whether a fresh
+// has made it, whether to go on.
 pub struct Session {
     pub floor: Floor,
+    pub records: [Throughput; 4],
     pub reasons: [u8; 64],
     pub missing: [u16; 64],
     pub entries: Entries,
@@ -34,8 +37,10 @@ pub fn begin() -> Session {
     let none = calls::fresh(nothing);
     let floor = none.floor;
     let entries = console_list::none(false);
+    let records = console_throughput::begin();
     Session {
         floor: floor,
+        records: records,
         reasons: [0; 64],
         missing: [0; 64],
         entries: entries,
@@ -78,10 +83,12 @@ pub fn held(c: Counters) -> u64
     if all < booked { booked - all } else { 0 }
 }
 
-// The session with another floor.
+// The session with another floor, whose throughput begins anew.
 pub fn begun(s: Session, floor: Floor) -> Session {
     let mut next = s;
     next.floor = floor;
+    let records = console_throughput::begin();
+    next.records = records;
     next.rounds = 0;
     next.made = true;
     next

@@ -9,6 +9,7 @@ use Rattle.console_say.proofs.rounds.Reads as rounds-reads
 use Rattle.console_say.proofs.some.Reads as some-reads
 use Rattle.console_session.proofs.refused.Reads as refused-reads
 use Rattle.console_obey.proofs.step.Reads as step-reads
+use Rattle.console_obey.proofs.window.Reads as window-reads
 
 abbrev Inv-loop : tie.InvT-loop
 Inv-loop n next₀ k₀ t8 next k = k ≤ n
@@ -36,6 +37,9 @@ some-requires c κs = search needs
 
 delivered-requires : tie.Need-delivered-requires Inv-loop μ-loop
 delivered-requires c κs = search needs
+
+window-requires : tie.Need-window-requires Inv-loop μ-loop
+window-requires c κs = search needs
 
 add-k : tie.Need-add-k Inv-loop μ-loop
 add-k c = search needs
@@ -65,6 +69,7 @@ go-spec =
     returns
     some-requires
     delivered-requires
+    window-requires
     add-k
     loop-less
     loop-again

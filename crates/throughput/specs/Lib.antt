@@ -1,0 +1,4 @@
+pub mod Rate
+pub mod Window
+pub mod Lists
+pub mod Feeds

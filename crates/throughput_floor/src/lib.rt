@@ -1,0 +1,1 @@
+// Throughput joined to the floor, in specs/ and proofs/; no code.
