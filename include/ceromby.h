@@ -41,6 +41,8 @@ extern "C" {
 /* One of the eight letters of a ceromby_layout's name, 0 to 7; 0 after the last. */
 #define CEROMBY_LETTER(layout, at) ((char)((layout).name >> (56 - 8 * (at)) & 255))
 
+#define CEROMBY_WINDOW 256 /* rounds of a throughput's window */
+
 /* Why a tile stood in a round; the first that fits. */
 #define CEROMBY_REASON_STOPPED 1
 #define CEROMBY_REASON_EMPTY 2    /* when the round began; a hopper always is */
@@ -68,12 +70,15 @@ extern "C" {
 #define CEROMBY_SHORT_BUFFER 13   /* buffer shorter than the image to write */
 
 /* Refused because of the state. */
-#define CEROMBY_MALFORMED 30      /* the floor handed in isn't well formed */
+#define CEROMBY_MALFORMED 30      /* the floor handed in isn't well formed, or the throughput isn't sound */
 #define CEROMBY_STOPPED 31        /* booking on a stopped tile, or stop of a stopped one */
 #define CEROMBY_RUNNING 32        /* repair of a running tile */
 #define CEROMBY_NUMBER_USED 33    /* canister number not above the last booked */
 #define CEROMBY_TOO_CLOSE 34      /* some canister of the tile differs by less than d = l + r in both a and b */
 #define CEROMBY_NO_PLACE 40       /* booking without a place: none on the tile keeps the spacing */
+
+/* Refused because of a throughput's count. */
+#define CEROMBY_COUNT_TOO_HIGH 41 /* a count above 4 */
 
 /* Refused because of a list. */
 #define CEROMBY_LIST_TOO_LONG 42  /* more than 64 bookings */
@@ -196,6 +201,33 @@ typedef struct ceromby_written {
     uint32_t length; /* of the image, never 0; where refused, 0: don't store that many bytes, see ceromby_write */
 } ceromby_written;
 
+/* Deliveries at one hopper, over windows of 256 rounds. A new record is all zero. A rate is a closed window's deliveries
+   divided by 256, exactly, so from 0 to 4; before the first close all three are 0. A record isn't sound, and is refused by
+   30, if the open window has 256 rounds or more or over four deliveries a round, if a rate times 256 is no whole number
+   from 0 to 1,024 (as a NaN's) or a rate is negative zero, if not least <= last <= greatest, or if a rate isn't 0 while
+   closed is 0. */
+typedef struct ceromby_throughput {
+    double last;         /* rates of closed windows */
+    double least;
+    double greatest;
+    uint16_t rounds;     /* of the open window */
+    uint16_t deliveries; /* of the open window */
+    uint8_t closed;      /* 0 until a window has closed; any other value: one has */
+} ceromby_throughput;
+
+/* ceromby_fed.kind: what a round did to the window. */
+#define CEROMBY_FED_REFUSED 0
+#define CEROMBY_FED_OPEN 1   /* it is still open; ceromby_fed.rounds says how many it has, 1 to 255, this one included */
+#define CEROMBY_FED_CLOSED 2 /* this was its 256th; ceromby_fed.rate is its rate */
+
+typedef struct ceromby_fed {
+    ceromby_throughput throughput; /* where refused, as it came, bit for bit */
+    double rate;                   /* 0 unless the window closed */
+    uint16_t rounds;               /* 0 unless it is still open */
+    uint8_t kind;
+    uint8_t refusal;
+} ceromby_fed;
+
 /* A floor without canisters. Refused by 1, 2, 3. */
 ceromby_answer ceromby_fresh(ceromby_settings settings);
 
@@ -253,6 +285,11 @@ ceromby_answer ceromby_load(const uint8_t *bytes, size_t length);
    the same keeps an empty file, and loading that is accepted and gives the standard floor, without canisters and with
    counters at 0. */
 ceromby_written ceromby_write(ceromby_floor floor, uint8_t *buffer, size_t length);
+
+/* Takes a round's delivered count at one hopper, ceromby_report.deliveries[i].count: one record for each hopper. The 256th
+   round closes the window, sets the rates and empties it; an open round keeps the rates and the closed byte as they are, a
+   close sets that to 1. Refused by 30 (the record isn't sound), 41. */
+ceromby_fed ceromby_feed(ceromby_throughput throughput, uint32_t count);
 
 #ifdef __cplusplus
 }

@@ -192,6 +192,25 @@ static void stand(ceromby_settings settings) {
     }
 }
 
+/* Two windows of rounds: one canister in each round, then four. */
+static void measure(void) {
+    ceromby_throughput record = {0};
+    for (unsigned round = 1; round <= 2 * CEROMBY_WINDOW; round++) {
+        ceromby_fed fed = ceromby_feed(record, round <= CEROMBY_WINDOW ? 1 : 4);
+        if (fed.refusal != CEROMBY_ACCEPTED)
+            break;
+        record = fed.throughput;
+        if (fed.kind == CEROMBY_FED_CLOSED)
+            printf("round %u closes a window with rate %g\n", round, fed.rate);
+        else if (fed.rounds == 1 || fed.rounds == CEROMBY_WINDOW - 1)
+            printf("round %u: the window has %u rounds, %u deliveries\n", round, fed.rounds, record.deliveries);
+    }
+    printf("last %g, least %g, greatest %g\n", record.last, record.least, record.greatest);
+    printf("feed five: %u\n", ceromby_feed(record, 5).refusal);
+    record.least = -0.0;
+    printf("feed a record with negative zero: %u\n", ceromby_feed(record, 0).refusal);
+}
+
 int main(void) {
     ceromby_settings settings = {
         .columns = 2, .rows = 1, .hoppers = CEROMBY_TILE(1), .sources = CEROMBY_TILE(0),
@@ -209,5 +228,6 @@ int main(void) {
     stand(settings);
     clean_nets(ceromby_fresh(settings).floor);
     start_blank();
+    measure();
     return 0;
 }

@@ -80,8 +80,25 @@ static void answers(void) {
     FIELD(written, length);
 }
 
+static void throughput(void) {
+    SIZE(throughput);
+    FIELD(throughput, last);
+    FIELD(throughput, least);
+    FIELD(throughput, greatest);
+    FIELD(throughput, rounds);
+    FIELD(throughput, deliveries);
+    FIELD(throughput, closed);
+    SIZE(fed);
+    FIELD(fed, throughput);
+    FIELD(fed, rate);
+    FIELD(fed, rounds);
+    FIELD(fed, kind);
+    FIELD(fed, refusal);
+}
+
 int main(void) {
     values();
     answers();
+    throughput();
     return 0;
 }

@@ -178,6 +178,36 @@ fn singly(floor: &ceromby::Floor, list: &[ceromby::Booking]) -> ceromby::Floor {
     floor
 }
 
+/// Feeding a throughput record: an open round and a closing one.
+fn feeds() {
+    for (name, rounds) in [("throughput, open", 100), ("throughput, closing", 255)] {
+        let ours = ceromby::Throughput {
+            last: 1.0,
+            least: 0.5,
+            greatest: 2.0,
+            rounds,
+            deliveries: 200,
+            closed: 1,
+        };
+        let theirs = oracle::Throughput {
+            last: ours.last,
+            least: ours.least,
+            greatest: ours.greatest,
+            rounds: ours.rounds,
+            deliveries: ours.deliveries,
+            closed: ours.closed,
+        };
+        let (ours, theirs) = (&ours, &theirs);
+        row!(
+            name,
+            "feed",
+            ceromby::feed(ours, 2).err().unwrap_or(0),
+            ceromby::feed(black_box(ours), black_box(2)),
+            oracle::feed(black_box(theirs), black_box(2))
+        );
+    }
+}
+
 /// How a round's cost grows: floor and canisters by row.
 fn growth() {
     for pair in growing() {
@@ -200,6 +230,7 @@ fn main() {
     for pair in both_shapes() {
         timed_calls(&pair);
     }
+    feeds();
     head("library ns", "book ns");
     anywhere();
     head("library ns", "singly ns");

@@ -1,8 +1,10 @@
 //! Safe binding to the canister floor's static library. Every call refuses
 //! bad input by itself, so nothing is tested here.
 
+mod throughput;
 mod types;
 
+pub use throughput::{feed, Fed, Throughput, Told};
 pub use types::{
     reason, Answer, Booking, Canister, Counters, Delivery, Floor, Layout, Name, Placed, Reading,
     Report, Rounded, Settings, Side, Tile, Written, DISTANCE_NONE, LONGEST_IMAGE, LONGEST_LIST,
@@ -10,6 +12,7 @@ pub use types::{
 };
 
 mod raw {
+    use crate::throughput::{Throughput, Told};
     use crate::types::{
         Answer, Booking, Canister, Floor, Name, Placed, Reading, Rounded, Settings, Written,
     };
@@ -28,6 +31,7 @@ mod raw {
         pub fn ceromby_read(floor: Floor, tile: u32) -> Reading;
         pub fn ceromby_load(bytes: *const u8, length: usize) -> Answer;
         pub fn ceromby_write(floor: Floor, buffer: *mut u8, length: usize) -> Written;
+        pub fn ceromby_feed(throughput: Throughput, count: u32) -> Told;
     }
 }
 
@@ -138,9 +142,11 @@ fn written(floor: &Floor, buffer: &mut [u8]) -> Written {
 }
 
 /// For the comparison runs: the answer of a write with the length that stands
-/// beside a refusal too. Use [`write`] in its place.
+/// beside a refusal too, and that of a feed with the record of a refusal. Use
+/// [`write`] and [`feed`] in their place.
 #[cfg(feature = "as-in-c")]
 pub mod as_in_c {
+    pub use crate::throughput::told as feed;
     use crate::{Floor, Written};
 
     pub fn write(floor: &Floor, buffer: &mut [u8]) -> Written {

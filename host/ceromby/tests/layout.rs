@@ -4,7 +4,7 @@ use std::mem::{offset_of, size_of};
 
 use ceromby::{
     Answer, Booking, Canister, Counters, Delivery, Floor, Layout, Name, Placed, Reading, Report,
-    Rounded, Settings, Side, Tile, Written,
+    Rounded, Settings, Side, Throughput, Tile, Told, Written,
 };
 
 macro_rules! layout {
@@ -40,6 +40,8 @@ fn as_in_c() {
         "rounded" Rounded { floor, report, refusal }
         "reading" Reading { refusal, tile, members }
         "written" Written { refusal, length }
+        "throughput" Throughput { last, least, greatest, rounds, deliveries, closed }
+        "fed" Told { throughput, rate, rounds, kind, refusal }
     };
     assert_eq!(ours, include_str!("../../example/layout.txt"));
 }

@@ -5,12 +5,12 @@ use std::panic::{self, catch_unwind, AssertUnwindSafe};
 use std::sync::atomic::{AtomicBool, Ordering};
 
 use oracle::{
-    Answer, Booking, Canister, Floor, PlaceAnswer, Reading, Report, RoundAnswer, Settings, Tile,
-    WriteAnswer,
+    Answer, Booking, Canister, FeedAnswer, Floor, PlaceAnswer, Reading, Report, RoundAnswer,
+    Settings, Throughput, Tile, WriteAnswer,
 };
 
 use crate::layouts::{self, Name};
-use crate::{book_lists, convert, places, reasons};
+use crate::{book_lists, convert, places, reasons, throughput};
 
 #[derive(Clone, PartialEq, Debug)]
 pub enum Call {
@@ -27,9 +27,10 @@ pub enum Call {
     Recall { name: Name },
     BookAnywhere { tile: u32, number: u32 },
     BookList { list: Vec<Booking> },
+    Feed { record: Throughput, count: u32 },
 }
 
-pub const NAMES: [&str; 13] = [
+pub const NAMES: [&str; 14] = [
     "fresh",
     "book",
     "stop",
@@ -43,6 +44,7 @@ pub const NAMES: [&str; 13] = [
     "recall",
     "book anywhere",
     "book list",
+    "feed",
 ];
 
 pub const BOOK: usize = 1;
@@ -70,6 +72,7 @@ impl Call {
             Call::Recall { .. } => RECALL,
             Call::BookAnywhere { .. } => BOOK_ANYWHERE,
             Call::BookList { .. } => 12,
+            Call::Feed { .. } => 13,
         }
     }
 
@@ -151,6 +154,7 @@ pub enum Outcome {
     Round(RoundAnswer),
     Reading(Reading),
     Written(WriteAnswer, Vec<u8>),
+    Fed(FeedAnswer),
 }
 
 impl Outcome {
@@ -161,6 +165,7 @@ impl Outcome {
             Outcome::Round(answer) => answer.refusal,
             Outcome::Reading(answer) => answer.refusal,
             Outcome::Written(answer, _) => answer.refusal,
+            Outcome::Fed(answer) => answer.fed.err().unwrap_or(0),
         }
     }
 
@@ -289,6 +294,9 @@ fn by_library(floor: &Floor, call: &Call) -> Outcome {
         Call::Keep { name } => ceromby::keep(&theirs(), name),
         Call::Forget { name } => ceromby::forget(&theirs(), name),
         Call::Recall { name } => ceromby::recall(&theirs(), name),
+        Call::Feed { record, count } => {
+            return Outcome::Fed(throughput::by_library(record, *count));
+        }
     };
     Outcome::Answer(convert::from_answer(&answer))
 }
@@ -318,6 +326,7 @@ fn by_oracle(floor: &Floor, call: &Call) -> Outcome {
         Call::Keep { name } => oracle::keep(floor, letters(name)),
         Call::Forget { name } => oracle::forget(floor, letters(name)),
         Call::Recall { name } => oracle::recall(floor, letters(name)),
+        Call::Feed { record, count } => return Outcome::Fed(oracle::feed(record, *count)),
     })
 }
 
@@ -396,6 +405,9 @@ pub fn both(floor: &Floor, call: &Call) -> Result<Outcome, Trouble> {
         (Outcome::Listed(answer, list), Call::BookList { list: handed }) => {
             book_lists::check(floor, handed, answer, list)?;
         }
+        (Outcome::Fed(answer), Call::Feed { record, count }) => {
+            throughput::check(record, *count, answer)?;
+        }
         _ => layouts::check(floor, call, &library)?,
     }
     Ok(library)
@@ -420,6 +432,8 @@ fn keeps_all(floor: &Floor, call: &Call, outcome: &Outcome) -> bool {
         (Outcome::Written(answer, buffer), _) => {
             answer.length == 0 && *buffer == blank(buffer.len())
         }
+        (Outcome::Fed(answer), Call::Feed { record, .. }) => answer.throughput == *record,
+        (Outcome::Fed(_), _) => false,
     }
 }
 
@@ -471,6 +485,12 @@ fn describe(library: &Outcome, oracle: &Outcome) -> String {
         (Outcome::Written(one, bytes), Outcome::Written(other, others)) => {
             fields.note("length", &one.length, &other.length);
             fields.each("byte", bytes, others);
+        }
+        (Outcome::Fed(one), Outcome::Fed(other)) => {
+            fields.note("fed", &one.fed, &other.fed);
+            fields.note("record", &one.throughput, &other.throughput);
+            let bits = |answer: &FeedAnswer| answer.throughput.rate_bits();
+            fields.each("bits of rate", &bits(one), &bits(other));
         }
         _ => {}
     }

@@ -22,6 +22,7 @@ mod runs;
 mod show;
 mod shrink;
 mod tally;
+mod throughput;
 mod waits;
 
 use std::process::ExitCode;
@@ -71,6 +72,9 @@ fn requests(plan: Plan, tally: &mut Tally) -> Result<(), Found> {
         single::blank(&mut rng, tally).map_err(found("a blank controller"))?;
         single::places(&mut rng, tally).map_err(found("bookings"))?;
         single::book_lists(&mut rng, tally).map_err(found("lists of bookings"))?;
+        if at % 100 == 0 {
+            single::throughput(&mut rng, tally).map_err(found("the throughput of a floor"))?;
+        }
     }
     Ok(())
 }
@@ -93,6 +97,8 @@ fn cycles(plan: Plan, tally: &mut Tally) -> Result<(), Found> {
                 runs::damaged(&mut rng, tally).map_err(found("a damaged floor"))?;
             }
             runs::list(&mut rng, tally).map_err(found("a list"))?;
+            let mut own = Rng::new(Rng::new(plan.seed ^ cycle << 20 ^ 2).draw());
+            single::feeds(&mut own, tally).map_err(found("a throughput record"))?;
         }
         if more_images {
             for _ in 0..8 {

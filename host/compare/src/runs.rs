@@ -142,6 +142,14 @@ impl<'a> Run<'a> {
         Ok(())
     }
 
+    /// Cuts the case down to its last call, for trouble with what was counted
+    /// over all of them.
+    fn last_alone(&mut self) {
+        let before = self.case.calls.len().saturating_sub(1);
+        self.case.calls.drain(..before);
+        self.case.first = self.floor;
+    }
+
     fn check(&mut self) -> Result<(), Trouble> {
         match self.case.sound {
             true => self.record.check(&self.floor),

@@ -7,6 +7,7 @@ use oracle::{Booking, Canister, Floor, Layout, Settings, Tile};
 use crate::call::Call;
 use crate::layouts::Name;
 use crate::runs::Case;
+use crate::throughput;
 
 fn settings(s: &Settings) -> String {
     format!(
@@ -131,6 +132,7 @@ fn call(call: &Call) -> String {
             let hex: Vec<String> = bytes.iter().map(|byte| format!("{byte:02x}")).collect();
             format!("load {} bytes: {}", bytes.len(), hex.join(" "))
         }
+        Call::Feed { record, count } => throughput::show(record, *count),
     }
 }
 
@@ -151,6 +153,7 @@ pub fn size(case: &Case) -> String {
     match case.calls.last() {
         Some(Call::Load { bytes }) => format!("{} bytes", bytes.len()),
         Some(Call::Fresh { settings: s }) => settings(s),
+        Some(Call::Feed { record, count }) => throughput::show(record, *count),
         last => {
             let list = match last {
                 Some(Call::BookList { list }) => format!(", a list of {}", list.len()),

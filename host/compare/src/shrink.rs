@@ -9,17 +9,24 @@ use crate::call::{Call, Trouble};
 use crate::images::{self, Line};
 use crate::makers;
 use crate::runs::{before_last, replay, Case, Failure};
+use crate::throughput;
 
 const TRIES: usize = 40_000;
+/// For cases of more than a thousand calls, each of which is long in trying.
+const FEWER_TRIES: usize = 500;
 
 pub fn shrink(failure: &Failure) -> (Case, Trouble) {
     // A smaller floor than one with known damage may be sound.
     let promise = failure.trouble.refusals.is_none();
     let kept_as_it_is = promise && failure.case.must.is_some();
+    let tries = match failure.case.calls.len() {
+        0..=1_000 => TRIES,
+        _ => FEWER_TRIES,
+    };
     let mut search = Search {
         case: failure.case.clone(),
         trouble: failure.trouble.clone(),
-        left: if kept_as_it_is { 0 } else { TRIES },
+        left: if kept_as_it_is { 0 } else { tries },
     };
     let last = failure.case.calls.last().cloned();
     let single = Case {
@@ -403,6 +410,7 @@ fn smaller_calls(floor: &Floor, call: &Call) -> Vec<Call> {
         Call::Fresh { settings } => smaller_settings(settings)
             .map(|settings| Call::Fresh { settings })
             .into(),
+        Call::Feed { record, count } => throughput::smaller(record, *count),
         _ => Vec::new(),
     }
 }

@@ -5,10 +5,12 @@ use std::fmt::Display;
 use oracle::{Floor, Grid, RoundAnswer, Side};
 
 use crate::call::{Call, Outcome, NAMES};
-use crate::{arrows, blank, book_lists, exchange, hoppers, layouts, places, reasons, waits};
+use crate::{
+    arrows, blank, book_lists, exchange, hoppers, layouts, places, reasons, throughput, waits,
+};
 
 /// The answers that each call can give, in the order of `NAMES`.
-const ANSWERS: [&[u8]; 13] = [
+const ANSWERS: [&[u8]; 14] = [
     &[0, 1, 2, 3],
     &[0, 30, 4, 5, 6, 7, 31, 33, 34],
     &[0, 30, 4, 8, 31],
@@ -22,6 +24,7 @@ const ANSWERS: [&[u8]; 13] = [
     &[0, 30, 44, 45],
     &[0, 30, 4, 5, 6, 31, 33, 40],
     &[0, 42],
+    &[0, 30, 41],
 ];
 
 #[derive(Default)]
@@ -41,6 +44,7 @@ pub struct Tally {
     blank: blank::Counts,
     pub places: places::Counts,
     book_lists: book_lists::Counts,
+    pub throughput: throughput::Counts,
     pub settled: u64,
     /// Arrows kept and lists held to the bound in the runs for single requests.
     tied: [u64; 2],
@@ -74,6 +78,7 @@ impl Tally {
         self.blank.add(&further.blank);
         self.places.add(&further.places);
         self.book_lists.add(&further.book_lists);
+        self.throughput.add(&further.throughput);
         self.settled += further.settled;
         self.tied = [further.kept, further.drained];
         self.closest = self.closest.max(further.closest);
@@ -86,6 +91,9 @@ impl Tally {
             self.hoppers.note_image(bytes, outcome.refusal());
             self.layouts.images.note(bytes, outcome.refusal());
             self.blank.note_load(bytes);
+        }
+        if let (Call::Feed { record, count }, Outcome::Fed(answer)) = (call, outcome) {
+            self.throughput.note(record, *count, answer);
         }
         self.layouts.note(before, call, outcome.refusal());
         if let (Call::BookAnywhere { tile, number }, Outcome::Placed(answer)) = (call, outcome) {
@@ -157,7 +165,11 @@ impl Tally {
         for (name, cells) in lines.into_iter().flatten() {
             print_line(&name, cells, &mut missing);
         }
-        let lines = [self.hoppers.lines(), self.book_lists.lines()];
+        let lines = [
+            self.hoppers.lines(),
+            self.book_lists.lines(),
+            self.throughput.lines(),
+        ];
         for (name, cells) in lines.into_iter().flatten() {
             print_line(&name, cells, &mut missing);
         }

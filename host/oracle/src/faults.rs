@@ -111,6 +111,16 @@ faults! {
     RefusedWritten "refused-written" "refused entries alone receive an answer"
     FirstFloorJudges "first-floor-judges" "every entry is judged on the floor before the list"
     LongListWritten "long-list-written" "the entries of a list that is 42 are written"
+    ShortWindow "short-window" "a window has 255 rounds"
+    LastRoundLost "last-round-lost" "the rate leaves out the closing round's count"
+    LeastUnset "least-unset" "the first close leaves the least rate at 0"
+    NegativeZero "negative-zero" "a rate may be negative zero"
+    CountFirst "count-first" "41 before 30"
+    CountCut "count-cut" "a count is cut to eight bits"
+    FlagTwo "flag-two" "a closed byte of 2 means that no window has closed"
+    FlagNormal "flag-normal" "an open round makes 1 of a closed byte of 2"
+    RefusedEmptied "refused-emptied" "a refusal empties the open window"
+    NanQuieted "nan-quieted" "a refused record's signalling NaN comes back quiet"
 }
 
 #[cfg(feature = "faults")]

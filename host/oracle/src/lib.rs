@@ -20,6 +20,7 @@ pub mod random;
 pub mod reason;
 pub mod refusal;
 mod round;
+mod throughput;
 mod types;
 
 pub use anywhere::{book_anywhere, place_by_candidates, place_by_pairs};
@@ -30,6 +31,7 @@ pub use image::{load, write, LONGEST_IMAGE, STANDARD};
 pub use layouts::{forget, keep, name, recall};
 pub use list::{book_list, LONGEST_LIST};
 pub use round::round;
+pub use throughput::{deliveries_of, feed, Fed, FeedAnswer, Throughput, WINDOW};
 pub use types::{
     only, Answer, Booking, Canister, Counters, Delivery, Floor, Layout, PlaceAnswer, Reading,
     Report, RoundAnswer, Settings, Tile, WriteAnswer, MAX_HOPPERS, MAX_LAYOUTS, MAX_TILES, NONE,

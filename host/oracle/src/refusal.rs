@@ -24,6 +24,8 @@ pub const TOO_CLOSE: u8 = 34;
 
 pub const NO_PLACE: u8 = 40;
 
+pub const COUNT_TOO_HIGH: u8 = 41;
+
 pub const LIST_TOO_LONG: u8 = 42;
 
 pub const BAD_NAME: u8 = 44;

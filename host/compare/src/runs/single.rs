@@ -4,8 +4,9 @@ use oracle::random::{self, Rng};
 use oracle::Floor;
 
 use super::{arbitrary_floor, begin, damaged_floor, finish, list_settings, Failure};
-use crate::call::Call;
+use crate::call::{Call, Outcome};
 use crate::tally::Tally;
+use crate::throughput::{self, Follow};
 use crate::{arrows, blank, book_lists, exchange, layouts, makers, places};
 
 /// Every pair in either order, on a well-formed floor and on a damaged one.
@@ -195,4 +196,68 @@ pub fn book_lists(rng: &mut Rng, tally: &mut Tally) -> Result<(), Box<Failure>> 
         }
         run.check()
     })
+}
+
+/// Any throughput records, each fed some times from what it gave before.
+pub fn feeds(rng: &mut Rng, tally: &mut Tally) -> Result<(), Box<Failure>> {
+    let calls = tally.calls;
+    finish(begin(Floor::ZERO, false, None), tally, |run| {
+        for _ in 0..20 {
+            let (mut record, mut count) = throughput::any_feed(rng);
+            run.case.calls.clear();
+            for _ in 0..rng.range(1, 4) {
+                let outcome = run.make(Call::Feed { record, count })?;
+                if let Outcome::Fed(answer) = outcome {
+                    record = answer.throughput;
+                }
+                count = throughput::any_count(rng);
+            }
+        }
+        run.tally.calls = calls;
+        Ok(())
+    })
+}
+
+/// A floor of which each hopper has a record, over thousands of rounds. Its
+/// calls are counted apart.
+pub fn throughput(rng: &mut Rng, tally: &mut Tally) -> Result<(), Box<Failure>> {
+    let settings = list_settings(rng);
+    let first = match rng.below(3) {
+        0 => makers::delivering_floor(rng),
+        1 => oracle::fresh(settings).floor,
+        _ => random::floor_with(rng, settings),
+    };
+    let mut follow = Follow::of(&first);
+    let mut own = Tally::new();
+    finish(begin(first, true, None), &mut own, |run| {
+        for at in 0..rng.range(2_000, 4_000) {
+            let floor = run.floor;
+            let listed = random::call(rng, &floor).into();
+            let call = match listed {
+                Call::Book { .. } => throughput::booking(rng, &floor).unwrap_or(Call::Round),
+                _ if rng.chance(1, 8) => listed,
+                _ => Call::Round,
+            };
+            let rounds = call == Call::Round;
+            let report = run.make(call)?.report();
+            if rounds {
+                for (at, (record, count)) in follow.feeds(&report).into_iter().enumerate() {
+                    if let Outcome::Fed(answer) = run.make(Call::Feed { record, count })? {
+                        let noted = follow.note(at, count, &answer);
+                        noted.inspect_err(|_| run.last_alone())?;
+                    }
+                }
+            }
+            if at % 64 == 0 {
+                let checked = follow.check(&run.floor);
+                checked.inspect_err(|_| run.last_alone())?;
+            }
+        }
+        run.check()?;
+        let checked = follow.check(&run.floor);
+        checked.inspect_err(|_| run.last_alone())
+    })?;
+    follow.tell(&mut tally.throughput);
+    tally.throughput.add(&own.throughput);
+    Ok(())
 }

@@ -18,4 +18,5 @@ mod naive;
 mod reasons;
 mod refusals;
 mod rounds;
+mod throughput;
 mod trials;
