@@ -7,6 +7,7 @@ ghost use Rattle.floor.specs.Anywhere.{anywhereAnswer};
 ghost use Rattle.book_list.specs.Listing.{listAnswer, listAfter};
 ghost use Rattle.image.specs.Image.{loadAnswer, writeAnswer, written};
 ghost use Rattle.throughput.specs.Window.{feedTold};
+ghost use Rattle.page_call.specs.Page.{pageAnswer, paged};
 use book_list::Booking;
 use floor::Answer;
 use floor::Canister;
@@ -116,4 +117,11 @@ pub extern "C" fn ceromby_feed(throughput: Throughput, count: u32) -> Told
     ensures { λ r. ⌜ r ≡ feedTold throughput count ⌝ }
 {
     throughput::feed_told(throughput, count)
+}
+
+#[no_mangle]
+pub extern "C" fn ceromby_page(floor: Floor, buffer: &mut [u8]) -> Written
+    ensures { λ r. ⌜ (r ≡ pageAnswer floor (length (now (buffer .entry)))) × (now (buffer .exit) ≡ paged floor (now (buffer .entry))) ⌝ }
+{
+    page_call::page(floor, buffer)
 }

@@ -120,7 +120,7 @@ fn converse(buf: &mut [u8])
 }
 
 fn main() {
-    console_say::text(b"console: begin with fresh; help lists the calls, quit ends\n");
+    console_say::text(b"console: begin with fresh or load; help lists the calls, quit ends\n");
     let mut buf = io::buffer();
     converse(&mut buf);
 }

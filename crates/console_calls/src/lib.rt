@@ -57,10 +57,10 @@ pub fn fresh(s: Session, line: &[u8], give_up: bool) -> Session {
     }
     let canisters = console_session::held(s.floor.counters);
     if 0 < canisters && !give_up {
-        console_say::holds(canisters);
+        console_say::holds(b"fresh", canisters);
         return s;
     }
-    console_say::made(a.at[0], a.at[1], hoppers);
+    console_say::made(b"fresh", a.at[0], a.at[1], hoppers);
     let made = answer.floor;
     console_session::begun(s, made)
 }
@@ -238,6 +238,75 @@ pub fn obey_layouts(s: Session, line: &[u8]) -> Session {
     }
     if console_parse::is(line, 0, b"layouts") {
         return layouts(s, line);
+    }
+    obey_files(s, line)
+}
+
+// Keeps the floor in a file.
+fn save(s: Session, line: &[u8]) -> Session {
+    if !has_name(line) {
+        return console_session::cannot(s, line);
+    }
+    let w = console_words::nth(line, 1);
+    let from = w.from;
+    let to = w.to;
+    let floor = s.floor;
+    let saved = console_files::save(floor, &line[from..to]);
+    if saved.refusal != 0 {
+        return console_session::refused(s, b"save", saved.refusal);
+    }
+    if saved.done {
+        console_say::saved(saved.length, &line[from..to]);
+    } else {
+        console_say::unsaved(&line[from..to]);
+    }
+    s
+}
+
+// Takes the floor of a file. A refused load leaves the floor as it was; one that holds canisters is given up by `load!` alone.
+fn load(s: Session, line: &[u8], give_up: bool) -> Session {
+    if !has_name(line) {
+        return console_session::cannot(s, line);
+    }
+    let w = console_words::nth(line, 1);
+    let from = w.from;
+    let to = w.to;
+    let loaded = console_files::load(&line[from..to]);
+    if !loaded.read {
+        console_say::unread(&line[from..to]);
+        return s;
+    }
+    let answer = loaded.answer;
+    if answer.refusal != 0 {
+        console_say::refused(b"load", answer.refusal);
+        return s;
+    }
+    let canisters = console_session::held(s.floor.counters);
+    if 0 < canisters && !give_up {
+        console_say::holds(b"load", canisters);
+        return s;
+    }
+    let floor = answer.floor;
+    let settings = floor.settings;
+    console_say::made(
+        b"load",
+        settings.columns as u32,
+        settings.rows as u32,
+        settings.hoppers,
+    );
+    console_session::begun(s, floor)
+}
+
+// Obeys a line about files.
+pub fn obey_files(s: Session, line: &[u8]) -> Session {
+    if console_parse::is(line, 0, b"save") {
+        return save(s, line);
+    }
+    if console_parse::is(line, 0, b"load") {
+        return load(s, line, false);
+    }
+    if console_parse::is(line, 0, b"load!") {
+        return load(s, line, true);
     }
     console_session::cannot(s, line)
 }

@@ -3,7 +3,6 @@ use book_list::Booking;
 use console_session::Session;
 use floor::Canister;
 use floor::Delivery;
-use floor::Floor;
 use floor::refusals;
 
 // `rounds` takes at most this many.
@@ -170,32 +169,6 @@ fn rounds(s: Session, line: &[u8]) -> Session {
     go(s, many)
 }
 
-// One row from west to east. The tile to the east has the number higher by the rows.
-fn show_row(floor: Floor, columns: u8, rows: u8, row: u8) {
-    let mut at = row as u32;
-    let mut column: u8 = 0;
-    while column < columns {
-        let answer = calls::read(floor, at);
-        let t = answer.tile;
-        if 0 < column {
-            console_say::text(b"  ");
-        }
-        console_say::cell(console_parse::byte(at), t);
-        at += rows as u32;
-        column += 1;
-    }
-    console_say::text(b"\n");
-}
-
-// The north row first.
-fn show_rows(floor: Floor, columns: u8, rows: u8) {
-    let mut row = rows;
-    while 0 < row {
-        row -= 1;
-        show_row(floor, columns, rows, row);
-    }
-}
-
 fn show(s: Session, line: &[u8]) -> Session {
     if !console_parse::ended(line, 1) {
         return console_session::cannot(s, line);
@@ -208,7 +181,7 @@ fn show(s: Session, line: &[u8]) -> Session {
     let counters = floor.counters;
     let settings = floor.settings;
     console_say::counters(counters, settings.hoppers, s.rounds);
-    show_rows(floor, settings.columns, settings.rows);
+    console_files::show(floor);
     s
 }
 
@@ -275,7 +248,7 @@ pub fn obey(s: Session, line: &[u8]) -> Session {
     rest(s, line)
 }
 
-// Obeys a line of one word, or one about layouts.
+// Obeys a line of one word, or one about layouts and files.
 fn rest(s: Session, line: &[u8]) -> Session {
     if !console_parse::ended(line, 1) {
         return console_calls::obey_layouts(s, line);

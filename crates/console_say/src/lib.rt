@@ -30,14 +30,6 @@ fn at_most(x: usize, most: usize) -> usize
     if x < most { x } else { most }
 }
 
-// A number below a hundred, in two columns.
-pub fn two(n: u8) {
-    if n < 10 {
-        text(b" ");
-    }
-    number(n as u64);
-}
-
 pub fn side(code: u8) {
     match code {
         WEST => text(b"W"),
@@ -61,6 +53,10 @@ fn meaning(n: u8) {
         refusals::NUMBER_ZERO => text(b"canister number 0"),
         refusals::OUTSIDE => text(b"a or b above U - l"),
         refusals::HOPPER => text(b"a hopper can't be stopped"),
+        refusals::IMAGE_END => text(b"the image ends too soon, or not where it should"),
+        refusals::KIND => text(b"a record of another kind than the one due"),
+        refusals::LENGTH => text(b"a record's length or a fixed byte is wrong"),
+        refusals::IMAGE_MALFORMED => text(b"the image's floor isn't well formed"),
         refusals::MALFORMED => text(b"the floor isn't well formed"),
         refusals::STOPPED => text(b"the tile is stopped"),
         refusals::RUNNING => text(b"the tile is running"),
@@ -87,7 +83,7 @@ pub fn refused(name: &[u8], n: u8) {
 // A call before there is a floor.
 pub fn no_floor(name: &[u8]) {
     text(name);
-    text(b": there is no floor yet; begin with fresh\n");
+    text(b": there is no floor yet; begin with fresh or load\n");
 }
 
 // How many canisters.
@@ -100,11 +96,14 @@ fn amount(n: u64) {
     }
 }
 
-// A fresh on a floor with n canisters.
-pub fn holds(n: u64) {
-    text(b"fresh: the floor holds ");
+// Another floor, by the call named, where the floor has n canisters.
+pub fn holds(call: &[u8], n: u64) {
+    text(call);
+    text(b": the floor holds ");
     amount(n);
-    text(b"; fresh! gives it up\n");
+    text(b"; ");
+    text(call);
+    text(b"! gives it up\n");
 }
 
 // A byte as it can be shown on a terminal.
@@ -112,11 +111,8 @@ fn shown(b: u8) -> u8 {
     if b < 32 || 126 < b { b'?' } else { b }
 }
 
-// A line that can't be read, with its number.
-pub fn unreadable(at: u64, line: &[u8]) {
-    text(b"line ");
-    number(at);
-    text(b": cannot read: ");
+// What was typed, up to 400 bytes, as it can be shown.
+fn typed(line: &[u8]) {
     let mut copy = [b' '; 400];
     let n = at_most(line.len(), 400);
     let mut i = 0;
@@ -125,6 +121,14 @@ pub fn unreadable(at: u64, line: &[u8]) {
         i += 1;
     }
     text(&copy[..n]);
+}
+
+// A line that can't be read, with its number.
+pub fn unreadable(at: u64, line: &[u8]) {
+    text(b"line ");
+    number(at);
+    text(b": cannot read: ");
+    typed(line);
     text(b"\n");
 }
 
@@ -276,9 +280,10 @@ fn tiles(set: u64) {
     }
 }
 
-// A fresh floor.
-pub fn made(columns: u32, rows: u32, hoppers: u64) {
-    text(b"fresh: ");
+// Another floor, by the call named.
+pub fn made(call: &[u8], columns: u32, rows: u32, hoppers: u64) {
+    text(call);
+    text(b": ");
     small(columns);
     text(b" x ");
     small(rows);
@@ -343,6 +348,28 @@ fn layout(number: u64, set: u64) {
     text(b"\n");
 }
 
+// A saved floor.
+pub fn saved(n: u32, path: &[u8]) {
+    text(b"save: ");
+    small(n);
+    text(b" bytes in ");
+    typed(path);
+    text(b"\n");
+}
+
+// A floor that is in no file: the old one, if there is one, is as it was.
+pub fn unsaved(path: &[u8]) {
+    text(b"save: ");
+    typed(path);
+    text(b" can't be written\n");
+}
+
+pub fn unread(path: &[u8]) {
+    text(b"load: ");
+    typed(path);
+    text(b" can't be read\n");
+}
+
 // The layouts that are held.
 pub fn layouts(all: [Layout; 8]) {
     let first = all[0];
@@ -397,23 +424,6 @@ pub fn counters(c: Counters, hoppers: u64, round: u64) {
     text(b", round ");
     number(round);
     text(b"\n");
-}
-
-// A tile as `show` tells it: number, canisters, arrow, distance.
-pub fn cell(at: u8, t: Tile) {
-    two(at);
-    text(b":");
-    two(t.count);
-    if t.running == 0 {
-        text(b" XX");
-        return;
-    }
-    side(t.next.code);
-    if t.distance == 255 {
-        text(b"--");
-    } else {
-        two(t.distance);
-    }
 }
 
 // What a reason says.
@@ -472,6 +482,9 @@ pub fn help() {
     text(
         b"      list, then TILE NUMBER A B on a line each, then end: up to 64 bookings in one call\n",
     );
+    text(
+        b"      save FILE | load FILE | load! FILE   (load! also where the floor holds canisters)\n",
+    );
     text(b"      show | throughput | help | quit | # a remark\n");
     text(
         b"      why: of each tile that wasn't empty in the last round, that it moved or why it stood\n",
@@ -480,7 +493,7 @@ pub fn help() {
         b"      throughput: closed rates in deliveries a round, over 256 rounds, and the open window\n",
     );
     text(b"      tile = column x H + row, from the south-west; rounds takes at most 100000\n");
-    text(b"      show: north row first; each tile as number:canisters arrow distance\n");
+    text(b"      show: the north row first; of each tile its canisters, arrow and distance\n");
     text(b"      XX stopped, - no arrow, -- no distance\n");
     text(b"      a line has at most 400 bytes; a remark may have more\n");
 }

@@ -9,8 +9,7 @@ use floor::Settings;
 use throughput::Throughput;
 
 // The floor, the throughput of each hopper, what the last round's report says of each tile, the entries of a list that is being
-// typed, how many lines were read, how many rounds the floor went, whether a fresh
-// has made it, whether to go on.
+// typed, how many lines were read, how many rounds the floor went, whether there is a floor, whether to go on.
 pub struct Session {
     pub floor: Floor,
     pub records: [Throughput; 4],

@@ -58,6 +58,8 @@ pub const TOO_NEAR: u8 = 34;
 pub const NO_PLACE: u8 = 40;
 // "more than 64 entries, checked first, with no entry written"
 pub const LIST_TOO_LONG: u8 = 42;
+// "buffer shorter than the page, checked after 30"
+pub const SHORT_PAGE: u8 = 43;
 
 // "bad name, after 30"
 pub const BAD_NAME: u8 = 44;

@@ -1,5 +1,5 @@
 // Floors that aren't well formed: every call that takes a floor answers 30 and gives the same floor, zeros for a reading, the same
-// bytes for a writing; a list of bookings answers 30 in every entry.
+// bytes for a writing and for a page; a list of bookings answers 30 in every entry.
 mod hoppers;
 mod layouts;
 

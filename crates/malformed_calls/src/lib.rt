@@ -1,5 +1,5 @@
 // Whether every call that takes a floor refuses one that isn't well formed: 30 and the same floor, zeros for a reading, the same
-// bytes for a writing; a list of bookings answers 30 in every entry.
+// bytes for a writing and for a page; a list of bookings answers 30 in every entry.
 use book_list::Booking;
 use floor::Canister;
 use floor::Delivery;
@@ -160,6 +160,14 @@ fn unwritten(f: Floor) -> bool {
     (w.refusal == 30) & (w.length == 0) & same
 }
 
+// So does the page, in a buffer that is too short as well.
+fn unprinted(f: Floor) -> bool {
+    let mut bytes = [7u8; 8];
+    let w = page_call::page(f, &mut bytes);
+    let same = untouched(&bytes);
+    (w.refusal == 30) & (w.length == 0) & same
+}
+
 // Keep, forget and recall.
 fn names_refuse(f: Floor) -> bool {
     let keep = calls::keep(f, floors::name(65));
@@ -217,7 +225,7 @@ fn list_refuses(f: Floor, n: usize, refusal: u8, written: usize) -> bool {
     (made.refusal == refusal) & answered(list, written) & same_floor(after, f)
 }
 
-// Book with and without a place, lists of 5, 64 and 65 bookings, stop, repair, round, read, write, keep, forget and recall.
+// Book with and without a place, lists of 5, 64 and 65 bookings, stop, repair, round, read, write, page, keep, forget and recall.
 pub fn all_refuse(f: Floor) -> bool {
     let book = floors::book(f, 1, 900, 0, 0);
     let stop = calls::stop(f, 1);
@@ -239,6 +247,7 @@ pub fn all_refuse(f: Floor) -> bool {
         & empty_report(report)
         & empty_reading(f)
         & unwritten(f)
+        & unprinted(f)
         & names_refuse(f)
         & finds_nothing(f)
         & list_refuses(f, 5, 0, 5)

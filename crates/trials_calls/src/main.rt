@@ -1,6 +1,7 @@
-// Trials of document 02's further calls: bookings without a place, lists of bookings and throughput, through the compiled calls.
+// Trials of document 02's further calls: bookings without a place, lists of bookings, throughput and pages, through the compiled calls.
 mod anywhere;
 mod lists;
+mod pages;
 mod windows;
 
 use trials_tally::Tally;
@@ -10,5 +11,6 @@ fn main() {
     let a = anywhere::all(start);
     let b = lists::all(a);
     let c = windows::all(b);
-    trials_tally::end(c);
+    let d = pages::all(c);
+    trials_tally::end(d);
 }
