@@ -6,7 +6,7 @@
    The numbers given at each call stand in the order in which they are tested.
 
    What the caller owes: a pointer to `length` bytes, or for ceromby_book_list to `length` entries, that stay valid and
-   that nobody else writes during the call (any pointer but NULL where length is 0); for ceromby_write and
+   that nobody else writes during the call (any pointer but NULL where length is 0); for ceromby_write, ceromby_page and
    ceromby_book_list nobody else reads them either. A floor takes 8,696 bytes, and a call about 100 KB of stack. */
 
 #ifndef CEROMBY_H
@@ -28,6 +28,8 @@ extern "C" {
 
 #define CEROMBY_DISTANCE_NONE 255
 #define CEROMBY_LONGEST_IMAGE 8908 /* with eight layouts and one hopper; the longest with more hoppers is shorter */
+
+#define CEROMBY_LONGEST_PAGE 528 /* of 8 x 8 tiles */
 
 #define CEROMBY_MAX_TILES 64
 #define CEROMBY_MAX_HOPPERS 4
@@ -82,6 +84,9 @@ extern "C" {
 
 /* Refused because of a list. */
 #define CEROMBY_LIST_TOO_LONG 42  /* more than 64 bookings */
+
+/* Refused because of a page's buffer. */
+#define CEROMBY_SHORT_PAGE 43     /* buffer shorter than the page */
 
 /* Refused because of a layout's name. */
 #define CEROMBY_BAD_NAME 44       /* not 1 to 8 letters A to Z, then zeros */
@@ -198,7 +203,7 @@ typedef struct ceromby_reading {
 
 typedef struct ceromby_written {
     uint8_t refusal;
-    uint32_t length; /* of the image, never 0; where refused, 0: don't store that many bytes, see ceromby_write */
+    uint32_t length; /* of the image or page, never 0; where refused, 0: don't store that many bytes, see ceromby_write */
 } ceromby_written;
 
 /* Deliveries at one hopper, over windows of 256 rounds. A new record is all zero. A rate is a closed window's deliveries
@@ -285,6 +290,12 @@ ceromby_answer ceromby_load(const uint8_t *bytes, size_t length);
    the same keeps an empty file, and loading that is accepted and gives the standard floor, without canisters and with
    counters at 0. */
 ceromby_written ceromby_write(ceromby_floor floor, uint8_t *buffer, size_t length);
+
+/* Writes the floor as H lines of text, the north row first, and leaves the bytes after them: H * (8 * W + 2) bytes,
+   without a zero at the end. A line is a bar, for each tile from the west seven columns and a bar, and byte 10. The
+   columns are the count of canisters in two, a blank, the arrow (W, S, N, E or -), a blank, and the distance in two (--
+   for none, XX on a stopped tile); numbers are right-aligned. Refused by 30, 43. */
+ceromby_written ceromby_page(ceromby_floor floor, uint8_t *buffer, size_t length);
 
 /* Takes a round's delivered count at one hopper, ceromby_report.deliveries[i].count: one record for each hopper. The 256th
    round closes the window, sets the rates and empties it; an open round keeps the rates and the closed byte as they are, a

@@ -87,6 +87,15 @@ static void tiles(uint64_t set) {
             printf(" %u", tile);
 }
 
+/* The page of a floor, as the wheelhouse shows it. */
+static void print_page(ceromby_floor floor) {
+    uint8_t page[CEROMBY_LONGEST_PAGE];
+    ceromby_written written = ceromby_page(floor, page, sizeof page);
+    printf("page: %u, length %lu\n", written.refusal, (unsigned long)written.length);
+    fwrite(page, 1, written.length, stdout);
+    printf("page to one byte less: %u\n", ceromby_page(floor, page, written.length - 1).refusal);
+}
+
 /* A new controller has an empty file: zero bytes load the standard floor, fresh. */
 static void start_blank(void) {
     static uint8_t image[CEROMBY_LONGEST_IMAGE];
@@ -100,6 +109,7 @@ static void start_blank(void) {
     ceromby_written written;
     if (written_to(answer.floor, image, sizeof image, &written))
         show("loaded again", ceromby_load(image, written.length).floor);
+    print_page(ceromby_stop(ceromby_round(answer.floor).floor, 0).floor);
 }
 
 static void list(const char *what, ceromby_answer answer) {

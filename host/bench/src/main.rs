@@ -133,6 +133,14 @@ fn timed_calls(pair: &Pair) {
         oracle::write(theirs, &mut other)
     );
     row!(name, "load", ceromby::load(image), oracle::load(image));
+    let (mut page, mut other) = ([0; ceromby::LONGEST_PAGE], [0; oracle::LONGEST_PAGE]);
+    row!(
+        name,
+        "page",
+        ceromby::page(ours, &mut page).err().unwrap_or(0),
+        ceromby::page(ours, &mut page),
+        oracle::page(theirs, &mut other)
+    );
 }
 
 /// A booking without a place beside one at the place that it takes, or at (0, 0)

@@ -8,7 +8,7 @@ pub use throughput::{feed, Fed, Throughput, Told};
 pub use types::{
     reason, Answer, Booking, Canister, Counters, Delivery, Floor, Layout, Name, Placed, Reading,
     Report, Rounded, Settings, Side, Tile, Written, DISTANCE_NONE, LONGEST_IMAGE, LONGEST_LIST,
-    MAX_HOPPERS, MAX_LAYOUTS, MAX_TILES, PLACES,
+    LONGEST_PAGE, MAX_HOPPERS, MAX_LAYOUTS, MAX_TILES, PLACES,
 };
 
 mod raw {
@@ -31,6 +31,7 @@ mod raw {
         pub fn ceromby_read(floor: Floor, tile: u32) -> Reading;
         pub fn ceromby_load(bytes: *const u8, length: usize) -> Answer;
         pub fn ceromby_write(floor: Floor, buffer: *mut u8, length: usize) -> Written;
+        pub fn ceromby_page(floor: Floor, buffer: *mut u8, length: usize) -> Written;
         pub fn ceromby_feed(throughput: Throughput, count: u32) -> Told;
     }
 }
@@ -141,9 +142,25 @@ fn written(floor: &Floor, buffer: &mut [u8]) -> Written {
     unsafe { raw::ceromby_write(*floor, buffer.as_mut_ptr(), buffer.len()) }
 }
 
-/// For the comparison runs: the answer of a write with the length that stands
-/// beside a refusal too, and that of a feed with the record of a refusal. Use
-/// [`write`] and [`feed`] in their place.
+/// Writes the floor as a page of text, the north row first, and leaves the
+/// bytes after it. Gives the page's length, H x (8 x W + 2), or the number of
+/// the refusal.
+pub fn page(floor: &Floor, buffer: &mut [u8]) -> Result<usize, u8> {
+    match paged(floor, buffer) {
+        Written { refusal: 0, length } => Ok(length as usize),
+        Written { refusal, .. } => Err(refusal),
+    }
+}
+
+/// The answer of a page as C gets it.
+fn paged(floor: &Floor, buffer: &mut [u8]) -> Written {
+    // SAFETY: as in `written`.
+    unsafe { raw::ceromby_page(*floor, buffer.as_mut_ptr(), buffer.len()) }
+}
+
+/// For the comparison runs: the answers of a write and of a page with the
+/// length that stands beside a refusal too, and that of a feed with the record
+/// of a refusal. Use [`write`], [`page`] and [`feed`] in their place.
 #[cfg(feature = "as-in-c")]
 pub mod as_in_c {
     pub use crate::throughput::told as feed;
@@ -151,5 +168,9 @@ pub mod as_in_c {
 
     pub fn write(floor: &Floor, buffer: &mut [u8]) -> Written {
         crate::written(floor, buffer)
+    }
+
+    pub fn page(floor: &Floor, buffer: &mut [u8]) -> Written {
+        crate::paged(floor, buffer)
     }
 }

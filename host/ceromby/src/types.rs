@@ -16,6 +16,8 @@ pub const MAX_LAYOUTS: usize = 8;
 pub const LONGEST_LIST: usize = 64;
 /// Bytes of the longest image, which has eight layouts and one hopper.
 pub const LONGEST_IMAGE: usize = 8_908;
+/// Bytes of the longest page, of 8 x 8 tiles.
+pub const LONGEST_PAGE: usize = 528;
 
 /// Why a tile stood in a round; the first that fits.
 pub mod reason {
@@ -226,8 +228,8 @@ pub struct Reading {
     pub members: [Canister; PLACES],
 }
 
-/// The answer of a write as C gets it; `write` doesn't give the length of a
-/// refused one.
+/// The answer of a write or a page as C gets it; `write` and `page` don't give
+/// the length of a refused one.
 #[repr(C)]
 #[derive(Clone, Copy, PartialEq, Eq, Debug)]
 pub struct Written {

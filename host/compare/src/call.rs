@@ -10,7 +10,7 @@ use oracle::{
 };
 
 use crate::layouts::{self, Name};
-use crate::{book_lists, convert, places, reasons, throughput};
+use crate::{book_lists, convert, page, places, reasons, throughput};
 
 #[derive(Clone, PartialEq, Debug)]
 pub enum Call {
@@ -28,9 +28,10 @@ pub enum Call {
     BookAnywhere { tile: u32, number: u32 },
     BookList { list: Vec<Booking> },
     Feed { record: Throughput, count: u32 },
+    Page { size: usize },
 }
 
-pub const NAMES: [&str; 14] = [
+pub const NAMES: [&str; 15] = [
     "fresh",
     "book",
     "stop",
@@ -45,6 +46,7 @@ pub const NAMES: [&str; 14] = [
     "book anywhere",
     "book list",
     "feed",
+    "page",
 ];
 
 pub const BOOK: usize = 1;
@@ -73,6 +75,7 @@ impl Call {
             Call::BookAnywhere { .. } => BOOK_ANYWHERE,
             Call::BookList { .. } => 12,
             Call::Feed { .. } => 13,
+            Call::Page { .. } => 14,
         }
     }
 
@@ -297,6 +300,11 @@ fn by_library(floor: &Floor, call: &Call) -> Outcome {
         Call::Feed { record, count } => {
             return Outcome::Fed(throughput::by_library(record, *count));
         }
+        Call::Page { size } => {
+            let (mut buffer, mut other) = (blank(*size), blank(*size));
+            let answer = page::by_library(&theirs(), &mut buffer, &mut other);
+            return Outcome::Written(convert::from_written(&answer), buffer);
+        }
     };
     Outcome::Answer(convert::from_answer(&answer))
 }
@@ -327,6 +335,11 @@ fn by_oracle(floor: &Floor, call: &Call) -> Outcome {
         Call::Forget { name } => oracle::forget(floor, letters(name)),
         Call::Recall { name } => oracle::recall(floor, letters(name)),
         Call::Feed { record, count } => return Outcome::Fed(oracle::feed(record, *count)),
+        Call::Page { size } => {
+            let mut buffer = blank(*size);
+            let answer = oracle::page(floor, &mut buffer);
+            return Outcome::Written(answer, buffer);
+        }
     })
 }
 
@@ -408,6 +421,9 @@ pub fn both(floor: &Floor, call: &Call) -> Result<Outcome, Trouble> {
         (Outcome::Fed(answer), Call::Feed { record, count }) => {
             throughput::check(record, *count, answer)?;
         }
+        (Outcome::Written(answer, buffer), Call::Page { .. }) => {
+            page::check(floor, answer, buffer)?;
+        }
         _ => layouts::check(floor, call, &library)?,
     }
     Ok(library)
@@ -438,7 +454,7 @@ fn keeps_all(floor: &Floor, call: &Call, outcome: &Outcome) -> bool {
 }
 
 /// Reading gives what the memory holds; writing leaves the bytes after the
-/// image, which is never empty.
+/// image or page, which is never empty.
 fn leaves_rest(floor: &Floor, call: &Call, outcome: &Outcome) -> bool {
     match (outcome, call) {
         (Outcome::Reading(answer), Call::Read { tile }) => {

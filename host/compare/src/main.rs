@@ -15,7 +15,9 @@ mod layout_damage;
 mod layout_images;
 mod layouts;
 mod makers;
+mod page;
 mod places;
+mod program;
 mod promise;
 mod reasons;
 mod runs;
@@ -33,7 +35,8 @@ use oracle::random::{self, Rng};
 use runs::{single, Failure};
 use tally::Tally;
 
-const USAGE: &str = "compare [--seed N] [--calls N] [--images N] [--faults | --fault NAME]";
+const USAGE: &str =
+    "compare [--seed N] [--calls N] [--images N] [--faults | --fault NAME | --page]";
 
 #[derive(Clone, Copy)]
 struct Plan {
@@ -99,6 +102,8 @@ fn cycles(plan: Plan, tally: &mut Tally) -> Result<(), Found> {
             runs::list(&mut rng, tally).map_err(found("a list"))?;
             let mut own = Rng::new(Rng::new(plan.seed ^ cycle << 20 ^ 2).draw());
             single::feeds(&mut own, tally).map_err(found("a throughput record"))?;
+            let mut own = Rng::new(Rng::new(plan.seed ^ cycle << 20 ^ 7).draw());
+            single::pages(&mut own, tally).map_err(found("a page"))?;
         }
         if more_images {
             for _ in 0..8 {
@@ -160,15 +165,23 @@ fn with_faults(_: Plan, _: Option<&str>) -> ExitCode {
     ExitCode::from(2)
 }
 
-/// What the command's words ask for: the plan, whether with faults, and which. None if they can't be read.
-fn asked() -> Option<(Plan, bool, Option<String>)> {
+/// What is to be run.
+enum Mode {
+    Ordinary,
+    /// All faults, or the one named.
+    Faults(Option<String>),
+    /// The program `page`.
+    Page,
+}
+
+/// What the command's words ask for. None if they can't be read.
+fn asked() -> Option<(Plan, Mode)> {
     let mut plan = Plan {
         seed: 1,
         calls: 1_500_000,
         images: 150_000,
     };
-    let mut faulty = false;
-    let mut fault = None;
+    let mut mode = Mode::Ordinary;
     let mut words = std::env::args().skip(1);
     while let Some(word) = words.next() {
         let field = match word.as_str() {
@@ -176,29 +189,33 @@ fn asked() -> Option<(Plan, bool, Option<String>)> {
             "--calls" => &mut plan.calls,
             "--images" => &mut plan.images,
             "--faults" => {
-                faulty = true;
+                mode = Mode::Faults(None);
                 continue;
             }
             "--fault" => {
-                faulty = true;
-                fault = words.next();
+                mode = Mode::Faults(words.next());
+                continue;
+            }
+            "--page" => {
+                mode = Mode::Page;
                 continue;
             }
             _ => return None,
         };
         *field = words.next()?.parse().ok()?;
     }
-    Some((plan, faulty, fault))
+    Some((plan, mode))
 }
 
 fn main() -> ExitCode {
-    let Some((plan, faulty, fault)) = asked() else {
+    let Some((plan, mode)) = asked() else {
         eprintln!("{USAGE}");
         return ExitCode::from(2);
     };
     call::hush_the_oracle();
-    match faulty {
-        true => with_faults(plan, fault.as_deref()),
-        false => ordinary(plan),
+    match mode {
+        Mode::Ordinary => ordinary(plan),
+        Mode::Faults(name) => with_faults(plan, name.as_deref()),
+        Mode::Page => program::run(plan),
     }
 }

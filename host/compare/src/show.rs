@@ -133,6 +133,7 @@ fn call(call: &Call) -> String {
             format!("load {} bytes: {}", bytes.len(), hex.join(" "))
         }
         Call::Feed { record, count } => throughput::show(record, *count),
+        Call::Page { size } => format!("page to {size} bytes"),
     }
 }
 

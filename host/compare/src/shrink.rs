@@ -8,6 +8,7 @@ use oracle::{
 use crate::call::{Call, Trouble};
 use crate::images::{self, Line};
 use crate::makers;
+use crate::page;
 use crate::runs::{before_last, replay, Case, Failure};
 use crate::throughput;
 
@@ -203,17 +204,23 @@ impl Change {
     }
 }
 
-/// A changed case whose buffers follow the length of the image.
+/// A changed case whose buffers follow the length of the image or page.
 fn resize_buffers(before: &Case, after: &Case) -> Option<Case> {
     let old = makers::image(&before.first)?.len();
     let new = makers::image(&after.first)?.len();
     let mut case = after.clone();
     let mut resized = false;
     for call in &mut case.calls {
-        if let Call::Write { size } = call {
-            *size = (*size + new).checked_sub(old)?;
-            resized = old != new;
-        }
+        let (size, new, old) = match call {
+            Call::Write { size } => (size, new, old),
+            Call::Page { size } => {
+                let lengths = [after, before].map(|case| page::length(&case.first.settings));
+                (size, lengths[0], lengths[1])
+            }
+            _ => continue,
+        };
+        *size = (*size + new).checked_sub(old)?;
+        resized = old != new;
     }
     resized.then_some(case)
 }
@@ -403,6 +410,9 @@ fn smaller_calls(floor: &Floor, call: &Call) -> Vec<Call> {
                 size: size.saturating_sub(1),
             },
         ],
+        Call::Page { size } => [size / 2, size.saturating_sub(1)]
+            .map(|size| Call::Page { size })
+            .into(),
         Call::Load { bytes } => images::smaller(bytes)
             .into_iter()
             .map(|bytes| Call::Load { bytes })

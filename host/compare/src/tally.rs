@@ -6,11 +6,11 @@ use oracle::{Floor, Grid, RoundAnswer, Side};
 
 use crate::call::{Call, Outcome, NAMES};
 use crate::{
-    arrows, blank, book_lists, exchange, hoppers, layouts, places, reasons, throughput, waits,
+    arrows, blank, book_lists, exchange, hoppers, layouts, page, places, reasons, throughput, waits,
 };
 
 /// The answers that each call can give, in the order of `NAMES`.
-const ANSWERS: [&[u8]; 14] = [
+const ANSWERS: [&[u8]; 15] = [
     &[0, 1, 2, 3],
     &[0, 30, 4, 5, 6, 7, 31, 33, 34],
     &[0, 30, 4, 8, 31],
@@ -25,6 +25,7 @@ const ANSWERS: [&[u8]; 14] = [
     &[0, 30, 4, 5, 6, 31, 33, 40],
     &[0, 42],
     &[0, 30, 41],
+    &[0, 30, 43],
 ];
 
 #[derive(Default)]
@@ -45,6 +46,7 @@ pub struct Tally {
     pub places: places::Counts,
     book_lists: book_lists::Counts,
     pub throughput: throughput::Counts,
+    page: page::Counts,
     pub settled: u64,
     /// Arrows kept and lists held to the bound in the runs for single requests.
     tied: [u64; 2],
@@ -94,6 +96,9 @@ impl Tally {
         }
         if let (Call::Feed { record, count }, Outcome::Fed(answer)) = (call, outcome) {
             self.throughput.note(record, *count, answer);
+        }
+        if let Call::Page { size } = call {
+            self.page.note(before, *size, outcome.refusal());
         }
         self.layouts.note(before, call, outcome.refusal());
         if let (Call::BookAnywhere { tile, number }, Outcome::Placed(answer)) = (call, outcome) {
@@ -169,6 +174,7 @@ impl Tally {
             self.hoppers.lines(),
             self.book_lists.lines(),
             self.throughput.lines(),
+            self.page.lines(),
         ];
         for (name, cells) in lines.into_iter().flatten() {
             print_line(&name, cells, &mut missing);
@@ -179,7 +185,8 @@ impl Tally {
                 missing.push(format!("{name}: never"));
             }
         }
-        for (name, count, least) in self.blank.events() {
+        let sizes = ("floor sizes that had a page", self.page.sizes(), 63);
+        for (name, count, least) in self.blank.events().into_iter().chain([sizes]) {
             println!("{name}: {count}");
             if count < least {
                 missing.push(format!("{name}: {count}, {least} are required"));

@@ -121,6 +121,14 @@ faults! {
     FlagNormal "flag-normal" "an open round makes 1 of a closed byte of 2"
     RefusedEmptied "refused-emptied" "a refusal empties the open window"
     NanQuieted "nan-quieted" "a refused record's signalling NaN comes back quiet"
+    SouthFirst "south-first" "the page begins with the south row"
+    DistanceLeft "distance-left" "a distance below 10 is left-aligned"
+    StoppedDashed "stopped-dashed" "a stopped tile's distance is -- on the page"
+    PageByteMore "page-byte-more" "a page takes one byte more"
+    PageBegun "page-begun" "a buffer that is short gets as much of the page as it holds"
+    ShortPageFirst "short-page-first" "43 before 30"
+    LettersSwapped "letters-swapped" "S and N are exchanged on the page"
+    ExactPage "exact-page" "43 for a buffer of exactly the page's length"
 }
 
 #[cfg(feature = "faults")]

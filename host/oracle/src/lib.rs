@@ -16,6 +16,7 @@ mod grid;
 mod image;
 mod layouts;
 mod list;
+mod page;
 pub mod random;
 pub mod reason;
 pub mod refusal;
@@ -30,6 +31,7 @@ pub use grid::{Grid, Side, Spot};
 pub use image::{load, write, LONGEST_IMAGE, STANDARD};
 pub use layouts::{forget, keep, name, recall};
 pub use list::{book_list, LONGEST_LIST};
+pub use page::{page, LONGEST_PAGE};
 pub use round::round;
 pub use throughput::{deliveries_of, feed, Fed, FeedAnswer, Throughput, WINDOW};
 pub use types::{

@@ -28,6 +28,8 @@ pub const COUNT_TOO_HIGH: u8 = 41;
 
 pub const LIST_TOO_LONG: u8 = 42;
 
+pub const SHORT_PAGE: u8 = 43;
+
 pub const BAD_NAME: u8 = 44;
 pub const NAME_NOT_HELD: u8 = 45;
 pub const LAYOUTS_FULL: u8 = 46;

@@ -7,7 +7,7 @@ use super::{arbitrary_floor, begin, damaged_floor, finish, list_settings, Failur
 use crate::call::{Call, Outcome};
 use crate::tally::Tally;
 use crate::throughput::{self, Follow};
-use crate::{arrows, blank, book_lists, exchange, layouts, makers, places};
+use crate::{arrows, blank, book_lists, exchange, layouts, makers, page, places};
 
 /// Every pair in either order, on a well-formed floor and on a damaged one.
 pub fn exchange_once(rng: &mut Rng, tally: &mut Tally) -> Result<(), Box<Failure>> {
@@ -216,6 +216,32 @@ pub fn feeds(rng: &mut Rng, tally: &mut Tally) -> Result<(), Box<Failure>> {
         run.tally.calls = calls;
         Ok(())
     })
+}
+
+/// Pages of a floor of any size, of another well-formed one and of a damaged
+/// one, to buffers of any size.
+pub fn pages(rng: &mut Rng, tally: &mut Tally) -> Result<(), Box<Failure>> {
+    let calls = tally.calls;
+    for at in 0..3 {
+        let (first, must) = match at {
+            0 => (page::any_floor(rng), None),
+            1 => (arbitrary_floor(rng), None),
+            _ => {
+                let (floor, known) = damaged_floor(rng, &mut Tally::new());
+                (floor, known.then_some(30))
+            }
+        };
+        finish(begin(first, at < 2, must), tally, |run| {
+            for _ in 0..3 {
+                run.case.calls.clear();
+                let size = page::buffer_size(rng, &first);
+                run.make(Call::Page { size })?;
+            }
+            Ok(())
+        })?;
+    }
+    tally.calls = calls;
+    Ok(())
 }
 
 /// A floor of which each hopper has a record, over thousands of rounds. Its

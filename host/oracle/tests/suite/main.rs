@@ -15,6 +15,7 @@ mod layout_images;
 mod layouts;
 mod lists;
 mod naive;
+mod page;
 mod reasons;
 mod refusals;
 mod rounds;
