@@ -15,7 +15,6 @@ use Rattle.laws.specs.Every.{All}
 use Rattle.laws.proofs.Tables.{tab-at, tab-off}
 use Rattle.laws.proofs.Tests.{by-test}
 use Rattle.floor.specs.declared.Settings.{Settings}
-use Rattle.floor.specs.declared.Signal.{Signal}
 use Rattle.floor.specs.declared.Floor.{Floor}
 use Rattle.floor.specs.Sides.{sides}
 use Rattle.floor.specs.Settings.{total}
@@ -25,7 +24,7 @@ use Rattle.floor.specs.Model.{TileState, Model, noTile, tileOf, runsOf, 
 use Rattle.floor.specs.Memory.{view}
 use Rattle.floor.specs.Well.{wellFormed}
 use Rattle.floor.specs.Route.{route}
-use Rattle.floor.specs.Signal.{missing, signalBy, grantOf}
+use Rattle.floor.specs.Signal.{Signal, missing, signalBy, grantOf}
 use Rattle.floor.specs.Calls.{stopped, repaired, stopTests, heldTests, recalled, afterRound, reportOf, roundAnswer}
 use Rattle.floor.specs.Demand3.{Call, book, anywhere, stop, repair, round, forget, recall, Typed, recallSet, isRound, roundsIn, outcome, floorAfter}
 use Rattle.floor.specs.Fairness.{wants, Waiting, granted, grantsIn, Fair, grantCount, turnOf, NobodyWaits, Fairness}

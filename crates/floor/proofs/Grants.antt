@@ -12,9 +12,8 @@ use Rattle.laws.proofs.Tests.{by-test, not-both, and-right}
 use Rattle.laws.proofs.Search.{any-mem, first-mem, first-none}
 use Rattle.floor.specs.declared.Canister.{Canister}
 use Rattle.floor.specs.declared.Settings.{Settings}
-use Rattle.floor.specs.declared.Signal.{Signal}
 use Rattle.floor.specs.Sides.{sides, after, following, chosen}
-use Rattle.floor.specs.Signal.{missing, signalWith, signalBy}
+use Rattle.floor.specs.Signal.{Signal, missing, signalWith, signalBy}
 use Rattle.floor.proofs.Grid.{side-after}
 
 -- ---- the token among the sides that want

@@ -9,13 +9,12 @@ use Rattle.laws.specs.Define.{refusal}
 use Rattle.laws.proofs.Tables.{tab-at}
 use Rattle.floor.specs.declared.Canister.{Canister}
 use Rattle.floor.specs.declared.Settings.{Settings}
-use Rattle.floor.specs.declared.Signal.{Signal}
 use Rattle.floor.specs.Sides.{chosen}
 use Rattle.floor.specs.Settings.{total}
 use Rattle.floor.specs.Grid.{neighbour, around}
 use Rattle.floor.specs.Model.{TileState, Model, noTile, tileOf, runs, distanceOf, withMembers}
 use Rattle.floor.specs.Route.{routeTile, route}
-use Rattle.floor.specs.Signal.{missing, granting, waiting, signalWith, signalBy, signalTile, shownNext, shownOf, signalOf}
+use Rattle.floor.specs.Signal.{Signal, missing, granting, waiting, signalWith, signalBy, signalTile, shownNext, shownOf, signalOf}
 use Rattle.floor.specs.Move.{wayOf, staying, membersNext, arriving, arrivals, moveTile}
 use Rattle.floor.specs.Reasons.{reasonTests, aheadOf, reasonOf, missingOf}
 

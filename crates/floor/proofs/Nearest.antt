@@ -13,12 +13,11 @@ use Rattle.laws.specs.Every.{All}
 use Rattle.laws.proofs.Lists.{all-imp}
 use Rattle.laws.proofs.SetBits.{bits-some}
 use Rattle.floor.specs.declared.Settings.{Settings}
-use Rattle.floor.specs.declared.Heading.{Heading}
 use Rattle.floor.specs.Sides.{bySide, sides}
 use Rattle.floor.specs.Settings.{total, isHopper, hoppersOf}
 use Rattle.floor.specs.Grid.{neighbour, around}
 use Rattle.floor.specs.Model.{TileState, Model, noTile, tileOf, runs, runsOf, distanceOf, nextOf, tokenOf, membersOf}
-use Rattle.floor.specs.Route.{nearer, nearest, liesAt, kept, onward, headingOf, routeTile, route}
+use Rattle.floor.specs.Route.{Heading, nearer, nearest, liesAt, kept, onward, headingOf, routeTile, route}
 use Rattle.floor.proofs.Sound.{Measured, Sound}
 use Rattle.floor.proofs.Grid.{at1, at2, at3, at4, each-side, chosen-side, side-pos}
 use Rattle.floor.proofs.Tables.{Whole, off-floor, run-on, table-each}

@@ -10,13 +10,12 @@ use lib.Dec.{ltb, eqb}
 use lib.ListN.{length}
 use borrow.Author.Tests.{ltb-true, eqb-true, lt-ltb, eq-eqb}
 use Rattle.floor.specs.declared.Canister.{Canister}
-use Rattle.floor.specs.declared.Signal.{Signal}
 use Rattle.floor.specs.Sides.{sides, opposite}
 use Rattle.floor.specs.Settings.{total}
 use Rattle.floor.specs.Grid.{neighbour}
 use Rattle.floor.specs.Model.{TileState, Model, runsOf, distanceOf, nextOf, tokenOf, membersOf}
 use Rattle.floor.specs.Route.{route}
-use Rattle.floor.specs.Signal.{requests, missing, signalBy, signalTile, shownOf, signalOf, grantOf}
+use Rattle.floor.specs.Signal.{Signal, requests, missing, signalBy, signalTile, shownOf, signalOf, grantOf}
 use Rattle.floor.specs.Move.{wayOf, leaving}
 use Rattle.floor.specs.Fairness.{wants}
 use Rattle.floor.proofs.Sound.{Sound}

@@ -13,13 +13,12 @@ use Rattle.laws.specs.Every.{All}
 use Rattle.laws.proofs.Tests.{by-test, not-both, and-right, and-true}
 use Rattle.floor.specs.declared.Canister.{Canister}
 use Rattle.floor.specs.declared.Settings.{Settings}
-use Rattle.floor.specs.declared.Signal.{Signal}
 use Rattle.floor.specs.Sides.{opposite, chosen}
 use Rattle.floor.specs.Settings.{spacing}
 use Rattle.floor.specs.Grid.{neighbour}
 use Rattle.floor.specs.Model.{Model, tileOf, runs, runsOf, nextOf, tokenOf, membersOf}
 use Rattle.floor.specs.Route.{route}
-use Rattle.floor.specs.Signal.{lack, missing, granting, waiting, signalWith, signalBy, signalOf, grantOf}
+use Rattle.floor.specs.Signal.{Signal, lack, missing, granting, waiting, signalWith, signalBy, signalOf, grantOf}
 use Rattle.floor.specs.Reasons.{reasonTests, aheadOf}
 use Rattle.floor.specs.Fairness.{wants, turnOf}
 use Rattle.floor.proofs.Sound.{Measured, Inside, Sound}

@@ -11,9 +11,8 @@ use Rattle.laws.specs.Define.{firstOf}
 use Rattle.laws.proofs.Tests.{not-both}
 use Rattle.floor.specs.declared.Canister.{Canister}
 use Rattle.floor.specs.declared.Settings.{Settings}
-use Rattle.floor.specs.declared.Signal.{Signal}
 use Rattle.floor.specs.Sides.{sides, after, following, chosen}
-use Rattle.floor.specs.Signal.{missing, signalWith, signalBy}
+use Rattle.floor.specs.Signal.{Signal, missing, signalWith, signalBy}
 use Rattle.floor.proofs.Grid.{at1, at2, at3, at4, each-side, side-pos}
 
 -- steps from side x on to side k

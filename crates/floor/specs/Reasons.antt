@@ -5,12 +5,11 @@ use Prim.Native.Nat.{ℕ}
 use lib.Dec.{ltb, eqb}
 use lib.ListN.{length}
 use Rattle.laws.specs.Define.{refusal}
-use Rattle.floor.specs.declared.Signal.{Signal}
 use Rattle.floor.specs.Sides.{opposite}
 use Rattle.floor.specs.Settings.{total}
 use Rattle.floor.specs.Grid.{neighbour}
 use Rattle.floor.specs.Model.{TileState, Model, tileOf, runs}
-use Rattle.floor.specs.Signal.{signalOf}
+use Rattle.floor.specs.Signal.{Signal, signalOf}
 
 -- "1 stopped, 2 empty when the round began, 3 no arrow, 4 the turn ahead was another's, 5 no gap, 6 moved": where none of the first five fits it did (`standing`); x the tile after Route, y what Signal gave the tile that its arrow leads to. "Judge after Signal, by the turn before it passed on."
 unfoldable pub reasonTests : TileState → Signal → List (Bool × ℕ)

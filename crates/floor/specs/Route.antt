@@ -4,11 +4,15 @@ use Prim.Native.Nat.{ℕ, _+_}
 use lib.Dec.{ltb, eqb}
 use Rattle.laws.specs.Define.{tab}
 use Rattle.floor.specs.declared.Settings.{Settings}
-use Rattle.floor.specs.declared.Heading.{Heading}
 use Rattle.floor.specs.Sides.{bySide}
 use Rattle.floor.specs.Settings.{total, isHopper}
 use Rattle.floor.specs.Grid.{around}
 use Rattle.floor.specs.Model.{TileState, Model, tileOf, runs, distanceOf, withTiles}
+
+-- a distance, and the side that it was read on
+pub record Heading : Type 0 where
+  pub distance : ℕ
+  pub side : ℕ
 
 -- the nearer of two; the earlier one where they are as near
 unfoldable pub nearer : Heading → ℕ → ℕ → Heading

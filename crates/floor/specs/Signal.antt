@@ -7,11 +7,17 @@ use lib.ListN.{length}
 use Rattle.laws.specs.Define.{tab}
 use Rattle.floor.specs.declared.Canister.{Canister}
 use Rattle.floor.specs.declared.Settings.{Settings}
-use Rattle.floor.specs.declared.Signal.{Signal}
 use Rattle.floor.specs.Sides.{west, south, north, east, bySide, following, chosen}
 use Rattle.floor.specs.Settings.{total, spacing}
 use Rattle.floor.specs.Grid.{around}
 use Rattle.floor.specs.Model.{TileState, Model, tileOf, runs, withTiles}
+
+-- what Signal gives a tile: its new turn, the side that it grants, the turn before it passed on, and the millimetres that are missing there
+pub record Signal : Type 0 where
+  pub token : ℕ
+  pub grant : ℕ
+  pub turn : ℕ
+  pub missing : ℕ
 
 -- what a tile shows its neighbours: its new arrow if it has canisters, else none
 abbrev pub shownNext : ℕ → ℕ → ℕ

@@ -240,21 +240,6 @@ pub struct Members {
     pub count: u8,
 }
 
-// A distance, and the side that it was read on.
-pub struct Heading {
-    pub distance: u8,
-    pub side: u8,
-}
-
-// What Signal gives a tile: its new token, the side that it grants, the turn before it passed on, and the millimetres that
-// are missing there.
-pub struct Signal {
-    pub token: u8,
-    pub grant: u8,
-    pub turn: u8,
-    pub missing: u32,
-}
-
 // The all-zero floor.
 pub fn zero_floor() -> Floor
     ensures { λ r. ⌜ r ≡ zeroFloor ⌝ }

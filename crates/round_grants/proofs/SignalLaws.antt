@@ -13,10 +13,9 @@ use borrow.Author.Tests.{lt-ltb, ne-eqb}
 use Rattle.laws.specs.Define.{firstOf}
 use Rattle.floor.specs.declared.Canister.{Canister}
 use Rattle.floor.specs.declared.Settings.{Settings}
-use Rattle.floor.specs.declared.Signal.{Signal}
 use Rattle.floor.specs.Sides.{opposite, after, following, chosen, inSet}
 use Rattle.floor.specs.Settings.{spacing}
-use Rattle.floor.specs.Signal.{requests, lack, missing, signalWith, signalBy}
+use Rattle.floor.specs.Signal.{Signal, requests, lack, missing, signalWith, signalBy}
 use Rattle.floor.proofs.SideTables.{setOf, set-of}
 
 -- ---- the sides that want: one side's bit where the neighbour there shows the opposite side

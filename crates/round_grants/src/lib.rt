@@ -9,7 +9,7 @@ ghost use Rattle.floor.specs.Sides as S;
 ghost use Rattle.floor.specs.Sides.{inSet};
 ghost use Rattle.floor.specs.Signal as G;
 ghost use Rattle.floor.specs.Signal.{requests};
-ghost use Rattle.round_grants.specs.TileSignal.{signalFrom};
+ghost use Rattle.round_grants.specs.TileSignal.{given, signalFrom};
 use floor::Canister;
 use floor::EAST;
 use floor::Members;
@@ -17,8 +17,16 @@ use floor::NORTH;
 use floor::SOUTH;
 use floor::Settings;
 use floor::Side;
-use floor::Signal;
 use floor::WEST;
+
+// What Signal gives a tile: its new turn, the side that it grants, the turn before it passed on, and the millimetres that
+// are missing there.
+pub struct Signal {
+    pub token: Side,
+    pub grant: Side,
+    pub turn: Side,
+    pub missing: u32,
+}
 
 // The set of one side, bit k - 1 for side k, if the neighbour there shows that it faces here; else the empty set.
 fn wanting(side: Side, shown: u8) -> u8
@@ -113,13 +121,13 @@ pub fn signal_tile(
     east: u8,
 ) -> Signal
     requires { ⌜ (token .code ≤ 4) × (members .count ≤ 16) ⌝ }
-    ensures { λ r. ⌜ r ≡ signalFrom s running (token .code) (take (members .count) (members .items)) west south north east ⌝ }
+    ensures { λ r. ⌜ given r ≡ signalFrom s running (token .code) (take (members .count) (members .items)) west south north east ⌝ }
 {
     if running != 1 {
         return Signal {
-            token: token.code,
-            grant: 0,
-            turn: token.code,
+            token: token,
+            grant: Side::NONE,
+            turn: token,
             missing: 0,
         };
     }
@@ -127,9 +135,9 @@ pub fn signal_tile(
     let side = chosen(set, token);
     if side.code == 0 {
         return Signal {
-            token: 0,
-            grant: 0,
-            turn: 0,
+            token: Side::NONE,
+            grant: Side::NONE,
+            turn: Side::NONE,
             missing: 0,
         };
     }
@@ -137,16 +145,16 @@ pub fn signal_tile(
     if short == 0 {
         let after = side.following(set);
         return Signal {
-            token: after.code,
-            grant: side.code,
-            turn: side.code,
+            token: after,
+            grant: side,
+            turn: side,
             missing: 0,
         };
     }
     Signal {
-        token: side.code,
-        grant: 0,
-        turn: side.code,
+        token: side,
+        grant: Side::NONE,
+        turn: side,
         missing: short,
     }
 }

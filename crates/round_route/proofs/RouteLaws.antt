@@ -6,12 +6,11 @@ use Prim.Native.Nat.{ℕ, zero, suc}
 use lib.Dec.{eqb}
 use lib.ListN.{getD}
 use Rattle.floor.specs.declared.Settings.{Settings}
-use Rattle.floor.specs.declared.Heading.{Heading}
 use Rattle.floor.specs.declared.Tile.{Tile}
 use Rattle.floor.specs.Settings.{total, isHopper}
 use Rattle.floor.specs.Grid.{neighbour}
 use Rattle.floor.specs.Memory.{zeroTile}
-use Rattle.floor.specs.Route.{nearest, liesAt, kept, onward, headingOf}
+use Rattle.floor.specs.Route.{Heading, nearest, liesAt, kept, onward, headingOf}
 use Rattle.round_route.specs.Routed.{within, distanceIn, headed, routedTile, routedAt}
 
 -- ---- the distance beyond a side, side by side

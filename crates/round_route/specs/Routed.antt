@@ -7,12 +7,12 @@ use lib.Dec.{ltb, eqb}
 use lib.ListN.{length, getD}
 use Rattle.laws.specs.Filled.{Upto, From}
 use Rattle.floor.specs.declared.Settings.{Settings}
-use Rattle.floor.specs.declared.Heading.{Heading}
 use Rattle.floor.specs.declared.Tile.{Tile}
 use Rattle.floor.specs.Settings.{total}
 use Rattle.floor.specs.Grid.{around}
 use Rattle.floor.specs.Memory.{zeroTile}
-use Rattle.floor.specs.Route.{headingOf}
+use Rattle.floor.specs.Route.{Heading, headingOf}
+use Rattle.round_route.specs.declared.Heading as H
 
 -- the first n of the 64 tiles made anew by g, the others as they were
 abbrev pub Redone : ℕ → (ℕ → Tile) → List Tile → List Tile → Type 0
@@ -24,6 +24,10 @@ within n g z u = cond (ltb u n) (g u) z
 
 abbrev pub distanceIn : List Tile → ℕ → ℕ
 distanceIn ts u = getD ts u zeroTile .distance
+
+-- a heading in memory as a value
+abbrev pub heading : H.Heading → Heading
+heading b = record { distance = b .distance; side = b .side .code }
 
 abbrev pub headed : Tile → Heading → Tile
 headed h b = record { running = h .running; distance = b .distance; next = record { code = b .side }; token = h .token; count = h .count }

@@ -5,9 +5,8 @@ ghost use Prim.Native.Nat.{_≤_};
 ghost use Rattle.laws.specs.Filled.{Upto};
 ghost use Rattle.floor.specs.Settings.{total, Ranged};
 ghost use Rattle.floor.specs.Route as R;
-ghost use Rattle.round_route.specs.Routed.{Redone, within, distanceIn, routedTile, routedAt};
+ghost use Rattle.round_route.specs.Routed.{Redone, heading, within, distanceIn, routedTile, routedAt};
 use floor::EAST;
-use floor::Heading;
 use floor::NORTH;
 use floor::SOUTH;
 use floor::Settings;
@@ -16,9 +15,15 @@ use floor::Tile;
 use floor::WEST;
 use sets::holds;
 
+// A distance, and the side that it was read on.
+pub struct Heading {
+    pub distance: u8,
+    pub side: Side,
+}
+
 // The nearer of two; the earlier one where they are as near.
-pub fn nearer(b: Heading, distance: u8, side: u8) -> Heading
-    ensures { λ r. ⌜ r ≡ R.nearer b distance side ⌝ }
+pub fn nearer(b: Heading, distance: u8, side: Side) -> Heading
+    ensures { λ r. ⌜ heading r ≡ R.nearer (heading b) distance (side .code) ⌝ }
 {
     if distance < b.distance {
         return Heading {
@@ -31,20 +36,25 @@ pub fn nearer(b: Heading, distance: u8, side: u8) -> Heading
 
 // The neighbour of least old distance. Ties: west, south, north, east.
 pub fn nearest(west: u8, south: u8, north: u8, east: u8) -> Heading
-    ensures { λ r. ⌜ r ≡ R.nearest west south north east ⌝ }
+    ensures { λ r. ⌜ heading r ≡ R.nearest west south north east ⌝ }
 {
     let first = Heading {
         distance: west,
-        side: 1,
+        side: Side::WEST,
     };
-    nearer(nearer(nearer(first, south, 2), north, 3), east, 4)
+    nearer(
+        nearer(nearer(first, south, Side::SOUTH), north, Side::NORTH),
+        east,
+        Side::EAST,
+    )
 }
 
 // Whether the neighbour on that side is at that distance; on side none there is no neighbour.
-fn lies_at(west: u8, south: u8, north: u8, east: u8, distance: u8, side: u8) -> bool
-    ensures { λ r. ⌜ r ≡ R.liesAt west south north east distance side ⌝ }
+fn lies_at(west: u8, south: u8, north: u8, east: u8, distance: u8, side: Side) -> bool
+    ensures { λ r. ⌜ r ≡ R.liesAt west south north east distance (side .code) ⌝ }
 {
-    match side {
+    let k = side.code;
+    match k {
         WEST => west == distance,
         SOUTH => south == distance,
         NORTH => north == distance,
@@ -54,8 +64,8 @@ fn lies_at(west: u8, south: u8, north: u8, east: u8, distance: u8, side: u8) -> 
 }
 
 // The nearest neighbour: the one that the present arrow, own, faces if it is among the nearest.
-fn kept(own: u8, west: u8, south: u8, north: u8, east: u8) -> Heading
-    ensures { λ r. ⌜ r ≡ R.kept own west south north east ⌝ }
+fn kept(own: Side, west: u8, south: u8, north: u8, east: u8) -> Heading
+    ensures { λ r. ⌜ heading r ≡ R.kept (own .code) west south north east ⌝ }
 {
     let b = nearest(west, south, north, east);
     if lies_at(west, south, north, east, b.distance, own) {
@@ -70,21 +80,22 @@ fn kept(own: u8, west: u8, south: u8, north: u8, east: u8) -> Heading
 // One more than the least; at the number of tiles or more it is none. None, 255, is tested first: one more is no byte.
 fn onward(all: u8, b: Heading) -> Heading
     requires { ⌜ all ≤ 64 ⌝ }
-    ensures { λ r. ⌜ r ≡ R.onward all b ⌝ }
+    ensures { λ r. ⌜ heading r ≡ R.onward all (heading b) ⌝ }
 {
     let least = b.distance;
     if least < 255 {
         let next = least + 1;
         if next < all {
+            let side = b.side;
             return Heading {
                 distance: next,
-                side: b.side,
+                side: side,
             };
         }
     }
     Heading {
         distance: 255,
-        side: 0,
+        side: Side::NONE,
     }
 }
 
@@ -107,10 +118,10 @@ pub fn route_tile(
         return tile;
     }
     let all = s.columns * s.rows;
-    let own = tile.next.code;
+    let own = tile.next;
     let near = kept(own, west, south, north, east);
     let b = onward(all, near);
-    let next = Side { code: b.side };
+    let next = b.side;
     let token = tile.token;
     Tile {
         running: tile.running,

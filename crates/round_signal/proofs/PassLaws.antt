@@ -12,7 +12,7 @@ use Rattle.laws.proofs.Tables.{upto-turn, rest-turn}
 use Rattle.floor.specs.declared.Canister.{Canister}
 use Rattle.floor.specs.declared.Settings.{Settings}
 use Rattle.floor.specs.declared.Tile.{Tile}
-use Rattle.floor.specs.declared.Signal.{Signal}
+use Rattle.floor.specs.Signal.{Signal}
 use Rattle.floor.specs.Settings.{total}
 use Rattle.floor.specs.Grid.{neighbour}
 use Rattle.floor.specs.Memory.{zeroTile, block}

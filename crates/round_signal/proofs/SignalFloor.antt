@@ -14,13 +14,12 @@ use Rattle.laws.proofs.Tables.{tab-length, tab-at, filled}
 use Rattle.floor.specs.declared.Canister.{Canister}
 use Rattle.floor.specs.declared.Tile.{Tile}
 use Rattle.floor.specs.declared.Floor.{Floor}
-use Rattle.floor.specs.declared.Signal.{Signal}
 use Rattle.floor.specs.Settings.{total}
 use Rattle.floor.specs.Sides.{opposite}
 use Rattle.floor.specs.Grid.{neighbour, around}
 use Rattle.floor.specs.Model.{TileState, Model, noTile, tileOf, runs, membersOf}
 use Rattle.floor.specs.Memory.{headOf, retiled, stateOf, block, view, head, pack, fits}
-use Rattle.floor.specs.Signal.{shownNext, shownOf, signalBy, signalTile, signalOf, grantOf, withToken, signal}
+use Rattle.floor.specs.Signal.{Signal, shownNext, shownOf, signalBy, signalTile, signalOf, grantOf, withToken, signal}
 use Rattle.floor.specs.Reasons.{reasonTests, aheadOf, reasonOf, missingOf}
 use Rattle.floor.proofs.Rows.{view-at}
 use Rattle.floor.proofs.Pack.{few-on, head-state, pack-heads}

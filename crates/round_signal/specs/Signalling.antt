@@ -10,12 +10,11 @@ use Rattle.laws.specs.Filled.{Upto, From}
 use Rattle.floor.specs.declared.Canister.{Canister}
 use Rattle.floor.specs.declared.Settings.{Settings}
 use Rattle.floor.specs.declared.Tile.{Tile}
-use Rattle.floor.specs.declared.Signal.{Signal}
 use Rattle.floor.specs.Settings.{total}
 use Rattle.floor.specs.Sides.{opposite}
 use Rattle.floor.specs.Grid.{neighbour, around}
 use Rattle.floor.specs.Memory.{zeroTile, block}
-use Rattle.floor.specs.Signal.{shownNext}
+use Rattle.floor.specs.Signal.{Signal, shownNext}
 use Rattle.round_route.specs.Routed.{within}
 use Rattle.round_grants.specs.TileSignal.{signalFrom}
 

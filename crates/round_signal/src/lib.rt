@@ -55,11 +55,10 @@ pub fn shown(s: Settings, tiles: [Tile; 64]) -> [u8; 65]
 }
 
 // The tile with another token.
-fn with_token(tile: Tile, k: u8) -> Tile
-    ensures { λ r. ⌜ r ≡ tokened tile k ⌝ }
+fn with_token(tile: Tile, token: Side) -> Tile
+    ensures { λ r. ⌜ r ≡ tokened tile (token .code) ⌝ }
 {
     let next = tile.next;
-    let token = Side { code: k };
     Tile {
         running: tile.running,
         distance: tile.distance,
@@ -138,8 +137,8 @@ pub fn signal_pass(s: Settings, tiles: [Tile; 64], canisters: [Canister; 1024]) 
         let east = show[Side::EAST.neighbour(s, t)];
         let one = signal_tile(s, tile.running, token, members, west, south, north, east);
         out[t] = with_token(tile, one.token);
-        grants[t] = one.grant;
-        turns[t] = one.turn;
+        grants[t] = one.grant.code;
+        turns[t] = one.turn.code;
         lacks[t] = one.missing;
     }
     let mut reasons = [0u8; 64];

@@ -14,10 +14,10 @@ lies-at-requires : tie.Need-lies-at-requires
 lies-at-requires c κs = search needs
 
 returns : tie.Need-returns
-returns c = let g = c .before .before .before .args in kept-yes g.own g.west g.south g.north g.east (c .before .before .nearest .ensures) (c .before .lies-at .ensures) (c .if1 .taken)
+returns c = let g = c .before .before .before .args in kept-yes (g.own .code) g.west g.south g.north g.east (c .before .before .nearest .ensures) (c .before .lies-at .ensures) (c .if1 .taken)
 
 returns-2 : tie.Need-returns-2
-returns-2 c = let g = c .before .before .before .args in kept-no g.own g.west g.south g.north g.east (c .before .before .nearest .ensures) (c .before .lies-at .ensures) (c .if1 .left)
+returns-2 c = let g = c .before .before .before .args in kept-no (g.own .code) g.west g.south g.north g.east (c .before .before .nearest .ensures) (c .before .lies-at .ensures) (c .if1 .left)
 
 pub kept-spec : {M : Type 1} → statement M
 kept-spec = tie.close (tie.spec nearest-requires lies-at-requires returns returns-2)

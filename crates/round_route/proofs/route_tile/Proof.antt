@@ -25,14 +25,14 @@ kept-requires : tie.Need-kept-requires
 kept-requires c κs = search needs
 
 onward-requires : tie.Need-onward-requires
-onward-requires c κs = c .before .before .before .before .before .pre
+onward-requires c κs = c .before .before .before .before .before .before .pre
 
 returns-2 : tie.Need-returns-2
 unfolding isHopper
 returns-2 c =
-    let g = c .before .before .before .before .before .before .before .args in
-    let e = rw (c .before .before .kept .ensures) at (c .before .onward .ensures) in
-    ap (headed g.tile) e ∙ tile-on g.s g.t g.tile g.west g.south g.north g.east (rw (c .before .before .before .before .before .before .holds .ensures) at (c .before .before .before .before .if1 .left))
+    let g = c .before .before .before .before .before .before .before .before .before .args in
+    let e = rw (c .before .before .before .kept .ensures) at (c .before .before .onward .ensures) in
+    ap (headed g.tile) e ∙ tile-on g.s g.t g.tile g.west g.south g.north g.east (rw (c .before .before .before .before .before .before .before .before .holds .ensures) at (c .before .before .before .before .before .before .if1 .left))
 
 pub route-tile-spec : {M : Type 1} → statement M
 route-tile-spec =

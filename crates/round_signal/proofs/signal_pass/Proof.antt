@@ -4,7 +4,7 @@ use native.Mathlib.Omega.{arith}
 use lib.ListN.{getD, length-set}
 use lib.Seq.{take-all}
 use Rattle.laws.proofs.Tables.{copy-turn}
-use Rattle.floor.specs.declared.Signal.{Signal}
+use Rattle.floor.specs.Signal.{Signal}
 use Rattle.floor.specs.Settings.{total, Ranged}
 use Rattle.floor.specs.Memory.{zeroTile, zeroCanister, block}
 use Rattle.round_route.proofs.Passes.{shows-near, near-read, redone-none, redone-turn, redone-end}
@@ -210,8 +210,8 @@ loop-again c =
       tiles-length = o .inv .tiles-length;
       canisters-length = o .inv .canisters-length;
       tokened = redone-turn (M.tileAt g.s g.t2 g.t3) g.t2 (o .out) (o .t) (c .with-token .result) here (o .inv .tokened) (c .with-token .ensures ∙ ap (λ (x : Signal). M.tokened h (x .token)) v);
-      granted = granted-turn 64 (M.grantAt g.s g.t2 g.t3) (o .grants) (o .t) (r .result .grant) here (o .inv .granted) (ap (λ (x : Signal). x .grant) v);
-      turned = granted-turn 65 (M.turnAt g.s g.t2 g.t3) (o .turns) (o .t) (r .result .turn) (omega (arith, here)) (o .inv .turned) (ap (λ (x : Signal). x .turn) v);
+      granted = granted-turn 64 (M.grantAt g.s g.t2 g.t3) (o .grants) (o .t) (r .result .grant .code) here (o .inv .granted) (ap (λ (x : Signal). x .grant) v);
+      turned = granted-turn 65 (M.turnAt g.s g.t2 g.t3) (o .turns) (o .t) (r .result .turn .code) (omega (arith, here)) (o .inv .turned) (ap (λ (x : Signal). x .turn) v);
       lacking = granted-turn 65 (M.lackAt g.s g.t2 g.t3) (o .lacks) (o .t) (r .result .missing) (omega (arith, here)) (o .inv .lacking) (ap (λ (x : Signal). x .missing) v);
     }
 
