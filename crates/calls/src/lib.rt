@@ -24,7 +24,6 @@ use floor::Reading;
 use floor::Report;
 use floor::Rounded;
 use floor::Settings;
-use floor::Side;
 use floor::Tile;
 use floor::refusals;
 use floor::zero_floor;
@@ -106,16 +105,9 @@ pub fn repair(floor: Floor, tile: u32) -> Answer
 fn unread(n: u8) -> Reading
     ensures { λ r. ⌜ r ≡ unreadWith n ⌝ }
 {
-    let none = Side::NONE;
     Reading {
         refusal: n,
-        tile: Tile {
-            running: 0,
-            distance: 0,
-            next: none,
-            token: none,
-            count: 0,
-        },
+        tile: Tile::ZERO,
         members: [Canister::ZERO; 16],
     }
 }
@@ -145,15 +137,11 @@ pub fn read(floor: Floor, tile: u32) -> Reading
 fn no_report() -> Report
     ensures { λ r. ⌜ r ≡ zeroReport ⌝ }
 {
-    let none = Delivery {
-        numbers: [0; 4],
-        count: 0,
-    };
     Report {
         grants: [0; 64],
         reasons: [0; 64],
         missing: [0; 64],
-        deliveries: [none; 4],
+        deliveries: [Delivery::ZERO; 4],
     }
 }
 

@@ -23,17 +23,7 @@ pub struct Session {
 }
 
 pub fn begin() -> Session {
-    let nothing = Settings {
-        columns: 0,
-        rows: 0,
-        hoppers: 0,
-        sources: 0,
-        width: 0,
-        length: 0,
-        gap: 0,
-        travel: 0,
-    };
-    let none = calls::fresh(nothing);
+    let none = calls::fresh(Settings::ZERO);
     let floor = none.floor;
     let entries = console_list::none(false);
     let records = console_throughput::begin();

@@ -123,6 +123,16 @@ pub struct Tile {
     pub count: u8,
 }
 
+impl Tile {
+    pub const ZERO: Tile = Tile {
+        running: 0,
+        distance: 0,
+        next: Side::NONE,
+        token: Side::NONE,
+        count: 0,
+    };
+}
+
 // W, H, the hopper set, the fill set, U, l, r and v. A set has bit t for tile t.
 #[repr(C)]
 pub struct Settings {
@@ -137,6 +147,17 @@ pub struct Settings {
 }
 
 impl Settings {
+    pub const ZERO: Settings = Settings {
+        columns: 0,
+        rows: 0,
+        hoppers: 0,
+        sources: 0,
+        width: 0,
+        length: 0,
+        gap: 0,
+        travel: 0,
+    };
+
     // C, the number of tiles.
     pub fn tile_count(self) -> usize
         ensures { λ r. ⌜ r ≡ total self ⌝ }
@@ -160,6 +181,14 @@ pub struct Counters {
     pub delivered: [u32; 4],
 }
 
+impl Counters {
+    pub const ZERO: Counters = Counters {
+        last: 0,
+        booked: 0,
+        delivered: [0; 4],
+    };
+}
+
 // A name as its eight bytes, the first letter first, zero filled.
 #[repr(C)]
 pub struct Name {
@@ -171,6 +200,11 @@ pub struct Name {
 pub struct Layout {
     pub name: u64,
     pub set: u64,
+}
+
+impl Layout {
+    // What stands in a place without a layout.
+    pub const ZERO: Layout = Layout { name: 0, set: 0 };
 }
 
 // A floor. The canisters of tile t stand from place 16 * t on, by rising number, the layouts by rising name; unused places are zero.
@@ -188,6 +222,13 @@ pub struct Floor {
 pub struct Delivery {
     pub numbers: [u32; 4],
     pub count: u8,
+}
+
+impl Delivery {
+    pub const ZERO: Delivery = Delivery {
+        numbers: [0; 4],
+        count: 0,
+    };
 }
 
 // What a round reports: the side that each tile granted; why each tile stood, 6 where it moved, and the millimetres missing
@@ -244,33 +285,11 @@ pub struct Members {
 pub fn zero_floor() -> Floor
     ensures { λ r. ⌜ r ≡ zeroFloor ⌝ }
 {
-    let none = Side::NONE;
-    let tile = Tile {
-        running: 0,
-        distance: 0,
-        next: none,
-        token: none,
-        count: 0,
-    };
-    let layout = Layout { name: 0, set: 0 };
     Floor {
-        settings: Settings {
-            columns: 0,
-            rows: 0,
-            hoppers: 0,
-            sources: 0,
-            width: 0,
-            length: 0,
-            gap: 0,
-            travel: 0,
-        },
-        counters: Counters {
-            last: 0,
-            booked: 0,
-            delivered: [0; 4],
-        },
-        tiles: [tile; 64],
+        settings: Settings::ZERO,
+        counters: Counters::ZERO,
+        tiles: [Tile::ZERO; 64],
         canisters: [Canister::ZERO; 1024],
-        layouts: [layout; 8],
+        layouts: [Layout::ZERO; 8],
     }
 }

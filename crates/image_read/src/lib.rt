@@ -95,24 +95,10 @@ pub fn refused(n: u8) -> Answer
 fn no_front(fault: u8) -> Front
     ensures { λ r. ⌜ r .fault ≡ fault ⌝ }
 {
-    let layout = Layout { name: 0, set: 0 };
     Front {
-        settings: Settings {
-            columns: 0,
-            rows: 0,
-            hoppers: 0,
-            sources: 0,
-            width: 0,
-            length: 0,
-            gap: 0,
-            travel: 0,
-        },
-        counters: Counters {
-            last: 0,
-            booked: 0,
-            delivered: [0; 4],
-        },
-        layouts: [layout; 8],
+        settings: Settings::ZERO,
+        counters: Counters::ZERO,
+        layouts: [Layout::ZERO; 8],
         count: 0,
         next: 0,
         fault: fault,

@@ -53,31 +53,11 @@ pub struct Laid {
 fn unread(fault: u8) -> Found
     ensures { λ r. ⌜ r .fault ≡ fault ⌝ }
 {
-    let none = Side::NONE;
     Found {
-        settings: Settings {
-            columns: 0,
-            rows: 0,
-            hoppers: 0,
-            sources: 0,
-            width: 0,
-            length: 0,
-            gap: 0,
-            travel: 0,
-        },
-        counters: Counters {
-            last: 0,
-            booked: 0,
-            delivered: [0; 4],
-        },
-        layout: Layout { name: 0, set: 0 },
-        tile: Tile {
-            running: 0,
-            distance: 0,
-            next: none,
-            token: none,
-            count: 0,
-        },
+        settings: Settings::ZERO,
+        counters: Counters::ZERO,
+        layout: Layout::ZERO,
+        tile: Tile::ZERO,
         fault: fault,
     }
 }
@@ -336,8 +316,7 @@ pub fn scan_layouts(s: &[u8], from: usize) -> Laid
     requires { ⌜ from ≤ length (now s) ⌝ }
     ensures { λ r. ⌜ (r .fault ≡ laidFault 8 (drop from (now (s .entry)))) × (r .fault ≡ 0 → Laying (now (s .entry)) from (r .count) (r .layouts)) ⌝ }
 {
-    let zero = Layout { name: 0, set: 0 };
-    let mut layouts = [zero; 8];
+    let mut layouts = [Layout::ZERO; 8];
     let mut at = from;
     let mut n = 0usize;
     while n < 8 {
@@ -374,15 +353,7 @@ pub fn scan_tiles(s: &[u8], from: usize, c: usize) -> Scan
     requires { ⌜ (from ≤ length (now s)) × (c ≤ 64) ⌝ }
     ensures { λ r. ⌜ (r .fault ≡ tilesFault c 0 (drop from (now (s .entry)))) × (r .fault ≡ 0 → Starts (now (s .entry)) (drop from (now (s .entry))) (r .starts) c × (r .tiles ≡ tab 64 (λ t. head (getD (tilesIn c (drop from (now (s .entry)))) t unused)))) ⌝ }
 {
-    let none = Side::NONE;
-    let zero = Tile {
-        running: 0,
-        distance: 0,
-        next: none,
-        token: none,
-        count: 0,
-    };
-    let mut tiles = [zero; 64];
+    let mut tiles = [Tile::ZERO; 64];
     let mut starts = [0usize; 64];
     let mut at = from;
     let mut t = 0usize;

@@ -1,7 +1,6 @@
 // A floor with two layouts, and what makes them malformed.
 use floor::Floor;
 use floor::Layout;
-use floor::Name;
 use trials_tally::Tally;
 use trials_tally::floors;
 
@@ -53,7 +52,7 @@ fn unsorted(f: Floor) -> Floor {
 // The first place free, the second used.
 fn hole(f: Floor) -> Floor {
     let mut g = f;
-    g.layouts[0] = Layout { name: 0, set: 0 };
+    g.layouts[0] = Layout::ZERO;
     g
 }
 

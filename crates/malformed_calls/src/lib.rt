@@ -7,7 +7,6 @@ use floor::Floor;
 use floor::Layout;
 use floor::Report;
 use floor::Settings;
-use floor::Side;
 use floor::Tile;
 use trials_tally::floors;
 
@@ -129,16 +128,9 @@ fn no_canisters(members: [Canister; 16]) -> bool {
 
 fn empty_reading(f: Floor) -> bool {
     let r = calls::read(f, 0);
-    let zero = Tile {
-        running: 0,
-        distance: 0,
-        next: Side::NONE,
-        token: Side::NONE,
-        count: 0,
-    };
     let t = r.tile;
     let members = r.members;
-    (r.refusal == 30) & same_tile(t, zero) & no_canisters(members)
+    (r.refusal == 30) & same_tile(t, Tile::ZERO) & no_canisters(members)
 }
 
 // Whether every byte is still 7.
