@@ -1,4 +1,4 @@
-use mathlib.Core.Path.{_∙_}
+use mathlib.Core.Path.{_≡_, _∙_}
 use mathlib.Core.Logic.{_≢_}
 use Prim.Native.Nat.{ℕ, zero, suc, _+_, _≤_}
 use native.Mathlib.Omega.{arith}
@@ -166,10 +166,11 @@ returns-13 : tie.Need-returns-13
 returns-13 c =
     let g = c .before .before .before .before .before .before .before .args in
     let k = c .before .before .u16-at2 .ensures in
-    let z = c .before .match .rest in (
-      c .unread8 .ensures ∙ record-other (g.s .now) g.at g.due g.tile _ (c .before .before .before .before .u16-at .ensures) (omega arith) (omega arith)
+    let z = c .before .match .rest in
+    let told : c .unread8 .result .fault ≡ 10 = c .unread8 .ensures in (
+      told ∙ record-other (g.s .now) g.at g.due g.tile _ (c .before .before .before .before .u16-at .ensures) (omega arith) (omega arith)
           (λ e. other _ g.due (z .0 .0 .0 .0 .1) (z .0 .0 .0 .1) (z .0 .0 .1) (z .0 .1) (z .1) (omega arith) (omega arith) (k ∙ e)),
-      λ y. absurd (omega (arith, c .unread8 .ensures, y)),
+      λ y. absurd (omega (arith, told, y)),
     )
 
 add-read-counters : tie.Need-add-read-counters
