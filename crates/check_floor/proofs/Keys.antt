@@ -4,8 +4,8 @@ use mathlib.Core.List.{List}
 use Prim.Native.Nat.{ℕ, zero, suc, _+_, _-_, _*_, _≤_, _<_}
 use native.Mathlib.Omega.{arith}
 use native.Mathlib.Decide.{decLe}
-use lib.ListN.{length, getD, set, drop, replicate, length-map, List·getD-map}
-use lib.Seq.{ext-getD, getD-take, getD-drop}
+use lib.ListN.{length, getD, set, replicate, length-map, List·getD-map}
+use lib.Seq.{ext-getD}
 use Rattle.laws.specs.Filled.{Upto, From}
 use Rattle.laws.proofs.Tables.{upto-turn, rest-turn}
 use Rattle.floor.specs.declared.Canister.{Canister}

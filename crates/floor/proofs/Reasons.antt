@@ -16,7 +16,7 @@ use Rattle.floor.specs.declared.Settings.{Settings}
 use Rattle.floor.specs.Sides.{opposite, chosen}
 use Rattle.floor.specs.Settings.{spacing}
 use Rattle.floor.specs.Grid.{neighbour}
-use Rattle.floor.specs.Model.{Model, tileOf, runs, runsOf, nextOf, tokenOf, membersOf}
+use Rattle.floor.specs.Model.{Model, tileOf, runsOf, nextOf, tokenOf, membersOf}
 use Rattle.floor.specs.Route.{route}
 use Rattle.floor.specs.Signal.{Signal, lack, missing, granting, waiting, signalWith, signalBy, signalOf, grantOf}
 use Rattle.floor.specs.Reasons.{reasonTests, aheadOf}

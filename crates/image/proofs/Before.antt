@@ -3,7 +3,7 @@ use mathlib.Core.Path.{_≡_, subst, _∙_}
 use mathlib.Core.Bool.{true, false}
 use mathlib.Core.List.{List, [], _∷_, _++_}
 use Prim.Native.Nat.{ℕ}
-use lib.ListN.{length, getD}
+use lib.ListN.{getD}
 use Rattle.laws.specs.Define.{tab}
 use Rattle.image_bytes.specs.Bytes.{bytesOf}
 use Rattle.floor.specs.declared.Settings.{Settings}

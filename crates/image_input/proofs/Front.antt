@@ -1,25 +1,24 @@
 -- No byte after the first 74,591 changes what an image answers: 9,052 before the last record, and 65,539 of a record.
 use mathlib.Core.Path.{_≡_, refl, sym, ap, _∙_}
 use mathlib.Core.Logic.{_⊎_, inl, inr, _≢_}
-use mathlib.Core.Bool.{Bool, true, false, cond, not, _&&_}
+use mathlib.Core.Bool.{Bool, true, false}
 use mathlib.Core.List.{List, [], _∷_}
-use Prim.Native.Nat.{ℕ, zero, suc, _+_, _-_, _*_, _^_, _≤_, _<_}
+use Prim.Native.Nat.{ℕ, zero, suc, _+_, _-_, _*_, _≤_, _<_}
 use native.Mathlib.Omega.{arith}
 use native.Mathlib.Decide.{decLe}
-use lib.Dec.{leb, ltb, eqb}
+use lib.Dec.{ltb, eqb}
 use borrow.Author.Tests.{eqb-true, eqb-false, ne-eqb, le-leb, lt-ltb, le-ltb}
-use lib.ListN.{length, take, drop, getD, length-drop}
+use lib.ListN.{length, take, drop, length-drop}
 use lib.Seq.{take-nil, take-all, length-take-le}
 use Rattle.laws.specs.Define.{refusal}
 use Rattle.laws.proofs.Tests.{by-test}
 use Rattle.image_bytes.specs.Bytes.{le, fieldsOf, width, Bytes}
 use Rattle.image_bytes.proofs.ByteLaws.{bytes-drop}
 use Rattle.floor.specs.declared.Settings.{Settings}
-use Rattle.floor.specs.declared.Answer.{Answer}
 use Rattle.floor.specs.Settings.{total}
 use Rattle.floor.specs.Memory.{zeroFloor}
-use Rattle.image.specs.Image.{settingsWidths, tileWidths, hopperCount, lengthIn, kindIn, bodyIn, restIn, settingsIn, isLayout, afterLayouts, modelIn, byteWrong, settingsFaults, countersFaults, tileFaults, layoutFaults, endFaults, ownFaults, recordFault, orElse, endFault, tilesFault, laidFault, fault, answerBy, imageRefusal, imageAnswer, loadAnswer}
-use Rattle.image.proofs.Records.{Whole, whole, kind-take}
+use Rattle.image.specs.Image.{settingsWidths, tileWidths, hopperCount, lengthIn, kindIn, bodyIn, restIn, settingsIn, isLayout, afterLayouts, byteWrong, settingsFaults, tileFaults, ownFaults, recordFault, orElse, endFault, tilesFault, laidFault, fault, answerBy, imageRefusal, imageAnswer, loadAnswer}
+use Rattle.image.proofs.Records.{whole, kind-take}
 use Rattle.image.proofs.Layouts.{layout-good, bothFault}
 use Rattle.image.proofs.LoadedWrites.{tile-good, end-good, counters-good, settings-good}
 use Rattle.image.proofs.Read.{first-measured}

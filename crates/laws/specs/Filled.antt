@@ -2,7 +2,7 @@
 use mathlib.Core.Path.{_≡_}
 use mathlib.Core.List.{List}
 use Prim.Native.Nat.{ℕ, _≤_, _<_}
-use lib.ListN.{length, getD}
+use lib.ListN.{getD}
 
 -- ---- a loop that fills a list: right below t, whatever stands above
 abbrev pub Upto : {A : Type 0} → ℕ → (ℕ → A) → A → List A → Type 0

@@ -1,9 +1,9 @@
 -- What a hopper takes in, listed.
 use mathlib.Core.Path.{_≡_, refl, sym, ap, _∙_}
 use mathlib.Core.List.{List, [], _∷_}
-use Prim.Native.Nat.{ℕ, zero, suc, _<_}
+use Prim.Native.Nat.{ℕ, zero, suc}
 use native.Mathlib.Omega.{arith}
-use lib.ListN.{length, getD, length-map}
+use lib.ListN.{getD, length-map}
 use Rattle.laws.specs.Define.{tab}
 use Rattle.laws.proofs.Tables.{tab-same}
 use Rattle.floor.specs.declared.Canister.{Canister}

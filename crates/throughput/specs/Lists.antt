@@ -1,7 +1,7 @@
 -- Document 02's [2] over whole lists of counts. Definitions only; the theorem's statement is `Feeds` of specs/Feeds.
 use mathlib.Core.Bool.{cond}
 use mathlib.Core.List.{List, [], _∷_, _++_}
-use Prim.Native.Nat.{ℕ, _+_, _*_, _/_, _%_, min, max}
+use Prim.Native.Nat.{ℕ, _*_, _/_, _%_, min, max}
 use lib.Dec.{leb, eqb}
 use lib.ListN.{length, take, drop}
 use lib.Ieee.{Float}

@@ -7,7 +7,6 @@ use borrow.Author.Tests.{ltb-true}
 use Rattle.laws.proofs.Tests.{and-left, and-right}
 use Rattle.floor.specs.Memory.{zeroCanister}
 use Rattle.laws.specs.Every.{All}
-use Rattle.floor.specs.Settings.{spacing}
 use Rattle.book_search.proofs.Search.{Ahead, ahead-lower, ahead-stay}
 use borrow.Author.Needs.{needs}
 use Rattle.book_search.proofs.next_b.Statement.{statement}

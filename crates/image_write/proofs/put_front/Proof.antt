@@ -1,5 +1,3 @@
-use mathlib.Core.Path.{_∙_}
-use Prim.Native.Nat.{_+_, _*_}
 use native.Mathlib.Omega.{arith}
 use Rattle.image_write.proofs.ImageBytes.{first-is, more-is, front-long, front-put}
 use borrow.Author.Needs.{needs}

@@ -1,9 +1,9 @@
 use mathlib.Core.Path.{_≡_, ap, _∙_}
 use mathlib.Core.List.{[], _∷_}
-use Prim.Native.Nat.{ℕ, _+_, _-_}
+use Prim.Native.Nat.{ℕ, _+_}
 use native.Mathlib.Omega.{arith}
 use Rattle.image_bytes.specs.Put.{put}
-use Rattle.image_bytes.proofs.PutLaws.{put-three, bytes-one}
+use Rattle.image_bytes.proofs.PutLaws.{bytes-one}
 use Rattle.image_record_write.proofs.RecordBytes.{put-four}
 use Rattle.page_call.specs.Page.{two, letter, distanceText, cell}
 use Rattle.page_call.proofs.Laws.{two-length, distance-length}

@@ -5,7 +5,7 @@ use lib.ListN.{getD, length-set}
 use lib.Seq.{take-all}
 use Rattle.laws.proofs.Tables.{copy-turn}
 use Rattle.floor.specs.Signal.{Signal}
-use Rattle.floor.specs.Settings.{total, Ranged}
+use Rattle.floor.specs.Settings.{total}
 use Rattle.floor.specs.Memory.{zeroTile, zeroCanister, block}
 use Rattle.round_route.proofs.Passes.{shows-near, near-read, redone-none, redone-turn, redone-end}
 use Rattle.round_signal.specs.Signalling as M
