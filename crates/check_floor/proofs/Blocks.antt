@@ -1,8 +1,8 @@
 -- The canisters and numbers of a floor whose tiles fit, from its sixteen places a tile.
 use mathlib.Core.Path.{_≡_, sym, ap, _∙_}
 use mathlib.Core.Bool.{true, false, not, _&&_}
-use mathlib.Core.List.{List, [], _∷_, _++_, append-nil, List·Permᴰ·trans}
-use Prim.Native.Nat.{ℕ, zero, suc, _+_, _*_, _≤_, _<_}
+use mathlib.Core.List.{List, [], _++_, append-nil, List·Permᴰ·trans}
+use Prim.Native.Nat.{ℕ, _+_, _*_, _≤_, _<_}
 use native.Mathlib.Omega.{arith}
 use lib.Dec.{ltb, eqb}
 use lib.ListN.{length, getD, take, drop, take-append-drop, length-drop, length-map, List·getD-map}
@@ -11,7 +11,7 @@ use borrow.Author.Tests.{lt-ltb, eqb-true}
 use Rattle.laws.specs.Define.{cat, keep, allOf, pairsOf}
 use Rattle.laws.specs.Every.{All, Pairs}
 use Rattle.laws.proofs.Tests.{and-left, and-right}
-use Rattle.laws.proofs.Lists.{all-imp, all-map, all-true, keep-all, keep-none, keep-append, map-append, perm-of}
+use Rattle.laws.proofs.Lists.{all-imp, all-map, all-true, keep-all, keep-none, keep-append, map-append, perm-of, all-place}
 use Rattle.floor.specs.declared.Canister.{Canister}
 use Rattle.floor.specs.declared.Tile.{Tile}
 use Rattle.floor.specs.declared.Floor.{Floor}
@@ -134,11 +134,6 @@ module _ (f : Floor) (lc : length (f .canisters) ≡ 1024) (few : total (f .sett
       each = cat-same 64 (λ t. keep (λ k. ltb 0 k) (take 16 (drop (16 * t) (numbers (f .canisters))))) (λ t. numbers (usedOf f t)) kept-part
 
 -- ---- the places as the test for differing numbers wants them
-all-get : {A : Type 0} (P : A → Type 0) (z : A) (l : List A) → All P l → (i : ℕ) → i < length l → P (getD l i z)
-all-get P z [] h i l = absurd (omega arith)
-all-get P z (x ∷ xs) h zero l = h .0
-all-get P z (x ∷ xs) h (suc i) l = all-get P z xs (h .1) i (omega arith)
-
 number-at : (cs : List Canister) (t i : ℕ) → i < 16 → getD (numbers cs) (16 * t + i) 0 ≡ getD (block cs t) i zeroCanister .number
 number-at cs t i h =
     List·getD-map (λ (c : Canister). c .number) cs (16 * t + i) zeroCanister
@@ -163,6 +158,6 @@ runs-view f lc fit pos rise = runs-of (numbers (f .canisters)) (λ t. headOf f t
         → (0 < getD (numbers (f .canisters)) (16 * t + j) 0) × (getD (numbers (f .canisters)) (16 * t + j) 0 < getD (numbers (f .canisters)) (16 * t + k) 0)
     up t j k h l m =
         let len = used-length f t lc h (fit t h) in
-        let p : 0 < getD (usedOf f t) j zeroCanister .number = all-get (λ (c : Canister). 0 < c .number) zeroCanister (usedOf f t) (pos t h) j (omega arith) in
+        let p : 0 < getD (usedOf f t) j zeroCanister .number = all-place (λ (c : Canister). 0 < c .number) zeroCanister (usedOf f t) (pos t h) j (omega arith) in
         let q : getD (usedOf f t) j zeroCanister .number < getD (usedOf f t) k zeroCanister .number = pairs-place (λ (x y : Canister). x .number < y .number) zeroCanister (usedOf f t) (rise t h) j k l (omega arith) in
         rw (used-at t j h (omega arith), used-at t k h m) (p, q)

@@ -1,13 +1,13 @@
 -- The places of a tile, copied; the numbers of all places, filled in tile after tile.
-use mathlib.Core.Path.{_≡_, refl, sym, ap, _∙_}
+use mathlib.Core.Path.{_≡_, sym, ap, _∙_}
 use mathlib.Core.List.{List}
-use Prim.Native.Nat.{ℕ, zero, suc, _+_, _-_, _*_, _≤_, _<_}
+use Prim.Native.Nat.{ℕ, suc, _+_, _-_, _*_, _≤_, _<_}
 use native.Mathlib.Omega.{arith}
 use native.Mathlib.Decide.{decLe}
 use lib.ListN.{length, getD, set, replicate, length-map, List·getD-map}
 use lib.Seq.{ext-getD}
 use Rattle.laws.specs.Filled.{Upto, From}
-use Rattle.laws.proofs.Tables.{upto-turn, rest-turn}
+use Rattle.laws.proofs.Tables.{upto-turn, rest-turn, zeros-at}
 use Rattle.floor.specs.declared.Canister.{Canister}
 use Rattle.floor.specs.declared.Floor.{Floor}
 use Rattle.floor.specs.Model.{numbers}
@@ -24,11 +24,6 @@ block-copied cs t items lc h len up =
 -- the first n numbers are those of the places; zeros from there on
 abbrev pub Keyed : Floor → ℕ → List ℕ → Type 0
 Keyed f n keys = Upto n (λ i. getD (numbers (f .canisters)) i 0) 0 keys × From n (λ i. 0) 0 keys
-
-zeros-at : (n i : ℕ) → _≡_ {A = ℕ} (getD (replicate n 0) i 0) 0
-zeros-at zero i = refl
-zeros-at (suc n) zero = refl
-zeros-at (suc n) (suc i) = zeros-at n i
 
 module _ (f : Floor) where
   pub keyed-start : Keyed f 0 (replicate 1024 0)

@@ -14,7 +14,7 @@ use borrow.Author.Tests.{eq-eqb, ne-eqb, lt-ltb, le-ltb, ltb-true, le-leb}
 use Rattle.laws.specs.Define.{tab, allOf, anyOf, bit}
 use Rattle.laws.proofs.Tests.{same-test, or-no}
 use Rattle.laws.specs.Filled.{Upto, From}
-use Rattle.laws.proofs.Tables.{tab-length, tab-at, filled, below-zero, below-more}
+use Rattle.laws.proofs.Tables.{tab-length, tab-at, filled, below-zero, below-more, zeros-at}
 use Rattle.console_words.specs.Text.{hasSome, numberOf}
 use Rattle.console_words.proofs.Text.{from-place, from-end}
 use Rattle.console_words.specs.declared.Parsed.{Parsed}
@@ -177,9 +177,4 @@ name-copied w all n few len e up off = rw (le-ltb 8 (length w) few) (filled 8 (�
         go (no l) = off i (omega arith) ∙ sym (List·getD-eq-default w 0 (omega arith))
 
 pub name-start : From {A = ℕ} 0 (λ _. 0) 0 (replicate 8 0)
-name-start i h = go 8 i
-  where
-    go : (n i : ℕ) → _≡_ {A = ℕ} (getD (replicate n 0) i 0) 0
-    go zero i = refl
-    go (suc n) zero = refl
-    go (suc n) (suc i) = go n i
+name-start i h = zeros-at 8 i

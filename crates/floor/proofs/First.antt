@@ -7,12 +7,12 @@ use Prim.Native.Nat.{ℕ, zero, suc, _/_, _%_, _^_, _≤_, _<_}
 use native.Mathlib.Omega.{arith}
 use native.Mathlib.Nat.{lt-of-lt-of-le}
 use native.Mathlib.Decide.{decLe}
-use lib.ListN.{length, getD, replicate, List·getD-eq-default}
+use lib.ListN.{length, getD, List·getD-eq-default}
 use lib.Pow.{pow-mono}
 use borrow.Author.Tests.{eq-eqb, ne-eqb, lt-leb}
 use Rattle.laws.specs.Define.{refusal, allOf, pairsOf, sum, bit}
 use Rattle.laws.specs.Every.{All}
-use Rattle.laws.proofs.Tables.{tab-length, tab-at, tab-off}
+use Rattle.laws.proofs.Tables.{tab-length, tab-at, tab-off, zeros-at}
 use Rattle.laws.proofs.Lists.{all-get, all-both, all-imp, all-unmap, cat-all, cat-empty}
 use Rattle.floor.specs.declared.Canister.{Canister}
 use Rattle.floor.specs.declared.Settings.{Settings}
@@ -64,18 +64,11 @@ fresh-sound s M = sound-of (freshFloor s) M (tab-length (total s) (freshTile s))
     none : numbersOn (freshFloor s) ≡ []
     none = cat-empty (total s) (λ t. numbers (membersOf (freshFloor s) t)) (λ t l. ap (λ (x : TileState). numbers (x .members)) (tile t l))
 
-    zeros : (k : ℕ) → _≡_ {A = ℕ} (getD (replicate 4 0) k 0) 0
-    zeros zero = refl
-    zeros (suc zero) = refl
-    zeros (suc (suc zero)) = refl
-    zeros (suc (suc (suc zero))) = refl
-    zeros (suc (suc (suc (suc k)))) = refl
-
     none-laid : layoutsSound s [] ≡ true
     none-laid = refl
 
     counted : Counted (freshFloor s)
-    counted = rw none ((tt, tt), (refl, (λ k _. zeros k, omega arith)))
+    counted = rw none ((tt, tt), (refl, (λ k _. zeros-at 4 k, omega arith)))
 
 pub fresh-well : (s : Settings) → settingsRefusal s ≡ 0 → wellFormed (freshAnswer s .floor) ≡ true
 unfolding freshAnswer settingsPass

@@ -13,7 +13,7 @@ use lib.ListN.{length}
 use borrow.Author.Tests.{eqb-true, eqb-false, ne-eqb, leb-true, leb-false, le-leb, lt-ltb, le-ltb, ltb-true, ltb-false, not-false}
 use Rattle.laws.specs.Define.{allOf, anyOf, keep, bit, bitsBelow}
 use Rattle.laws.specs.Every.{All, Pairs}
-use Rattle.laws.proofs.Tests.{by-test, same-test, and-yes, and-no, and-left, and-right, and-true, r-pairs, r-lt}
+use Rattle.laws.proofs.Tests.{by-test, same-test, and-yes, and-no, and-left, and-right, and-true, r-pairs, r-lt, or-no}
 use Rattle.laws.proofs.Lists.{all-imp, all-keep, pairs-keep, all-true, true-all, cat-nil}
 use Rattle.laws.proofs.Bits.{with-bit}
 use Rattle.laws.proofs.SetBits.{bits-all, bits-each, bit-below}
@@ -61,10 +61,6 @@ below-bit p (suc n) k = go (by-test (p n)) (below-bit p n k)
         let k≡n : k ≡ n = eqb-true k n e in
         let pk : p k ≡ b = ap p k≡n ∙ q in
         rw (e, le-ltb k n (omega arith), lt-ltb k (suc n) (omega arith), pk) (or-no b)
-      where
-        or-no : (b : Bool) → (b || false) ≡ b
-        or-no true = refl
-        or-no false = refl
 
     go : (p n ≡ true) ⊎ (p n ≡ false) → bit S k ≡ (ltb k n && p k) → bit (cond (p n) (2 ^ n) 0 + S) k ≡ (ltb k (suc n) && p k)
     go (inl q) ih =

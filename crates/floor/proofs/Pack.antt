@@ -1,7 +1,7 @@
 -- A floor as a value is read back as it was packed; a floor that fits is what its value packs to; what a well-formed floor has.
 use mathlib.Core.Path.{_≡_, refl, sym, ap, _∙_}
 use mathlib.Core.Logic.{_≢_}
-use mathlib.Core.Bool.{Bool, true, false, cond, _&&_}
+use mathlib.Core.Bool.{true, cond, _&&_}
 use mathlib.Core.List.{List}
 use Prim.Native.Nat.{ℕ, suc, _+_, _*_, _/_, _%_, _≤_, _<_}
 use native.Mathlib.Omega.{arith}
@@ -13,7 +13,7 @@ use borrow.Author.Tests.{leb-true, lt-ltb, le-ltb, le-leb}
 use Rattle.laws.specs.Define.{tab, allOf}
 use Rattle.laws.proofs.Tests.{and-left, and-right, and-true}
 use Rattle.laws.proofs.Lists.{get-same}
-use Rattle.laws.proofs.Tables.{tab-length, tab-at, tab-off, filled}
+use Rattle.laws.proofs.Tables.{tab-length, tab-at, tab-off, filled, and-swap}
 use Rattle.floor.specs.declared.Canister.{Canister}
 use Rattle.floor.specs.declared.Settings.{Settings}
 use Rattle.floor.specs.declared.Counters.{Counters}
@@ -295,16 +295,14 @@ well-placed f h = sound-named (view f .settings) (view f .layouts) (well-sound f
 pub well-head : (f : Floor) (t : ℕ) → wellFormed f ≡ true → t < total (f .settings) → head (stateOf f t) ≡ headOf f t
 well-head f t h on = head-state f (well-few f h) (well-fits f h) t on
 
+-- the same by the tile of the value
+pub head-read : (f : Floor) → total (f .settings) ≤ 64 → fits f ≡ true → (t : ℕ) → t < total (f .settings) → headOf f t ≡ head (tileOf (view f) t)
+head-read f few ok t h = sym (head-state f few ok t h) ∙ ap head (sym (view-at f t noTile h))
+
 -- well formed in two parts, for the code
 pub well-parts : (f : Floor) → wellFormed f ≡ (stateWell f && layoutsWell f)
 unfolding wellFormed sound fits stateWell layoutsWell view
-well-parts f = exchange (stateSound (view f)) (layoutsSound (f .settings) (usedLayouts (f .layouts))) (stateFits f) (layoutsFit (f .layouts))
-  where
-    exchange : (a b c d : Bool) → ((a && b) && (c && d)) ≡ ((a && c) && (b && d))
-    exchange true b true d = refl
-    exchange true true false d = refl
-    exchange true false false d = refl
-    exchange false b c d = refl
+well-parts f = and-swap (stateSound (view f)) (layoutsSound (f .settings) (usedLayouts (f .layouts))) (stateFits f) (layoutsFit (f .layouts))
 
 -- ---- a tile of a well-formed floor, as it stands in memory
 module _ (f : Floor) (t : ℕ) (w : wellFormed f ≡ true) (on : t < total (f .settings)) where
@@ -312,7 +310,7 @@ module _ (f : Floor) (t : ℕ) (w : wellFormed f ≡ true) (on : t < total (f .s
   below-64 = omega (arith, well-few f w)
 
   pub head-view : headOf f t ≡ head (tileOf (view f) t)
-  head-view = sym (well-head f t w on) ∙ ap head (sym (view-at f t noTile on))
+  head-view = head-read f (well-few f w) (well-fits f w) t on
 
   pub place-view : (k : ℕ) → k < 16 → getD (f .canisters) (16 * t + k) zeroCanister ≡ getD (membersOf (view f) t) k zeroCanister
   place-view k h =

@@ -12,7 +12,7 @@ use lib.Bits.{or-zero-l}
 use lib.ListN.{length, getD}
 use borrow.Author.Tests.{eq-eqb, ne-eqb, lt-ltb, le-ltb, ltb-false}
 use Rattle.laws.specs.Define.{sum, bit, bitsBelow, refusal}
-use Rattle.laws.proofs.Tests.{refusal-none, refusal-all-false}
+use Rattle.laws.proofs.Tests.{refusal-none, refusal-all-false, or-no}
 use Rattle.laws.specs.Every.{All}
 use Rattle.laws.proofs.Lists.{map-append, sum-append}
 use Rattle.laws.proofs.Bits.{with-bit}
@@ -27,11 +27,7 @@ use Rattle.image.specs.Image.{lowest, oneTile, hopperCount, several}
 one-bit : (t k : ℕ) → bit (2 ^ t) k ≡ eqb k t
 one-bit t k =
     ap (λ (x : ℕ). bit x k) (sym (or-zero-l (2 ^ t))) ∙ with-bit 0 t k
-    ∙ ap (λ (b : Bool). eqb k t || b) (bit-off 0 0 k (lit< tt) (omega arith)) ∙ none (eqb k t)
-  where
-    none : (b : Bool) → (b || false) ≡ b
-    none true = refl
-    none false = refl
+    ∙ ap (λ (b : Bool). eqb k t || b) (bit-off 0 0 k (lit< tt) (omega arith)) ∙ or-no (eqb k t)
 
 no-bits : (x n : ℕ) → ((k : ℕ) → k < n → bit x k ≡ false) → bitsBelow x n ≡ []
 unfolding bitsBelow

@@ -95,7 +95,7 @@ again k t xs b w =
     rw (m, ← e, b2, b3) (simp append-assoc (rw (r, s) (take-append-drop 2 xs)))
 
 -- ---- a record that is cut off
-le-take : (n k : ℕ) (xs : List ℕ) → k ≤ n → le k (take n xs) ≡ le k xs
+pub le-take : (n k : ℕ) (xs : List ℕ) → k ≤ n → le k (take n xs) ≡ le k xs
 unfolding le
 le-take n zero xs h = refl
 le-take zero (suc k) xs h = absurd (omega arith)

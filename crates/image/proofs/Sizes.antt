@@ -9,6 +9,7 @@ use borrow.Author.Tests.{ltb-true, ltb-false}
 use lib.ListN.{length, getD, replicate, length-append, length-replicate}
 use Rattle.laws.specs.Define.{tab, sum, bit, bitsBelow}
 use Rattle.laws.proofs.Tables.{tab-length}
+use Rattle.laws.proofs.SetBits.{sum-last}
 use Rattle.image_bytes.specs.Bytes.{bytes, bytesOf, width}
 use Rattle.image_bytes.proofs.ByteLaws.{row-length}
 use Rattle.floor.specs.declared.Canister.{Canister}
@@ -80,11 +81,6 @@ encode-size m =
     (omega arith)
 
 -- ---- at most 16 canisters on each tile, none on those of a set
-sum-last : (n : ℕ) (g : ℕ → ℕ) → sum (tab (suc n) g) ≡ sum (tab n g) + g n
-unfolding tab sum
-sum-last zero g = omega arith
-sum-last (suc n) g = omega (arith, sum-last n (λ k. g (suc k)))
-
 bits-suc : (x n : ℕ) → bitsBelow x (suc n) ≡ bitsBelow x n ++ cond (bit x n) (n ∷ []) []
 unfolding bitsBelow
 bits-suc x n = refl

@@ -2,7 +2,7 @@
 use mathlib.Core.Path.{_≡_}
 use mathlib.Core.Bool.{Bool, true, false, cond}
 use mathlib.Core.Logic.{_⊎_, inl, inr}
-use mathlib.Core.List.{List, [], _∷_}
+use mathlib.Core.List.{[], _∷_}
 use Prim.Native.Nat.{ℕ, zero, suc, _^_, _≤_, _<_}
 use native.Mathlib.Omega.{arith}
 use native.Mathlib.Nat.{lt-of-lt-of-le}
@@ -13,7 +13,7 @@ use borrow.Author.Tests.{eqb-true, ltb-true}
 use Rattle.laws.specs.Define.{tab}
 use Rattle.laws.specs.Every.{All}
 use Rattle.laws.proofs.Tests.{and-left, and-right}
-use Rattle.laws.proofs.Lists.{all-imp, all-both, all-unmap, cat-all}
+use Rattle.laws.proofs.Lists.{all-imp, all-both, all-unmap, cat-all, all-each}
 use Rattle.image_bytes.specs.Bytes.{Fit}
 use Rattle.floor.specs.Settings.{total, isHopper, settingsPass, settingsRefusal}
 use Rattle.floor.specs.Layouts.{nameOk, layoutOk}
@@ -28,11 +28,6 @@ use Rattle.image.proofs.Hoppers.{single, lowest-small}
 use Rattle.image.proofs.Sizes.{encode-most}
 use Rattle.image.proofs.Layouts.{LayoutFits}
 use Rattle.image.proofs.WrittenLoads.{TileFits, Fits}
-
--- what holds at every place of a list holds of all its elements
-all-places : {A : Type 0} (P : A → Type 0) (l : List A) (z : A) → ((k : ℕ) → k < length l → P (getD l k z)) → All P l
-all-places P [] z h = tt
-all-places P (x ∷ l) z h = (h 0 (omega arith), all-places P l z (λ k q. h (suc k) (omega arith)))
 
 flag-small : (x : ℕ) → (x ≡ 1) ⊎ (x ≡ 0) → x < 256
 flag-small x (inl e) = omega arith
@@ -124,7 +119,7 @@ module _ (m : Model) (S : Sound m) where
   sound-fits = record {
     settings = settings-fit;
     counters = counters-fit;
-    each = all-places TileFits (m .tiles) noTile (λ t l. tile-fits t (omega (arith, S .len)));
+    each = all-each TileFits noTile (m .tiles) (λ t l. tile-fits t (omega (arith, S .len)));
     many = S .len;
     few = omega (arith, S .len, S .measured .few);
     passed = passed;

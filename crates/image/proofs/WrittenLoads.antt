@@ -12,6 +12,7 @@ use lib.Seq.{drop-at}
 use Rattle.laws.specs.Define.{tab, refusal}
 use Rattle.laws.proofs.Tables.{tab-at, tab-off, filled}
 use Rattle.laws.specs.Every.{All}
+use Rattle.laws.proofs.Tests.{and-no}
 use Rattle.image_bytes.specs.Bytes.{fieldsOf, bytesOf, field, Fit}
 use Rattle.image_bytes.proofs.ByteLaws.{row-length, fields-bytes}
 use Rattle.floor.specs.declared.Canister.{Canister}
@@ -220,11 +221,7 @@ three-none l p q r h = rw (p, q, r) h
 -- the tiles' records begin with kind 3, or 4 where there is none
 kind-off : (xs : List ℕ) (k : ℕ) → kindIn xs ≡ k → eqb k 5 ≡ false → isLayout xs ≡ false
 unfolding isLayout
-kind-off xs k e h = rw (e, h) (and-off (leb 4 (length xs)))
-  where
-    and-off : (b : Bool) → (b && false) ≡ false
-    and-off true = refl
-    and-off false = refl
+kind-off xs k e h = rw (e, h) (and-no (leb 4 (length xs)))
 
 tiles-kind : (t : ℕ) (l : List TileState) (ys : List ℕ) → All TileFits l → eqb (kindIn (tilesBytes t l ++ ys)) 5 ≡ false
 unfolding tilesBytes

@@ -18,7 +18,7 @@ use Rattle.floor.specs.declared.Settings.{Settings}
 use Rattle.floor.specs.Settings.{total}
 use Rattle.floor.specs.Memory.{zeroFloor}
 use Rattle.image.specs.Image.{settingsWidths, tileWidths, hopperCount, lengthIn, kindIn, bodyIn, restIn, settingsIn, isLayout, afterLayouts, byteWrong, settingsFaults, tileFaults, ownFaults, recordFault, orElse, endFault, tilesFault, laidFault, fault, answerBy, imageRefusal, imageAnswer, loadAnswer}
-use Rattle.image.proofs.Records.{whole, kind-take}
+use Rattle.image.proofs.Records.{whole, kind-take, le-take}
 use Rattle.image.proofs.Layouts.{layout-good, bothFault}
 use Rattle.image.proofs.LoadedWrites.{tile-good, end-good, counters-good, settings-good}
 use Rattle.image.proofs.Read.{first-measured}
@@ -32,13 +32,6 @@ drop-front (suc k) zero xs = let e : 0 - suc k ≡ 0 = omega arith in rw e
 drop-front (suc k) (suc n) [] = sym (take-nil (suc n - suc k))
 drop-front (suc k) (suc n) (x ∷ xs) = let e : suc n - suc k ≡ n - k = omega arith in rw e (drop-front k n xs)
 
-le-front : (n k : ℕ) (xs : List ℕ) → k ≤ n → le k (take n xs) ≡ le k xs
-unfolding le
-le-front n zero xs h = refl
-le-front zero (suc k) xs h = absurd (omega arith)
-le-front (suc n) (suc k) [] h = refl
-le-front (suc n) (suc k) (x ∷ xs) h = rw (le-front n k xs (omega arith))
-
 two-bytes : (xs : List ℕ) → Bytes xs → le 2 xs < 65536
 unfolding le
 two-bytes [] b = omega arith
@@ -48,7 +41,7 @@ two-bytes (x ∷ y ∷ xs) b = omega (arith, b .0, b .1 .0)
 fields-front : (ws : List ℕ) (n : ℕ) (xs : List ℕ) → width ws ≤ n → fieldsOf ws (take n xs) ≡ fieldsOf ws xs
 unfolding fieldsOf
 fields-front [] n xs h = refl
-fields-front (w ∷ ws) n xs h = rw (le-front n w xs (omega arith), drop-front w n xs, fields-front ws (n - w) (drop w xs) (omega arith))
+fields-front (w ∷ ws) n xs h = rw (le-take n w xs (omega arith), drop-front w n xs, fields-front ws (n - w) (drop w xs) (omega arith))
 
 settings-width : (b : Bool) → width (settingsWidths b) ≤ 28
 settings-width true = omega arith
@@ -73,7 +66,7 @@ module _ (n : ℕ) (xs : List ℕ) (b : Bytes xs) (room : 65539 ≤ n) (long : n
   front-length = length-take-le n xs (omega arith)
 
   length-front : lengthIn (take n xs) ≡ lengthIn xs
-  length-front = le-front n 2 xs (omega arith)
+  length-front = le-take n 2 xs (omega arith)
 
   kind-front : kindIn (take n xs) ≡ kindIn xs
   kind-front = kind-take n xs (omega arith)

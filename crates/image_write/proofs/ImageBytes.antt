@@ -33,6 +33,22 @@ use Rattle.image_record_write.specs.Parts.{tileBytes}
 use Rattle.image_record_write.proofs.RecordBytes.{tile-length, tile-record}
 use Rattle.image_write.specs.Upto.{frontBytes, countAt, tileFor, tileRecord, upto}
 
+-- ---- lengths in bytes: a record's length and kind; a tile's record before its canisters; a canister; a layout's record; record 2 where there are h hoppers
+abbrev pub ahead : ℕ
+ahead = 4
+
+abbrev pub tileFront : ℕ
+tileFront = 10
+
+abbrev pub canisterLength : ℕ
+canisterLength = 8
+
+abbrev pub layoutLength : ℕ
+layoutLength = 20
+
+abbrev pub countersLength : ℕ → ℕ
+countersLength h = ahead + (8 + 4 * h)
+
 -- ---- the layouts, one after the other
 layouts-append : (l k : List Layout) → layoutsBytes (l ++ k) ≡ layoutsBytes l ++ layoutsBytes k
 unfolding layoutsBytes
@@ -47,13 +63,13 @@ pub layouts-none : layoutsBytes [] ≡ []
 unfolding layoutsBytes
 layouts-none = refl
 
-pub layouts-turn : (s₀ s s′ : List ℕ) (from k : ℕ) (l : List Layout) → k < length l → from + 20 * k + 20 ≤ length s₀ → s ≡ put s₀ from (layoutsBytes (take k l)) → s′ ≡ put s (from + 20 * k) (recordOf 5 (layoutBody (getD l k zeroLayout)))
+pub layouts-turn : (s₀ s s′ : List ℕ) (from k : ℕ) (l : List Layout) → k < length l → from + layoutLength * k + layoutLength ≤ length s₀ → s ≡ put s₀ from (layoutsBytes (take k l)) → s′ ≡ put s (from + layoutLength * k) (recordOf 5 (layoutBody (getD l k zeroLayout)))
     → s′ ≡ put s₀ from (layoutsBytes (take (k + 1) l))
 layouts-turn s₀ s s′ from k l h r p q =
     let x = getD l k zeroLayout in
-    let n : length (layoutsBytes (take k l)) ≡ 20 * k = layouts-size (take k l) ∙ rw (length-take-le k l (omega arith)) in
-    let m : length (recordOf 5 (layoutBody x)) ≡ 20 = rw (record-length 5 (layoutBody x), layout-size x) in
-    rw (add-one, take-suc l k zeroLayout h, layouts-append, layouts-one) (put-two s₀ s s′ from (from + 20 * k) (layoutsBytes (take k l)) (recordOf 5 (layoutBody x)) (omega arith) (omega arith) p q)
+    let n : length (layoutsBytes (take k l)) ≡ layoutLength * k = layouts-size (take k l) ∙ rw (length-take-le k l (omega arith)) in
+    let m : length (recordOf 5 (layoutBody x)) ≡ layoutLength = rw (record-length 5 (layoutBody x), layout-size x) in
+    rw (add-one, take-suc l k zeroLayout h, layouts-append, layouts-one) (put-two s₀ s s′ from (from + layoutLength * k) (layoutsBytes (take k l)) (recordOf 5 (layoutBody x)) (omega arith) (omega arith) p q)
 
 used-nil : length (usedLayouts []) ≡ 0
 unfolding usedLayouts
@@ -101,10 +117,10 @@ module _ (hs : List Tile) (cs : List Canister) where
   canisters-count : (t : ℕ) → 16 * t + 16 ≤ length cs → countAt hs t ≤ 16 → length (take (countAt hs t) (drop (16 * t) cs)) ≡ countAt hs t
   canisters-count t h k = let m : countAt hs t ≤ length (drop (16 * t) cs) = rw length-drop (omega arith) in length-take-le (countAt hs t) (drop (16 * t) cs) m
 
-  record-size : (t : ℕ) → 16 * t + 16 ≤ length cs → countAt hs t ≤ 16 → length (tileRecord hs cs t) ≡ 10 + 8 * countAt hs t
+  record-size : (t : ℕ) → 16 * t + 16 ≤ length cs → countAt hs t ≤ 16 → length (tileRecord hs cs t) ≡ tileFront + canisterLength * countAt hs t
   record-size t h k = rw (record-length 3 (tileBody t (tileFor hs cs t)), tile-size t (tileFor hs cs t), canisters-count t h k) (omega arith)
 
-  pub at-turn : (from at t : ℕ) → 16 * t + 16 ≤ length cs → countAt hs t ≤ 16 → at ≡ from + length (upto hs cs t) → at + 10 + 8 * countAt hs t ≡ from + length (upto hs cs (t + 1))
+  pub at-turn : (from at t : ℕ) → 16 * t + 16 ≤ length cs → countAt hs t ≤ 16 → at ≡ from + length (upto hs cs t) → at + tileFront + canisterLength * countAt hs t ≡ from + length (upto hs cs (t + 1))
   at-turn from at t l k e = let n = record-size t l k in rw (upto-more t, length-append) (omega arith)
 
   upto-suc : (t : ℕ) → length (upto hs cs t) ≤ length (upto hs cs (suc t))
@@ -115,24 +131,24 @@ module _ (hs : List Tile) (cs : List Canister) where
   upto-mono t zero = let e : t + 0 ≡ t = omega arith in rw e (omega arith)
   upto-mono t (suc n) = let e : t + suc n ≡ suc (t + n) = omega arith in rw e (omega (arith, upto-mono t n, upto-suc (t + n)))
 
-  pub upto-room : (t c : ℕ) → t < c → 16 * t + 16 ≤ length cs → countAt hs t ≤ 16 → length (upto hs cs t) + 10 + 8 * countAt hs t ≤ length (upto hs cs c)
+  pub upto-room : (t c : ℕ) → t < c → 16 * t + 16 ≤ length cs → countAt hs t ≤ 16 → length (upto hs cs t) + tileFront + canisterLength * countAt hs t ≤ length (upto hs cs c)
   upto-room t c h l k =
-      let n : length (upto hs cs (t + 1)) ≡ length (upto hs cs t) + (10 + 8 * countAt hs t) = rw (upto-more t, length-append, record-size t l k) in
+      let n : length (upto hs cs (t + 1)) ≡ length (upto hs cs t) + (tileFront + canisterLength * countAt hs t) = rw (upto-more t, length-append, record-size t l k) in
       let e : t + 1 + (c - (t + 1)) ≡ c = omega arith in
       let m : length (upto hs cs (t + 1)) ≤ length (upto hs cs c) = rw e at (upto-mono (t + 1) (c - (t + 1))) in
       omega arith
 
   -- a turn of the loop over the tiles: the front of a record and its canisters
-  pub tiles-turn : (s₀ s s₁ s′ : List ℕ) (from at t : ℕ) → 16 * t + 16 ≤ length cs → countAt hs t ≤ 16 → at + 10 + 8 * countAt hs t ≤ length s₀ → at ≡ from + length (upto hs cs t)
-      → s ≡ put s₀ from (upto hs cs t) → s₁ ≡ put s at (tileBytes t (getD hs t zeroTile)) → s′ ≡ put s₁ (at + 10) (canistersBody (take (countAt hs t) (drop (16 * t) cs)))
+  pub tiles-turn : (s₀ s s₁ s′ : List ℕ) (from at t : ℕ) → 16 * t + 16 ≤ length cs → countAt hs t ≤ 16 → at + tileFront + canisterLength * countAt hs t ≤ length s₀ → at ≡ from + length (upto hs cs t)
+      → s ≡ put s₀ from (upto hs cs t) → s₁ ≡ put s at (tileBytes t (getD hs t zeroTile)) → s′ ≡ put s₁ (at + tileFront) (canistersBody (take (countAt hs t) (drop (16 * t) cs)))
       → s′ ≡ put s₀ from (upto hs cs (t + 1))
   tiles-turn s₀ s s₁ s′ from at t l k r e p q u =
       let h = getD hs t zeroTile in
       let ds = take (countAt hs t) (drop (16 * t) cs) in
       let c = canisters-count t l k in
       let f = tile-length t h in
-      let n : length (canistersBody ds) ≡ 8 * countAt hs t = canisters-size ds ∙ rw c in
-      rw (upto-more t, ← tile-record t h ds c) (put-three s₀ s s₁ s′ from at (at + 10) (upto hs cs t) (tileBytes t h) (canistersBody ds) (omega arith) e (omega arith) p q u)
+      let n : length (canistersBody ds) ≡ canisterLength * countAt hs t = canisters-size ds ∙ rw c in
+      rw (upto-more t, ← tile-record t h ds c) (put-three s₀ s s₁ s′ from at (at + tileFront) (upto hs cs t) (tileBytes t h) (canistersBody ds) (omega arith) e (omega arith) p q u)
 
   -- then the end
   upto-tiles : (t n : ℕ) → upto hs cs t ++ tilesBytes t (tab n (λ k. tileFor hs cs (t + k))) ≡ upto hs cs (t + n) ++ recordOf 4 []
@@ -147,13 +163,13 @@ module _ (hs : List Tile) (cs : List Canister) where
 -- ---- how long the records of the tiles below t are, from the tiles alone
 unfoldable pub headsSize : List Tile → ℕ → ℕ
 headsSize hs zero = 0
-headsSize hs (suc t) = headsSize hs t + (10 + 8 * countAt hs t)
+headsSize hs (suc t) = headsSize hs t + (tileFront + canisterLength * countAt hs t)
 
 pub heads-none : (hs : List Tile) → headsSize hs 0 ≡ 0
 unfolding headsSize
 heads-none hs = refl
 
-pub heads-more : (hs : List Tile) (t : ℕ) → headsSize hs (t + 1) ≡ headsSize hs t + (10 + 8 * countAt hs t)
+pub heads-more : (hs : List Tile) (t : ℕ) → headsSize hs (t + 1) ≡ headsSize hs t + (tileFront + canisterLength * countAt hs t)
 unfolding headsSize
 heads-more hs t = rw add-one
 
@@ -169,7 +185,7 @@ end-record = rw (append-nil (bytes 2 4))
 
 -- the front, and how long record 1 and the front are
 module _ (s : Settings) where
-  pub first-is : (h r : ℕ) → h ≡ hopperCount s → r ≡ cond (ltb 1 h) 32 24 → r ≡ 4 + length (settingsBody s)
+  pub first-is : (h r : ℕ) → h ≡ hopperCount s → r ≡ cond (ltb 1 h) 32 24 → r ≡ ahead + length (settingsBody s)
   unfolding several
   first-is h r e q = q ∙ ap (λ (n : ℕ). cond (ltb 1 n) 32 24) e ∙ sym (ap (λ (n : ℕ). 4 + n) (settings-size s) ∙ go (ltb 1 (hopperCount s)))
     where
@@ -182,20 +198,20 @@ module _ (s : Settings) where
   more-is h e = ap (λ (n : ℕ). ltb 1 n) e
 
   module _ (c : Counters) (l : List Layout) where
-    pub front-long : length (frontBytes s c l) ≡ 4 + length (settingsBody s) + (12 + 4 * hopperCount s) + 20 * length (usedLayouts l)
+    pub front-long : length (frontBytes s c l) ≡ ahead + length (settingsBody s) + countersLength (hopperCount s) + layoutLength * length (usedLayouts l)
     unfolding frontBytes
     front-long =
         rw (length-append, record-length 1 (settingsBody s), length-append, record-length 2 (countersBody (hopperCount s) c), counters-size (hopperCount s) c, layouts-size (usedLayouts l))
         (omega arith)
 
     -- the three writes; h hoppers, and the first n places are used
-    pub front-put : (b b1 b2 b3 : List ℕ) (h n second third : ℕ) → h ≡ hopperCount s → n ≡ length (usedLayouts l) → length (frontBytes s c l) ≤ length b → second ≡ 4 + length (settingsBody s) → third ≡ second + 12 + 4 * h
+    pub front-put : (b b1 b2 b3 : List ℕ) (h n second third : ℕ) → h ≡ hopperCount s → n ≡ length (usedLayouts l) → length (frontBytes s c l) ≤ length b → second ≡ ahead + length (settingsBody s) → third ≡ second + countersLength h
         → b1 ≡ put b 0 (recordOf 1 (settingsBody s)) → b2 ≡ put b1 second (recordOf 2 (countersBody h c)) → b3 ≡ put b2 third (layoutsBytes (take n l)) → b3 ≡ put b 0 (frontBytes s c l)
     unfolding frontBytes
     front-put b b1 b2 b3 h n second third he ne r e2 e3 p q u =
-        let n1 : length (recordOf 1 (settingsBody s)) ≡ 4 + length (settingsBody s) = record-length 1 (settingsBody s) in
-        let n2 : length (recordOf 2 (countersBody (hopperCount s) c)) ≡ 4 + (8 + 4 * hopperCount s) = record-length 2 (countersBody (hopperCount s) c) ∙ ap (λ (k : ℕ). 4 + k) (counters-size (hopperCount s) c) in
-        let n3 : length (layoutsBytes (usedLayouts l)) ≡ 20 * length (usedLayouts l) = layouts-size (usedLayouts l) in
+        let n1 : length (recordOf 1 (settingsBody s)) ≡ ahead + length (settingsBody s) = record-length 1 (settingsBody s) in
+        let n2 : length (recordOf 2 (countersBody (hopperCount s) c)) ≡ countersLength (hopperCount s) = record-length 2 (countersBody (hopperCount s) c) ∙ ap (λ (k : ℕ). 4 + k) (counters-size (hopperCount s) c) in
+        let n3 : length (layoutsBytes (usedLayouts l)) ≡ layoutLength * length (usedLayouts l) = layouts-size (usedLayouts l) in
         let used = ap (λ (k : ℕ). layoutsBytes (take k l)) ne ∙ ap layoutsBytes (used-take l) in
         put-three b b1 b2 b3 0 second third (recordOf 1 (settingsBody s)) (recordOf 2 (countersBody (hopperCount s) c)) (layoutsBytes (usedLayouts l))
         (omega (arith, r, front-long)) (omega arith) (omega arith) p (rw he at q) (rw used at u)
@@ -223,7 +239,7 @@ module _ (f : Floor) where
       let us = upto (f .tiles) (f .canisters) (total (f .settings)) ++ recordOf 4 [] in
       rw (tiles-bytes (total (f .settings))) (sym (append-assoc first (then ++ ls) us ∙ ap (λ (k : List ℕ). first ++ k) (append-assoc then ls us)))
 
-  pub encode-long : length (encode (view f)) ≡ length frontOf + length (upto (f .tiles) (f .canisters) (total (f .settings))) + 4
+  pub encode-long : length (encode (view f)) ≡ length frontOf + length (upto (f .tiles) (f .canisters) (total (f .settings))) + ahead
   encode-long = rw (encode-is, length-append, length-append, record-length 4 []) (omega arith)
 
 -- a well-formed floor has what the writer asks for
@@ -231,7 +247,7 @@ module _ (f : Floor) (w : wellFormed f ≡ true) where
   pub counts-few : (t : ℕ) → t < total (f .settings) → countAt (f .tiles) t ≤ 16
   counts-few t l = few-on f (well-few f w) (well-fits f w) t l
 
-  pub encode-heads : length (encode (view f)) ≡ 4 + length (settingsBody (f .settings)) + (12 + 4 * hopperCount (f .settings)) + 20 * length (usedLayouts (f .layouts)) + headsSize (f .tiles) (total (f .settings)) + 4
+  pub encode-heads : length (encode (view f)) ≡ ahead + length (settingsBody (f .settings)) + countersLength (hopperCount (f .settings)) + layoutLength * length (usedLayouts (f .layouts)) + headsSize (f .tiles) (total (f .settings)) + ahead
   encode-heads =
       let n = well-lengths f w .1 in
       let u = upto-size (f .tiles) (f .canisters) (total (f .settings)) (omega (arith, n, well-few f w)) counts-few in

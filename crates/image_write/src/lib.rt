@@ -104,8 +104,9 @@ pub fn image_length(f: Floor) -> u32
     ensures { λ r. ⌜ r ≡ length (encode (view f)) ⌝ }
 {
     let tiles = f.tiles;
-    let c = (f.settings.columns as usize) * (f.settings.rows as usize);
-    let h = size(f.settings.hoppers);
+    let settings = f.settings;
+    let c = settings.tile_count();
+    let h = size(settings.hoppers);
     let first = first_length(h);
     let layouts = f.layouts;
     let laid = laid_out(layouts);
@@ -129,7 +130,7 @@ pub fn write_image(f: Floor, buffer: &mut [u8])
     let tiles = f.tiles;
     let all = f.canisters;
     let layouts = f.layouts;
-    let c = (settings.columns as usize) * (settings.rows as usize);
+    let c = settings.tile_count();
     let h = size(settings.hoppers);
     let front = put_front(buffer, settings, counters, layouts, h);
     let end = put_tiles(buffer, front, tiles, all, c);

@@ -53,6 +53,16 @@ all-get P [] z p h k = p
 all-get P (x ∷ l) z p h zero = h .0
 all-get P (x ∷ l) z p h (suc k) = all-get P l z p (h .1) k
 
+-- of all elements, and at each place
+pub all-place : {A : Type 0} (P : A → Type 0) (z : A) (l : List A) → All P l → (i : ℕ) → i < length l → P (getD l i z)
+all-place P z [] f i h = absurd (omega arith)
+all-place P z (x ∷ l) f zero h = f .0
+all-place P z (x ∷ l) f (suc i) h = all-place P z l (f .1) i (omega arith)
+
+pub all-each : {A : Type 0} (P : A → Type 0) (z : A) (l : List A) → ((i : ℕ) → i < length l → P (getD l i z)) → All P l
+all-each P z [] f = tt
+all-each P z (x ∷ l) f = (f 0 (omega arith), all-each P z l (λ i h. f (suc i) (omega arith)))
+
 -- within a list, what would be read beyond it does not matter
 pub get-same : {A : Type 0} (l : List A) (k : ℕ) (y z : A) → k < length l → getD l k y ≡ getD l k z
 get-same [] k y z h = absurd (omega arith)

@@ -125,7 +125,7 @@ cat-places {A} (suc n) (l ∷ ls) h =
     List·Permᴰ·trans (cat-first n (λ k. getD (l ∷ ls) k [])) (Permᴰ·append-left l (cat-places n ls (omega arith)))
 
 -- the lengths of n lists add up
-sum-last : (n : ℕ) (g : ℕ → ℕ) → sum (tab (suc n) g) ≡ sum (tab n g) + g n
+pub sum-last : (n : ℕ) (g : ℕ → ℕ) → sum (tab (suc n) g) ≡ sum (tab n g) + g n
 unfolding tab sum
 sum-last zero g = omega arith
 sum-last (suc n) g = omega (arith, sum-last n (λ k. g (suc k)))

@@ -13,6 +13,12 @@ use Rattle.laws.proofs.Tests.{and-left, and-right, and-true, and-assoc,
 use Rattle.laws.proofs.Lists.{map-append, keep-append}
 use Rattle.laws.specs.Filled.{Upto, From, Shows}
 
+-- ---- a list of zeros, within it and beyond
+pub zeros-at : (n i : ℕ) → _≡_ {A = ℕ} (getD (replicate n 0) i 0) 0
+zeros-at zero i = refl
+zeros-at (suc n) zero = refl
+zeros-at (suc n) (suc i) = zeros-at n i
+
 -- ---- the table g 0, .., g (n - 1)
 pub tab-length : {A : Type 0} (n : ℕ) (g : ℕ → A) → length (tab n g) ≡ n
 unfolding tab
@@ -114,7 +120,7 @@ pub all-step : {A : Type 0} (p : A → Bool) (l : List A) (k : ℕ) (z : A) {ok 
 all-step p l k z h e q = rw (e, q) (sym (all-more p l k z h))
 
 -- ---- every two elements, the earlier one first
-and-swap : (a b c d : Bool) → ((a && b) && (c && d)) ≡ ((a && c) && (b && d))
+pub and-swap : (a b c d : Bool) → ((a && b) && (c && d)) ≡ ((a && c) && (b && d))
 and-swap true true c d = refl
 and-swap true false true d = refl
 and-swap true false false d = refl

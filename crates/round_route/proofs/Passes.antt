@@ -17,9 +17,8 @@ use Rattle.floor.specs.declared.Floor.{Floor}
 use Rattle.floor.specs.Settings.{total}
 use Rattle.floor.specs.Grid.{neighbour}
 use Rattle.floor.specs.Model.{TileState, noTile, tileOf}
-use Rattle.floor.specs.Memory.{zeroTile, headOf, stateOf, view, head, fits}
+use Rattle.floor.specs.Memory.{zeroTile, stateOf, view}
 use Rattle.floor.proofs.Rows.{view-at}
-use Rattle.floor.proofs.Pack.{head-state}
 use Rattle.round_route.specs.Routed.{Redone, within}
 
 -- ---- a neighbour is a tile of the floor, or the number of no tile
@@ -77,9 +76,6 @@ module _ (g : ℕ → Tile) (old : List Tile) where
 pub tile-off : (f : Floor) (t : ℕ) → total (f .settings) ≤ t → tileOf (view f) t ≡ noTile
 unfolding view
 tile-off f t h = tab-off (total (f .settings)) (stateOf f) t noTile h
-
-pub head-view : (f : Floor) → total (f .settings) ≤ 64 → fits f ≡ true → (t : ℕ) → t < total (f .settings) → headOf f t ≡ head (tileOf (view f) t)
-head-view f few ok t h = sym (head-state f few ok t h) ∙ ap head (sym (view-at f t noTile h))
 
 -- p: what a tile shows; what none shows is p of no tile
 pub within-view : (f : Floor) (g : ℕ → ℕ) (p : TileState → ℕ) → ((t : ℕ) → t < total (f .settings) → g t ≡ p (stateOf f t)) → (u : ℕ) → within (total (f .settings)) g (p noTile) u ≡ p (tileOf (view f) u)

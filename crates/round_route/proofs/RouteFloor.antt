@@ -1,5 +1,5 @@
 -- The pass over the tiles in memory is Route of the value that memory shows.
-use mathlib.Core.Path.{_≡_, refl, sym, ap, _∙_, fun-ext}
+use mathlib.Core.Path.{_≡_, refl, ap, _∙_, fun-ext}
 use mathlib.Core.Bool.{true}
 use mathlib.Core.List.{List}
 use Prim.Native.Nat.{ℕ, _≤_, _<_}
@@ -10,13 +10,13 @@ use Rattle.floor.specs.declared.Tile.{Tile}
 use Rattle.floor.specs.declared.Floor.{Floor}
 use Rattle.floor.specs.Settings.{total}
 use Rattle.floor.specs.Grid.{around}
-use Rattle.floor.specs.Model.{TileState, Model, noTile, tileOf, distanceOf, nextOf, tokenOf, membersOf}
+use Rattle.floor.specs.Model.{TileState, Model, noTile, tileOf, distanceOf, tokenOf, membersOf}
 use Rattle.floor.specs.Memory.{headOf, stateOf, view, head, pack, fits, retiled}
 use Rattle.floor.specs.Route.{routeTile, route}
 use Rattle.floor.proofs.Rows.{view-at}
-use Rattle.floor.proofs.Pack.{pack-heads}
+use Rattle.floor.proofs.Pack.{head-read, pack-heads}
 use Rattle.round_route.specs.Routed.{Redone, within, distanceIn, routedTile, routedAt}
-use Rattle.round_route.proofs.Passes.{within-view, head-view}
+use Rattle.round_route.proofs.Passes.{within-view}
 
 -- a tile of a value after Route
 abbrev pub routed : Model → ℕ → TileState
@@ -37,7 +37,7 @@ module _ (f : Floor) where
     unfolding routedAt view
     routed-view t h =
         ap (λ (d : ℕ → ℕ). around (f .settings) d t (routedTile (f .settings) t (headOf f t))) (fun-ext distance-view)
-        ∙ ap (λ (x : Tile). around (f .settings) (distanceOf (view f)) t (routedTile (f .settings) t x)) (head-view f few ok t h)
+        ∙ ap (λ (x : Tile). around (f .settings) (distanceOf (view f)) t (routedTile (f .settings) t x)) (head-read f few ok t h)
         ∙ head-route (f .settings) (distanceOf (view f)) t (tileOf (view f) t)
 
     same : (t : ℕ) → t < total (f .settings) → routed (view f) t .members ≡ stateOf f t .members
@@ -62,9 +62,6 @@ module _ (m : Model) where
   pub route-at : (t : ℕ) (z : TileState) → t < total (m .settings) → getD (route m .tiles) t z ≡ routed m t
   unfolding route
   route-at t z h = tab-at (total (m .settings)) (routed m) t z h
-
-  pub route-next : (t : ℕ) (z : TileState) → t < total (m .settings) → getD (route m .tiles) t z .next ≡ nextOf (route m) t
-  route-next t z h = ap (λ (x : TileState). x .next) (route-at t z h ∙ sym (route-at t noTile h))
 
   pub route-token : (t : ℕ) (z : TileState) → t < total (m .settings) → getD (route m .tiles) t z .token ≡ tokenOf m t
   unfolding routeTile

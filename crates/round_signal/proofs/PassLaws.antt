@@ -7,8 +7,8 @@ use native.Mathlib.Decide.{decLe}
 use lib.Dec.{ltb}
 use borrow.Author.Tests.{lt-ltb, le-ltb}
 use mathlib.Core.Bool.{cond}
-use lib.ListN.{getD, set, take, replicate, length-set, getD-replicate, length-replicate, List·getD-eq-default}
-use Rattle.laws.proofs.Tables.{upto-turn, rest-turn}
+use lib.ListN.{getD, set, take, replicate, length-set, length-replicate}
+use Rattle.laws.proofs.Tables.{upto-turn, rest-turn, zeros-at}
 use Rattle.floor.specs.declared.Canister.{Canister}
 use Rattle.floor.specs.declared.Settings.{Settings}
 use Rattle.floor.specs.declared.Tile.{Tile}
@@ -31,16 +31,9 @@ module _ (s : Settings) (ts : List Tile) (cs items : List Canister) (t : ℕ) wh
   signal-read v i p q r u = rw (v, i, p, q, r, u)
 
 -- ---- a loop that gives the grants, one after another
-zeros-from : (n i : ℕ) → _≡_ {A = ℕ} (getD (replicate n 0) i 0) 0
-zeros-from n i = go (decLe (suc i) n)
-  where
-    go : Dec (i < n) → _≡_ {A = ℕ} (getD (replicate n 0) i 0) 0
-    go (yes h) = getD-replicate n i 0 0 h
-    go (no h) = List·getD-eq-default (replicate n 0) 0 (omega (arith, length-replicate {A = ℕ} n 0))
-
 module _ (N : ℕ) (g : ℕ → ℕ) where
   pub granted-none : Granted N 0 g (replicate N 0)
-  granted-none = (length-replicate {A = ℕ} N 0, λ i h. absurd (omega arith), λ i h. zeros-from N i)
+  granted-none = (length-replicate {A = ℕ} N 0, λ i h. absurd (omega arith), λ i h. zeros-at N i)
 
   pub granted-turn : (gs : List ℕ) (t v : ℕ) → t < N → Granted N t g gs → v ≡ g t → Granted N (t + 1) g (set gs t v)
   granted-turn gs t v h r e =

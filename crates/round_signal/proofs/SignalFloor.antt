@@ -22,9 +22,9 @@ use Rattle.floor.specs.Memory.{headOf, retiled, stateOf, block, view, head, pac
 use Rattle.floor.specs.Signal.{Signal, shownNext, shownOf, signalBy, signalTile, signalOf, grantOf, withToken, signal}
 use Rattle.floor.specs.Reasons.{reasonTests, aheadOf, reasonOf, missingOf}
 use Rattle.floor.proofs.Rows.{view-at}
-use Rattle.floor.proofs.Pack.{few-on, head-state, pack-heads}
+use Rattle.floor.proofs.Pack.{few-on, head-state, head-read, pack-heads}
 use Rattle.round_route.specs.Routed.{Redone, within}
-use Rattle.round_route.proofs.Passes.{within-view, head-view, tile-off}
+use Rattle.round_route.proofs.Passes.{within-view, tile-off}
 use Rattle.round_grants.specs.TileSignal.{signalFrom}
 use Rattle.round_signal.specs.Signalling.{Granted, shownIn, signalAt, tokened, tileAt, grantAt, turnAt, lackAt, turnsAt, lacksAt, ownReason, aheadReason, reasonFrom, reasonBy, lackBy, reasonAt, besideAt}
 use Rattle.round_signal.proofs.ReasonLaws.{reasons-joined}
@@ -57,7 +57,7 @@ module _ (f : Floor) (few : total (f .settings) ≤ 64) (ok : fits f ≡ true) w
   unfolding tileAt
   tile-view t h =
       ap (λ (x : Signal). tokened (headOf f t) (x .token)) (signal-view t h)
-      ∙ ap (λ (x : Tile). tokened x (signalOf (view f) t .token)) (head-view f few ok t h)
+      ∙ ap (λ (x : Tile). tokened x (signalOf (view f) t .token)) (head-read f few ok t h)
       ∙ head-token (tileOf (view f) t) (signalOf (view f) t .token)
 
   same : (t : ℕ) → t < total (f .settings) → turned (view f) t .members ≡ stateOf f t .members
@@ -123,7 +123,7 @@ module _ (f : Floor) (few : total (f .settings) ≤ 64) (ok : fits f ≡ true) w
   reason-view : (t : ℕ) → t < total (f .settings) → reasonBy (f .settings) (f .tiles) turnIn lackIn t ≡ reasonOf (view f) t
   unfolding reasonBy reasonOf aheadOf view head
   reason-view t h =
-      ap (λ (x : Tile). reasonFrom x (turnIn (neighbour (f .settings) (x .next .code) t)) (lackIn (neighbour (f .settings) (x .next .code) t))) (head-view f few ok t h)
+      ap (λ (x : Tile). reasonFrom x (turnIn (neighbour (f .settings) (x .next .code) t)) (lackIn (neighbour (f .settings) (x .next .code) t))) (head-read f few ok t h)
       ∙ from-head (tileOf (view f) t) (signalOf (view f) (neighbour (f .settings) (tileOf (view f) t .next) t))
       ∙ rw (lt-ltb t (total (f .settings)) h)
 
@@ -135,7 +135,7 @@ module _ (f : Floor) (few : total (f .settings) ≤ 64) (ok : fits f ≡ true) w
   unfolding lackBy missingOf aheadOf view head
   beside-view t h =
       ap (λ (n : ℕ). cond (eqb n 5) (lackIn (neighbour (f .settings) (headOf f t .next .code) t)) 0) (reason-view t h)
-      ∙ ap (λ (x : Tile). cond (eqb (reasonOf (view f) t) 5) (lackIn (neighbour (f .settings) (x .next .code) t)) 0) (head-view f few ok t h)
+      ∙ ap (λ (x : Tile). cond (eqb (reasonOf (view f) t) 5) (lackIn (neighbour (f .settings) (x .next .code) t)) 0) (head-read f few ok t h)
 
   off-missing : (t : ℕ) → total (f .settings) ≤ t → missingOf (view f) t ≡ 0
   unfolding missingOf

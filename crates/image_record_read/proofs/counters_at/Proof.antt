@@ -1,9 +1,9 @@
 use mathlib.Core.Path.{_≡_, refl}
-use Prim.Native.Nat.{ℕ, zero, suc, _+_, _-_, _*_, _≤_}
+use Prim.Native.Nat.{_+_, _-_, _*_, _≤_}
 use native.Mathlib.Omega.{arith}
-use lib.ListN.{length, getD, drop, replicate, length-set}
+use lib.ListN.{length, drop, length-set}
 use Rattle.laws.specs.Filled.{Upto, From}
-use Rattle.laws.proofs.Tables.{upto-turn, rest-turn}
+use Rattle.laws.proofs.Tables.{upto-turn, rest-turn, zeros-at}
 use Rattle.image_bytes.specs.Bytes.{le}
 use Rattle.image_record_read.proofs.Values.{counters-code}
 use borrow.Author.Needs.{needs}
@@ -12,13 +12,6 @@ use Rattle.image_record_read.proofs.counters_at.Tie as tie
 use Rattle.image_record_read.proofs.counters_at.Reads as reads
 use Rattle.image_record_read.proofs.counters_at.Lts as lts
 use Rattle.image_bytes.proofs.u32_at.Reads as u32-at-reads
-
-zeros : (k : ℕ) → _≡_ {A = ℕ} (getD (replicate 4 0) k 0) 0
-zeros zero = refl
-zeros (suc zero) = refl
-zeros (suc (suc zero)) = refl
-zeros (suc (suc (suc zero))) = refl
-zeros (suc (suc (suc (suc k)))) = refl
 
 abbrev Inv-loop : tie.InvT-loop
 Inv-loop s at h last booked n delivered₀ k₀ delivered k = (k ≤ h) × (h ≤ 4) × (n ≡ h) × (at + 8 + 4 * h ≤ length s) × (length delivered ≡ 4) × Upto k (λ j. le 4 (drop (at + 8 + 4 * j) s)) 0 delivered × From k (λ _. 0) 0 delivered
@@ -36,7 +29,7 @@ u32-at-requires-2 : tie.Need-u32-at-requires-2 Inv-loop μ-loop
 u32-at-requires-2 c κs = search needs
 
 loop-holds : tie.Need-loop-holds Inv-loop μ-loop
-loop-holds c = let S = c .before .before .before in (omega arith, S .pre .1, refl, S .pre .0, refl, λ i h. absurd (omega arith), λ i h. zeros i)
+loop-holds c = let S = c .before .before .before in (omega arith, S .pre .1, refl, S .pre .0, refl, λ i h. absurd (omega arith), λ i h. zeros-at 4 i)
 
 add-u32-at-2 : tie.Need-add-u32-at-2 Inv-loop μ-loop
 add-u32-at-2 c = search needs

@@ -4,7 +4,6 @@ use Prim.Native.Nat.{ℕ, _+_, _*_, _-_, _≤_, _<_}
 use native.Mathlib.Omega.{arith}
 use lib.Dec.{ltb}
 use lib.ListN.{length}
-use native.Mathlib.Nat.{lt-of-le-of-lt}
 use Rattle.image_write.specs.Upto.{countAt}
 use Rattle.image_write.proofs.ImageBytes.{counts-few, encode-heads, heads-more, heads-none, headsSize, hoppers-are, hoppers-four, first-is}
 use Rattle.floor.proofs.Pack.{well-few, well-lengths}
@@ -13,6 +12,7 @@ use Rattle.image_write.proofs.image_length.Statement.{statement}
 use Rattle.image_write.proofs.image_length.Tie as tie
 use Rattle.image_write.proofs.image_length.Reads as reads
 use Rattle.image_write.proofs.image_length.Lts as lts
+use Rattle.floor.proofs.Settings.tile_count.Reads as tile-count-reads
 use Rattle.sets.proofs.size.Reads as size-reads
 use Rattle.image_write.proofs.first_length.Reads as first-length-reads
 use Rattle.image_write.proofs.laid_out.Reads as laid-out-reads
@@ -28,14 +28,8 @@ Inv-loop tiles c h first laid n₀ t₀ n t =
 abbrev μ-loop : tie.MeasureT-loop
 μ-loop tiles c h first laid n₀ t₀ n t = c - t
 
-cast-c : tie.Need-cast-c Inv-loop μ-loop
-cast-c c = search needs
-
-cast-c-2 : tie.Need-cast-c-2 Inv-loop μ-loop
-cast-c-2 c = search needs
-
-mul-c : tie.Need-mul-c Inv-loop μ-loop
-mul-c c = record { fits = lt-of-le-of-lt (well-few (c .before .before .before .args .f) (c .before .before .before .pre)) (omega arith) }
+tile-count-requires : tie.Need-tile-count-requires Inv-loop μ-loop
+tile-count-requires c κs = tt
 
 size-requires : tie.Need-size-requires Inv-loop μ-loop
 size-requires c κs = search needs
@@ -151,7 +145,8 @@ loop-holds c =
     let small = first-small first (ltb 1 h) (c .before .before .first-length .ensures) in
     let four = hoppers-four f w h he in
     let eight = c .laid-out .ensures .1 in
-    (omega arith, well-few f w, well-lengths f w .0, omega (arith, heads-none (f .tiles)), omega arith, counts-few f w)
+    let all = c .before .before .before .before .tile-count .ensures in
+    (omega arith, omega (arith, well-few f w, all), well-lengths f w .0, omega (arith, heads-none (f .tiles)), omega arith, λ u l. counts-few f w u (omega (arith, all)))
 
 mul-head : tie.Need-mul-head Inv-loop μ-loop
 mul-head c = search needs
@@ -202,9 +197,7 @@ image-length-spec =
     (tie.spec
     Inv-loop
     μ-loop
-    cast-c
-    cast-c-2
-    mul-c
+    tile-count-requires
     size-requires
     first-length-requires
     laid-out-requires

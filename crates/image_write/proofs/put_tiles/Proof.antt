@@ -1,10 +1,11 @@
 use mathlib.Core.Path.{_≡_, refl, sym, _∙_}
-use Prim.Native.Nat.{ℕ, _+_, _*_, _-_, _≤_, _<_}
+use Prim.Native.Nat.{_+_, _*_, _-_, _≤_, _<_}
 use native.Mathlib.Omega.{arith}
 use lib.ListN.{length, take, drop}
 use Rattle.image.specs.Image.{canistersBody}
 use Rattle.image_record_write.proofs.RecordBytes.{put-turn}
-use Rattle.image_write.proofs.ImageBytes.{at-turn, tiles-turn, upto-room}
+use Rattle.image_write.proofs.ImageBytes.{tileFront, at-turn, tiles-turn, upto-room}
+use Rattle.image_write.proofs.Loops.{TilesPut, CanistersPut}
 use Rattle.image_write.specs.Upto.{countAt, upto}
 use Rattle.image_bytes.specs.Put.{put}
 use Rattle.image_bytes.proofs.PutLaws.{put-none}
@@ -17,14 +18,13 @@ use Rattle.image_record_write.proofs.put_canister.Reads as put-canister-reads
 use Rattle.image_record_write.proofs.put_tile.Reads as put-tile-reads
 
 abbrev Inv-loop2 : tie.InvT-loop2
-Inv-loop2 s₀ from c tiles all at t n k₀ s k = (k ≤ n) × (n ≤ 16) × (at + 10 + 8 * n ≤ length s₀) × (length s ≡ length s₀) × (t < 64) × (length all ≡ 1024) × (s ≡ put s₀ (at + 10) (canistersBody (take k (drop (16 * t) all))))
+Inv-loop2 s₀ from c tiles all at t n k₀ s k = CanistersPut s₀ all at t n s k
 
 abbrev μ-loop2 : tie.MeasureT-loop2
 μ-loop2 s₀ from c tiles all at t n k₀ s k = n - k
 
 abbrev Inv-loop : tie.InvT-loop
-Inv-loop s₀ from c tiles all at₀ t₀ s at t =
-    (t ≤ c) × (c ≤ 64) × (length all ≡ 1024) × (length tiles ≡ 64) × (length s ≡ length s₀) × (from + length (upto tiles all c) ≤ length s₀) × (at ≡ from + length (upto tiles all t)) × (s ≡ put s₀ from (upto tiles all t)) × ((u : ℕ) → u < c → countAt tiles u ≤ 16)
+Inv-loop s₀ from c tiles all at₀ t₀ s at t = TilesPut s₀ from c tiles all s at t
 
 abbrev μ-loop : tie.MeasureT-loop
 μ-loop s₀ from c tiles all at₀ t₀ s at t = c - t
@@ -33,7 +33,17 @@ loop-holds : tie.Need-loop-holds Inv-loop2 μ-loop2 Inv-loop μ-loop
 unfolding upto
 loop-holds c =
     let g = c .before .args in
-    (omega arith, c .before .pre .0, c .before .good .1 .1 .1 .0 .1 .0 .1, c .before .good .1 .1 .0 .1 .0 .1, refl, c .before .pre .1, omega arith, sym (put-none (g.s .now) g.from), c .before .pre .2)
+    record {
+      below = omega arith;
+      few = c .before .pre .0;
+      tiles-length = c .before .good .1 .1 .0 .1 .0 .1;
+      all-length = c .before .good .1 .1 .1 .0 .1 .0 .1;
+      small = c .before .pre .2;
+      room = c .before .pre .1;
+      buffer-length = refl;
+      reached = omega arith;
+      written = sym (put-none (g.s .now) g.from);
+    }
 
 mul-h : tie.Need-mul-h Inv-loop2 μ-loop2 Inv-loop μ-loop
 mul-h c = search needs
@@ -49,7 +59,7 @@ put-tile-requires c κs =
     let l = c .before .before .before .loop in
     let g = c .before .before .before .before .before .args in
     let w : l .t < g.c = c .before .before .loop-test .taken in
-    let k : countAt g.t3 (l .t) ≤ 16 = l .inv .8 (l .t) w in
+    let k : countAt g.t3 (l .t) ≤ 16 = l .inv .small (l .t) w in
     let h : 16 * l .t + 16 ≤ length g.t4 = omega arith in
     let r = upto-room g.t3 g.t4 (l .t) g.c w h k in
     (omega arith, k)
@@ -63,11 +73,19 @@ loop2-holds c =
     let l = c .before .before .before .before .before .before .before .loop in
     let g = c .before .before .before .before .before .before .before .before .before .args in
     let w : l .t < g.c = c .before .before .before .before .before .before .loop-test .taken in
-    let k : countAt g.t3 (l .t) ≤ 16 = l .inv .8 (l .t) w in
+    let k : countAt g.t3 (l .t) ≤ 16 = l .inv .small (l .t) w in
     let h : 16 * l .t + 16 ≤ length g.t4 = omega arith in
     let r = upto-room g.t3 g.t4 (l .t) g.c w h k in
     let p = c .before .before .before .put-tile in
-    (omega arith, k, omega (arith, p .kept .0), refl, omega arith, l .inv .2, sym (put-none (p .last .0) (l .at + 10)))
+    record {
+      below = omega arith;
+      few = k;
+      here = omega arith;
+      all-length = l .inv .all-length;
+      room = omega (arith, p .kept .0);
+      buffer-length = refl;
+      written = sym (put-none (p .last .0) (l .at + tileFront));
+    }
 
 mul-x : tie.Need-mul-x Inv-loop2 μ-loop2 Inv-loop μ-loop
 mul-x c = search needs
@@ -104,15 +122,15 @@ loop2-again c =
     let i = c .before .before .before .before .before .before .loop2 in
     let o = c .before .before .before .before .before .before .before .before .before .before .before .before .before .before .loop in
     let g = c .before .before .before .before .before .before .before .before .before .before .before .before .before .before .before .before .args in
-    let p = c .before .before .put-canister in (
-      omega arith,
-      i .inv .1,
-      i .inv .2,
-      p .kept .0 ∙ i .inv .3,
-      i .inv .4,
-      i .inv .5,
-      put-turn (c .before .before .before .before .before .before .before .before .before .before .put-tile .last .0) (i .s) _ (o .at + 10) (16 * o .t) (i .k) g.t4 _ (omega arith) (omega arith) (i .inv .6) (p .ensures),
-    )
+    let p = c .before .before .put-canister in record {
+      below = omega arith;
+      few = i .inv .few;
+      here = i .inv .here;
+      all-length = i .inv .all-length;
+      room = i .inv .room;
+      buffer-length = p .kept .0 ∙ i .inv .buffer-length;
+      written = put-turn (c .before .before .before .before .before .before .before .before .before .before .put-tile .last .0) (i .s) _ (o .at + tileFront) (16 * o .t) (i .k) g.t4 _ (omega arith) (omega arith) (i .inv .written) (p .ensures);
+    }
 
 add-at : tie.Need-add-at Inv-loop2 μ-loop2 Inv-loop μ-loop
 add-at c = search needs
@@ -134,22 +152,22 @@ loop-again c =
     let l = c .before .before .before .before .before .before .before .before .before .loop in
     let g = c .before .before .before .before .before .before .before .before .before .before .before .args in
     let w : l .t < g.c = c .before .before .before .before .before .before .before .before .loop-test .taken in
-    let k : countAt g.t3 (l .t) ≤ 16 = l .inv .8 (l .t) w in
+    let k : countAt g.t3 (l .t) ≤ 16 = l .inv .small (l .t) w in
     let h : 16 * l .t + 16 ≤ length g.t4 = omega arith in
     let p = c .before .before .before .before .before .put-tile in
     let i = c .before .loop2 in
     let z : i .k ≡ countAt g.t3 (l .t) = omega arith in
-    let q : i .s ≡ put (p .last .0) (l .at + 10) (canistersBody (take (countAt g.t3 (l .t)) (drop (16 * l .t) g.t4))) = rw z at (i .inv .6) in (
-      omega arith,
-      l .inv .1,
-      l .inv .2,
-      l .inv .3,
-      i .inv .3 ∙ p .kept .0 ∙ l .inv .4,
-      l .inv .5,
-      at-turn g.t3 g.t4 g.from (l .at) (l .t) h k (l .inv .6),
-      tiles-turn g.t3 g.t4 (g.s .now) (l .s) (p .last .0) _ g.from (l .at) (l .t) h k (omega arith) (l .inv .6) (l .inv .7) (p .ensures) q,
-      l .inv .8,
-    )
+    let q : i .s ≡ put (p .last .0) (l .at + tileFront) (canistersBody (take (countAt g.t3 (l .t)) (drop (16 * l .t) g.t4))) = rw z at (i .inv .written) in record {
+      below = omega arith;
+      few = l .inv .few;
+      tiles-length = l .inv .tiles-length;
+      all-length = l .inv .all-length;
+      small = l .inv .small;
+      room = l .inv .room;
+      buffer-length = i .inv .buffer-length ∙ p .kept .0 ∙ l .inv .buffer-length;
+      reached = at-turn g.t3 g.t4 g.from (l .at) (l .t) h k (l .inv .reached);
+      written = tiles-turn g.t3 g.t4 (g.s .now) (l .s) (p .last .0) _ g.from (l .at) (l .t) h k (omega arith) (l .inv .reached) (l .inv .written) (p .ensures) q;
+    }
 
 same-length : tie.Need-same-length Inv-loop2 μ-loop2 Inv-loop μ-loop
 same-length c = search needs
@@ -159,7 +177,7 @@ returns c =
     let l = c .before .loop in
     let g = c .before .before .before .args in
     let e : l .t ≡ g.c = omega arith in
-    (rw e at (l .inv .6), rw e at (l .inv .7))
+    (rw e at (l .inv .reached), rw e at (l .inv .written))
 
 pub put-tiles-spec : {M : Type 1} → statement M
 put-tiles-spec =
