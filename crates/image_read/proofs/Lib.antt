@@ -1,3 +1,4 @@
 pub mod Reading
 pub mod Load
 pub mod Places
+pub mod Loops

@@ -151,7 +151,7 @@ pub fn read_image(s: &[u8]) -> Answer
     let settings = front.settings;
     let counters = front.counters;
     let layouts = front.layouts;
-    let c = (settings.columns as usize) * (settings.rows as usize);
+    let c = settings.tile_count();
     let scan = scan_tiles(s, front.next, c);
     if scan.fault != 0 {
         return refused(scan.fault);

@@ -9,7 +9,7 @@ ghost use Rattle.laws.specs.Define.{tab, refusal};
 ghost use Rattle.floor.specs.Layouts.{nameNumber};
 ghost use Rattle.floor.specs.Memory.{unused, head};
 ghost use Rattle.image.specs.Image as I;
-ghost use Rattle.image.specs.Image.{settingsIn, countersIn, tileIn, tilesIn, layoutIn, settingsFaults, countersFaults, tileFaults, layoutFaults, endFaults, recordFault, isLayout, laidFault, tilesFault};
+ghost use Rattle.image.specs.Image.{settingsIn, countersIn, tileIn, tilesIn, layoutIn, settingsFaults, countersFaults, tileFaults, layoutFaults, endFaults, recordFault, endFault, isLayout, laidFault, tilesFault};
 ghost use Rattle.image_record_read.specs.Scan.{Holds, Laying, Starts};
 use check_settings::settings_refusal;
 use check_settings::sizes_wrong;
@@ -348,7 +348,23 @@ pub fn scan_layouts(s: &[u8], from: usize) -> Laid
     }
 }
 
-// The records of c tiles from `from` on, then the end record and bytes left over.
+// The end record at `at`, and bytes left over after it: the first refusal, 0 where there is none.
+fn end_fault(s: &[u8], at: usize) -> u8
+    requires { ⌜ at ≤ length (now s) ⌝ }
+    ensures { λ r. ⌜ r ≡ endFault (drop at (now (s .entry))) ⌝ }
+{
+    let end = read_record(s, at, 4, 0);
+    if end.fault != 0 {
+        return end.fault;
+    }
+    let n = u16_at(s, at);
+    if at + 4 + (n as usize) < s.len() {
+        return refusals::IMAGE_END;
+    }
+    0
+}
+
+// The records of c tiles from `from` on, then the end.
 pub fn scan_tiles(s: &[u8], from: usize, c: usize) -> Scan
     requires { ⌜ (from ≤ length (now s)) × (c ≤ 64) ⌝ }
     ensures { λ r. ⌜ (r .fault ≡ tilesFault c 0 (drop from (now (s .entry)))) × (r .fault ≡ 0 → Starts (now (s .entry)) (drop from (now (s .entry))) (r .starts) c × (r .tiles ≡ tab 64 (λ t. head (getD (tilesIn c (drop from (now (s .entry)))) t unused)))) ⌝ }
@@ -373,24 +389,9 @@ pub fn scan_tiles(s: &[u8], from: usize, c: usize) -> Scan
         at = at + 4 + n as usize;
         t = t + 1;
     }
-    let end = read_record(s, at, 4, 0);
-    if end.fault != 0 {
-        return Scan {
-            fault: end.fault,
-            starts: starts,
-            tiles: tiles,
-        };
-    }
-    let n = u16_at(s, at);
-    if at + 4 + (n as usize) < s.len() {
-        return Scan {
-            fault: refusals::IMAGE_END,
-            starts: starts,
-            tiles: tiles,
-        };
-    }
+    let fault = end_fault(s, at);
     Scan {
-        fault: 0,
+        fault: fault,
         starts: starts,
         tiles: tiles,
     }

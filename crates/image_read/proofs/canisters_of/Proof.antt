@@ -1,5 +1,5 @@
 use mathlib.Core.Path.{_≡_, refl}
-use Prim.Native.Nat.{_+_, _*_, _-_, _≤_, _<_}
+use Prim.Native.Nat.{_+_, _*_, _-_, _≤_}
 use native.Mathlib.Omega.{arith}
 use lib.ListN.{length, drop, getD}
 use Rattle.image_bytes.specs.Bytes.{field}
@@ -8,7 +8,8 @@ use Rattle.floor.specs.Memory.{zeroCanister}
 use Rattle.image_read.specs.Arrays.{canisterFrom}
 use Rattle.image_read.proofs.Reading.{count-is}
 use Rattle.image_record_read.proofs.Filled.{filled-none}
-use Rattle.image_read.proofs.Places.{Placed, placed-turn, placed-tile, placed-all}
+use Rattle.image_read.proofs.Places.{placed-turn, placed-tile, placed-all}
+use Rattle.image_read.proofs.Loops.{TilesPlaced, CanistersPlaced}
 use borrow.Author.Needs.{needs}
 use Rattle.image_read.proofs.canisters_of.Statement.{statement}
 use Rattle.image_read.proofs.canisters_of.Tie as tie
@@ -17,19 +18,24 @@ use Rattle.image_read.proofs.canisters_of.Lts as lts
 use Rattle.image_read.proofs.canister_at.Reads as canister-at-reads
 
 abbrev Inv-loop2 : tie.InvT-loop2
-Inv-loop2 s c starts out₀ t at n j₀ out j = (j ≤ n) × (t < c) × (c ≤ 64) × (n ≤ 16) × (at + 6 + 8 * n ≤ length s) × (length starts ≡ 64) × Placed s starts c (16 * t + j) out
+Inv-loop2 s c starts out₀ t at n j₀ out j = CanistersPlaced s starts c t at n out j
 
 abbrev μ-loop2 : tie.MeasureT-loop2
 μ-loop2 s c starts out₀ t at n j₀ out j = n - j
 
 abbrev Inv-loop : tie.InvT-loop
-Inv-loop s c starts out₀ t₀ out t = (t ≤ c) × (c ≤ 64) × (length starts ≡ 64) × Placed s starts c (16 * t) out
+Inv-loop s c starts out₀ t₀ out t = TilesPlaced s starts c out t
 
 abbrev μ-loop : tie.MeasureT-loop
 μ-loop s c starts out₀ t₀ out t = c - t
 
 loop-holds : tie.Need-loop-holds Inv-loop2 μ-loop2 Inv-loop μ-loop
-loop-holds c = (omega arith, c .before .pre .0, c .before .good .1 .0 .1 .0 .1, filled-none 1024 (canisterFrom (c .before .args .s .now) (c .before .args .t2) (c .before .args .c)) zeroCanister)
+loop-holds c = let g = c .before .args in record {
+  below = omega arith;
+  few = c .before .pre .0;
+  starts-length = c .before .good .1 .0 .1 .0 .1;
+  placed = filled-none 1024 (canisterFrom (g.s .now) g.t2 g.c) zeroCanister;
+}
 
 mul-at : tie.Need-mul-at Inv-loop2 μ-loop2 Inv-loop μ-loop
 mul-at c = search needs
@@ -64,7 +70,15 @@ loop2-holds c =
     let few = c .before .before .before .before .pre .2 (l .t) (omega arith) in
     let n = count-is (g.s .now) (getD g.t2 (l .t) 0) 0 (omega arith) in
     let k : 16 * l .t + 0 ≡ 16 * l .t = omega arith in
-    (omega arith, omega arith, l .inv .1, omega (arith, n, few), omega (arith, n), l .inv .2, rw k (l .inv .3))
+    record {
+      below = omega arith;
+      here = omega arith;
+      few = l .inv .few;
+      small = omega (arith, n, few);
+      room = omega (arith, n);
+      starts-length = l .inv .starts-length;
+      placed = rw k (l .inv .placed);
+    }
 
 add-canister-at : tie.Need-add-canister-at Inv-loop2 μ-loop2 Inv-loop μ-loop
 add-canister-at c = search needs
@@ -100,15 +114,15 @@ loop2-again : tie.Need-loop2-again Inv-loop2 μ-loop2 Inv-loop μ-loop
 loop2-again c =
     let g = c .before .before .before .before .before .before .before .args in
     let l = c .before .before .before .before .before .loop in
-    let i = c .before .before .loop2 in (
-      omega arith,
-      i .inv .1,
-      i .inv .2,
-      i .inv .3,
-      i .inv .4,
-      i .inv .5,
-      placed-turn (g.s .now) g.t2 g.c (l .t) (i .inv .1) (i .inv .2) (omega arith) _ refl (i .inv .3) (i .j) (i .out) _ (omega arith) (c .canister-at .ensures) (i .inv .6),
-    )
+    let i = c .before .before .loop2 in record {
+      below = omega arith;
+      here = i .inv .here;
+      few = i .inv .few;
+      small = i .inv .small;
+      room = i .inv .room;
+      starts-length = i .inv .starts-length;
+      placed = placed-turn (g.s .now) g.t2 g.c (l .t) (i .inv .here) (i .inv .few) (omega arith) _ refl (i .inv .small) (i .j) (i .out) _ (omega arith) (c .canister-at .ensures) (i .inv .placed);
+    }
 
 add-t : tie.Need-add-t Inv-loop2 μ-loop2 Inv-loop μ-loop
 add-t c = search needs
@@ -121,13 +135,18 @@ loop-again c =
     let g = c .before .before .before .before .before .before .args in
     let l = c .before .before .before .before .loop in
     let i = c .before .loop2 in
-    (omega arith, l .inv .1, l .inv .2, placed-tile (g.s .now) g.t2 g.c (l .t) (i .inv .1) (i .inv .2) (omega arith) _ refl (i .inv .3) (i .j) (i .out) (omega arith) (i .inv .0) (i .inv .6))
+    record {
+      below = omega arith;
+      few = l .inv .few;
+      starts-length = l .inv .starts-length;
+      placed = placed-tile (g.s .now) g.t2 g.c (l .t) (i .inv .here) (i .inv .few) (omega arith) _ refl (i .inv .small) (i .j) (i .out) (omega arith) (i .inv .below) (i .inv .placed);
+    }
 
 returns : tie.Need-returns Inv-loop2 μ-loop2 Inv-loop μ-loop
 returns c =
     let g = c .before .before .before .args in
     let l = c .before .loop in
-    placed-all (g.s .now) g.t2 g.c (l .t) (l .out) (omega arith) (omega arith) (l .inv .3)
+    placed-all (g.s .now) g.t2 g.c (l .t) (l .out) (omega arith) (omega arith) (l .inv .placed)
 
 pub canisters-of-spec : {M : Type 1} → statement M
 canisters-of-spec =

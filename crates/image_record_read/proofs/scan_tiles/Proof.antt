@@ -1,25 +1,24 @@
 use mathlib.Core.Path.{_≡_, refl, sym, _∙_}
 use mathlib.Core.Logic.{_≢_}
-use Prim.Native.Nat.{_+_, _-_, _≤_, _<_}
+use Prim.Native.Nat.{_+_, _-_}
 use native.Mathlib.Omega.{arith}
-use lib.ListN.{length, drop, length-set, length-drop}
-use Rattle.image_record_read.specs.Scan.{Starts, after}
+use lib.ListN.{drop, length-set}
 use Rattle.image_record_read.proofs.Filled.{filled-none}
-use Rattle.image_record_read.proofs.Walk.{headOf, Tiled, tiled-turn, tiled-all, after-more, after-none, end-done, end-more, end-stop, record-room, rest-at, start-at, starts-more, tiles-end, tiles-on, tiles-stop, tiles-zero}
+use Rattle.image_record_read.proofs.Walk.{headOf, tiled-turn, tiled-all, after-more, after-none, record-room, rest-at, start-at, starts-more, tiles-end, tiles-on, tiles-stop, tiles-zero}
 use Rattle.floor.specs.Memory.{zeroTile}
-use Rattle.image_bytes.specs.Bytes.{le}
-use Rattle.image.specs.Image.{recordFault, tilesFault}
+use Rattle.image.specs.Image.{recordFault}
+use Rattle.image_record_read.proofs.Loops.{TilesScanned}
 use borrow.Author.Needs.{needs}
 use Rattle.image_record_read.proofs.scan_tiles.Statement.{statement}
 use Rattle.image_record_read.proofs.scan_tiles.Tie as tie
 use Rattle.image_record_read.proofs.scan_tiles.Reads as reads
 use Rattle.image_record_read.proofs.scan_tiles.Lts as lts
 use Rattle.image_record_read.proofs.read_record.Reads as read-record-reads
+use Rattle.image_record_read.proofs.end_fault.Reads as end-fault-reads
 use Rattle.image_bytes.proofs.u16_at.Reads as u16-at-reads
 
 abbrev Inv-loop : tie.InvT-loop
-Inv-loop s from c tiles₀ starts₀ at₀ t₀ tiles starts at t =
-    (t ≤ c) × (at ≤ length s) × (length starts ≡ 64) × (drop at s ≡ after t (drop from s)) × (tilesFault (c - t) t (drop at s) ≡ tilesFault c 0 (drop from s)) × Starts s (drop from s) starts t × Tiled c (drop from s) t tiles
+Inv-loop s from c tiles₀ starts₀ at₀ t₀ tiles starts at t = TilesScanned s from c tiles starts at t
 
 abbrev μ-loop : tie.MeasureT-loop
 μ-loop s from c tiles₀ starts₀ at₀ t₀ tiles starts at t = c - t
@@ -27,13 +26,21 @@ abbrev μ-loop : tie.MeasureT-loop
 loop-holds : tie.Need-loop-holds Inv-loop μ-loop
 loop-holds c =
     let g = c .before .args in
-    (omega arith, omega arith, refl, after-none (drop g.from (g.s .now)), tiles-zero g.c (drop g.from (g.s .now)), λ t h. absurd (omega arith), filled-none 64 (headOf g.c (drop g.from (g.s .now))) zeroTile)
+    record {
+      below = omega arith;
+      inside = omega arith;
+      starts-length = refl;
+      reached = after-none (drop g.from (g.s .now));
+      faults = tiles-zero g.c (drop g.from (g.s .now));
+      started = λ t h. absurd (omega arith);
+      tiled = filled-none 64 (headOf g.c (drop g.from (g.s .now))) zeroTile;
+    }
 
 cast-read-record : tie.Need-cast-read-record Inv-loop μ-loop
 cast-read-record c = search needs
 
 read-record-requires : tie.Need-read-record-requires Inv-loop μ-loop
-read-record-requires c κs = (c .before .loop .inv .1, omega arith, omega arith, λ e. absurd (omega arith))
+read-record-requires c κs = (c .before .loop .inv .inside, omega arith, omega arith, λ e. absurd (omega arith))
 
 returns : tie.Need-returns Inv-loop μ-loop
 returns c =
@@ -41,7 +48,7 @@ returns c =
     let g = c .before .before .before .before .before .before .args in
     let e = c .before .before .read-record .ensures .0 in
     let n : recordFault 3 (l .t) (drop (l .at) (g.s .now)) ≢ 0 = omega (arith, e) in
-    (e ∙ sym (tiles-stop g.c (l .t) (drop (l .at) (g.s .now)) (omega arith) n) ∙ l .inv .4, λ z. absurd (omega arith))
+    (e ∙ sym (tiles-stop g.c (l .t) (drop (l .at) (g.s .now)) (omega arith) n) ∙ l .inv .faults, λ z. absurd (omega arith))
 
 mul-tiles : tie.Need-mul-tiles Inv-loop μ-loop
 mul-tiles c = search needs
@@ -54,7 +61,7 @@ add-starts c =
     let l = c .before .before .before .before .before .loop in
     let g = c .before .before .before .before .before .before .before .args in
     let z : recordFault 3 (l .t) (drop (l .at) (g.s .now)) ≡ 0 = omega (arith, c .before .before .before .read-record .ensures .0) in
-    let m = record-room (g.s .now) (l .at) 3 (l .t) (l .inv .1) z in
+    let m = record-room (g.s .now) (l .at) 3 (l .t) (l .inv .inside) z in
     omega arith
 
 mul-starts : tie.Need-mul-starts Inv-loop μ-loop
@@ -68,7 +75,7 @@ u16-at-requires c κs =
     let l = c .before .before .before .before .before .loop in
     let g = c .before .before .before .before .before .before .before .args in
     let z : recordFault 3 (l .t) (drop (l .at) (g.s .now)) ≡ 0 = omega (arith, c .before .before .before .read-record .ensures .0) in
-    let m = record-room (g.s .now) (l .at) 3 (l .t) (l .inv .1) z in
+    let m = record-room (g.s .now) (l .at) 3 (l .t) (l .inv .inside) z in
     omega arith
 
 add-at : tie.Need-add-at Inv-loop μ-loop
@@ -76,7 +83,7 @@ add-at c =
     let l = c .before .before .before .before .before .before .loop in
     let g = c .before .before .before .before .before .before .before .before .args in
     let z : recordFault 3 (l .t) (drop (l .at) (g.s .now)) ≡ 0 = omega (arith, c .before .before .before .before .read-record .ensures .0) in
-    let m = record-room (g.s .now) (l .at) 3 (l .t) (l .inv .1) z in
+    let m = record-room (g.s .now) (l .at) 3 (l .t) (l .inv .inside) z in
     omega arith
 
 cast-at : tie.Need-cast-at Inv-loop μ-loop
@@ -87,7 +94,7 @@ add-at-2 c =
     let l = c .before .before .before .before .before .before .loop in
     let g = c .before .before .before .before .before .before .before .before .args in
     let z : recordFault 3 (l .t) (drop (l .at) (g.s .now)) ≡ 0 = omega (arith, c .before .before .before .before .read-record .ensures .0) in
-    let m = record-room (g.s .now) (l .at) 3 (l .t) (l .inv .1) z in
+    let m = record-room (g.s .now) (l .at) 3 (l .t) (l .inv .inside) z in
     omega (arith, c .u16-at .ensures)
 
 add-t : tie.Need-add-t Inv-loop μ-loop
@@ -101,73 +108,29 @@ loop-again c =
     let l = c .before .before .before .before .before .before .loop in
     let g = c .before .before .before .before .before .before .before .before .args in
     let z : recordFault 3 (l .t) (drop (l .at) (g.s .now)) ≡ 0 = omega (arith, c .before .before .before .before .read-record .ensures .0) in
-    let m = record-room (g.s .now) (l .at) 3 (l .t) (l .inv .1) z in
+    let m = record-room (g.s .now) (l .at) 3 (l .t) (l .inv .inside) z in
     let n = c .u16-at .ensures in
-    let r = rest-at (g.s .now) (l .at) _ n in (
-      omega arith,
-      omega (arith, n),
-      simp length-set (l .inv .2),
-      after-more (l .t) (drop (l .at) (g.s .now)) (drop g.from (g.s .now)) _ (l .inv .3) r,
-      rw (← r) (sym (tiles-on g.c (l .t) (drop (l .at) (g.s .now)) (omega arith) z) ∙ l .inv .4),
-      starts-more (g.s .now) (drop g.from (g.s .now)) (l .starts) (l .t) (l .at + 4) (omega arith) (l .inv .5) (start-at (g.s .now) (drop g.from (g.s .now)) (l .at) (l .t) (l .inv .1) (l .inv .3) z),
-      tiled-turn g.c (drop g.from (g.s .now)) (l .t) (l .tiles) _ (drop (l .at) (g.s .now)) (omega arith) (omega arith) (l .inv .3) (c .before .before .before .before .read-record .ensures .1 (c .before .before .if1 .left) .tile refl) (l .inv .6),
-    )
+    let r = rest-at (g.s .now) (l .at) _ n in record {
+      below = omega arith;
+      inside = omega (arith, n);
+      starts-length = simp length-set (l .inv .starts-length);
+      reached = after-more (l .t) (drop (l .at) (g.s .now)) (drop g.from (g.s .now)) _ (l .inv .reached) r;
+      faults = rw (← r) (sym (tiles-on g.c (l .t) (drop (l .at) (g.s .now)) (omega arith) z) ∙ l .inv .faults);
+      started = starts-more (g.s .now) (drop g.from (g.s .now)) (l .starts) (l .t) (l .at + 4) (omega arith) (l .inv .started) (start-at (g.s .now) (drop g.from (g.s .now)) (l .at) (l .t) (l .inv .inside) (l .inv .reached) z);
+      tiled = tiled-turn g.c (drop g.from (g.s .now)) (l .t) (l .tiles) _ (drop (l .at) (g.s .now)) (omega arith) (omega arith) (l .inv .reached) (c .before .before .before .before .read-record .ensures .1 (c .before .before .if1 .left) .tile refl) (l .inv .tiled);
+    }
 
-read-record-requires-2 : tie.Need-read-record-requires-2 Inv-loop μ-loop
-read-record-requires-2 c κs = (c .before .loop .inv .1, omega arith, omega arith, λ e. absurd (omega arith))
+end-fault-requires : tie.Need-end-fault-requires Inv-loop μ-loop
+end-fault-requires c κs = c .before .loop .inv .inside
 
 returns-2 : tie.Need-returns-2 Inv-loop μ-loop
 returns-2 c =
-    let l = c .before .before .before .before .loop in
-    let g = c .before .before .before .before .before .before .args in
-    let e = c .before .before .read-record2 .ensures .0 in
-    let n : recordFault 4 0 (drop (l .at) (g.s .now)) ≢ 0 = omega (arith, e) in
-    (e ∙ sym (end-stop (drop (l .at) (g.s .now)) n) ∙ sym (tiles-end g.c (l .t) (drop (l .at) (g.s .now)) (omega arith)) ∙ l .inv .4, λ z. absurd (omega arith))
-
-u16-at-requires-2 : tie.Need-u16-at-requires-2 Inv-loop μ-loop
-u16-at-requires-2 c κs =
-    let l = c .before .before .before .before .loop in
-    let g = c .before .before .before .before .before .before .args in
-    let z : recordFault 4 0 (drop (l .at) (g.s .now)) ≡ 0 = omega (arith, c .before .before .read-record2 .ensures .0) in
-    let m = record-room (g.s .now) (l .at) 4 0 (l .inv .1) z in
-    omega arith
-
-add-if3 : tie.Need-add-if3 Inv-loop μ-loop
-add-if3 c =
-    let l = c .before .before .before .before .before .loop in
-    let g = c .before .before .before .before .before .before .before .args in
-    let z : recordFault 4 0 (drop (l .at) (g.s .now)) ≡ 0 = omega (arith, c .before .before .before .read-record2 .ensures .0) in
-    let m = record-room (g.s .now) (l .at) 4 0 (l .inv .1) z in
-    omega arith
-
-cast-if3 : tie.Need-cast-if3 Inv-loop μ-loop
-cast-if3 c = search needs
-
-add-if3-2 : tie.Need-add-if3-2 Inv-loop μ-loop
-add-if3-2 c =
-    let l = c .before .before .before .before .before .loop in
-    let g = c .before .before .before .before .before .before .before .args in
-    let z : recordFault 4 0 (drop (l .at) (g.s .now)) ≡ 0 = omega (arith, c .before .before .before .read-record2 .ensures .0) in
-    let m = record-room (g.s .now) (l .at) 4 0 (l .inv .1) z in
-    omega (arith, c .u16-at2 .ensures)
-
-returns-3 : tie.Need-returns-3 Inv-loop μ-loop
-returns-3 c =
-    let l = c .before .before .before .before .before .before .loop in
-    let g = c .before .before .before .before .before .before .before .before .args in
-    let z : recordFault 4 0 (drop (l .at) (g.s .now)) ≡ 0 = omega (arith, c .before .before .before .before .read-record2 .ensures .0) in
-    let m = record-room (g.s .now) (l .at) 4 0 (l .inv .1) z in
-    let k : 4 + le 2 (drop (l .at) (g.s .now)) < length (drop (l .at) (g.s .now)) = rw length-drop (omega (arith, c .before .u16-at2 .ensures)) in
-    (sym (end-more (drop (l .at) (g.s .now)) z k) ∙ sym (tiles-end g.c (l .t) (drop (l .at) (g.s .now)) (omega arith)) ∙ l .inv .4, λ y. absurd (omega arith))
-
-returns-4 : tie.Need-returns-4 Inv-loop μ-loop
-returns-4 c =
-    let l = c .before .before .before .before .before .before .loop in
-    let g = c .before .before .before .before .before .before .before .before .args in
-    let z : recordFault 4 0 (drop (l .at) (g.s .now)) ≡ 0 = omega (arith, c .before .before .before .before .read-record2 .ensures .0) in
-    let m = record-room (g.s .now) (l .at) 4 0 (l .inv .1) z in
-    let k : length (drop (l .at) (g.s .now)) ≤ 4 + le 2 (drop (l .at) (g.s .now)) = rw length-drop (omega (arith, c .before .u16-at2 .ensures)) in
-    (sym (end-done (drop (l .at) (g.s .now)) z k) ∙ sym (tiles-end g.c (l .t) (drop (l .at) (g.s .now)) (omega arith)) ∙ l .inv .4, λ y. (λ t h. l .inv .5 t (omega arith), tiled-all g.c (drop g.from (g.s .now)) (l .t) (l .tiles) (omega arith) (omega arith) (l .inv .6)))
+    let l = c .before .before .loop in
+    let g = c .before .before .before .before .args in
+    (
+      c .end-fault .ensures ∙ sym (tiles-end g.c (l .t) (drop (l .at) (g.s .now)) (omega arith)) ∙ l .inv .faults,
+      λ y. (λ t h. l .inv .started t (omega arith), tiled-all g.c (drop g.from (g.s .now)) (l .t) (l .tiles) (omega arith) (omega arith) (l .inv .tiled)),
+    )
 
 pub scan-tiles-spec : {M : Type 1} → statement M
 scan-tiles-spec =
@@ -191,11 +154,5 @@ scan-tiles-spec =
     add-t
     loop-less
     loop-again
-    read-record-requires-2
-    returns-2
-    u16-at-requires-2
-    add-if3
-    cast-if3
-    add-if3-2
-    returns-3
-    returns-4)
+    end-fault-requires
+    returns-2)
