@@ -126,8 +126,7 @@ end-fault-requires c κs = c .before .loop .inv .inside
 returns-2 : tie.Need-returns-2 Inv-loop μ-loop
 returns-2 c =
     let l = c .before .before .loop in
-    let g = c .before .before .before .before .args in
-    (
+    let g = c .before .before .before .before .args in (
       c .end-fault .ensures ∙ sym (tiles-end g.c (l .t) (drop (l .at) (g.s .now)) (omega arith)) ∙ l .inv .faults,
       λ y. (λ t h. l .inv .started t (omega arith), tiled-all g.c (drop g.from (g.s .now)) (l .t) (l .tiles) (omega arith) (omega arith) (l .inv .tiled)),
     )
