@@ -1,8 +1,9 @@
 -- The entries of a list that is typed line by line.
-use mathlib.Core.Bool.{cond}
+use mathlib.Core.Bool.{Bool, cond}
 use Prim.Native.Nat.{_+_}
 use lib.Dec.{ltb}
-use lib.ListN.{set}
+use lib.ListN.{set, replicate}
+use Rattle.floor.specs.Memory.{zeroCanister}
 use Rattle.book_list.specs.declared.Booking.{Booking}
 use Rattle.console_list.specs.declared.Entries.{Entries}
 
@@ -12,3 +13,7 @@ withEntry e b =
     cond (ltb (e .count) 64)
     (record { list = set (e .list) (e .count) b; count = e .count + 1; begun = e .begun })
     (record { list = e .list; count = 65; begun = e .begun })
+
+-- none
+unfoldable pub noEntries : Bool → Entries
+noEntries begun = record { list = replicate 64 (record { tile = 0; canister = zeroCanister; answer = 0 }); count = 0; begun = begun }

@@ -1,6 +1,6 @@
 // A list of bookings as it is typed: its entries so far, and their answers told.
 ghost use mathlib.Core.Path.{_≡_};
-ghost use Rattle.console_list.specs.Entries.{withEntry};
+ghost use Rattle.console_list.specs.Entries.{withEntry, noEntries};
 use book_list::Booking;
 use floor::Canister;
 
@@ -12,7 +12,9 @@ pub struct Entries {
 }
 
 // No entries.
-pub fn none(begun: bool) -> Entries {
+pub fn none(begun: bool) -> Entries
+    ensures { λ r. ⌜ r ≡ noEntries begun ⌝ }
+{
     let nothing = Booking {
         tile: 0,
         canister: Canister::ZERO,

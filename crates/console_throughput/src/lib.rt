@@ -1,9 +1,14 @@
 // Throughput at the console: a record for each hopper, fed every round, and told in plain words.
+ghost use mathlib.Core.Path.{_≡_};
+ghost use lib.ListN.{replicate};
+ghost use Rattle.throughput.specs.Lists.{zeroThroughput};
 use floor::Delivery;
 use throughput::Throughput;
 
 // Four records, the hoppers in tile order; those beyond the last hopper are fed 0.
-pub fn begin() -> [Throughput; 4] {
+pub fn begin() -> [Throughput; 4]
+    ensures { λ r. ⌜ r ≡ replicate 4 zeroThroughput ⌝ }
+{
     let none = throughput::empty();
     [none; 4]
 }
