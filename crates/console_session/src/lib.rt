@@ -3,9 +3,9 @@ ghost use Prim.Native.Nat.{_-_, _<_, _^_};
 ghost use Rattle.laws.specs.Define.{sum};
 ghost use mathlib.Core.Path.{_≡_};
 use console_list::Entries;
+use floor::Answer;
 use floor::Counters;
 use floor::Floor;
-use floor::Settings;
 use throughput::Throughput;
 
 // The floor, the throughput of each hopper, what the last round's report says of each tile, the entries of a list that is being
@@ -23,8 +23,7 @@ pub struct Session {
 }
 
 pub fn begin() -> Session {
-    let none = calls::fresh(Settings::ZERO);
-    let floor = none.floor;
+    let floor = floor::zero_floor();
     let entries = console_list::none(false);
     let records = console_throughput::begin();
     Session {
@@ -55,6 +54,29 @@ pub fn refused(s: Session, name: &[u8], n: u8) -> Session {
     s
 }
 
+// The session that ends with this line.
+pub fn ended(s: Session) -> Session {
+    let mut last = s;
+    last.going = false;
+    last
+}
+
+// The session with the floor changed.
+pub fn with_floor(s: Session, floor: Floor) -> Session {
+    let mut next = s;
+    next.floor = floor;
+    next
+}
+
+// After a call's answer: the floor that it gives, or the refusal told.
+pub fn answered(s: Session, name: &[u8], answer: Answer) -> Session {
+    if answer.refusal != 0 {
+        return refused(s, name, answer.refusal);
+    }
+    let floor = answer.floor;
+    with_floor(s, floor)
+}
+
 // A number as a wider one.
 fn wide(x: u32) -> u64
     ensures { λ r. ⌜ (r ≡ x) × (r < 2 ^ 32) ⌝ }
@@ -74,8 +96,7 @@ pub fn held(c: Counters) -> u64
 
 // The session with another floor, whose throughput begins anew.
 pub fn begun(s: Session, floor: Floor) -> Session {
-    let mut next = s;
-    next.floor = floor;
+    let mut next = with_floor(s, floor);
     let records = console_throughput::begin();
     next.records = records;
     next.rounds = 0;

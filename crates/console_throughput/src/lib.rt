@@ -2,6 +2,7 @@
 ghost use mathlib.Core.Path.{_≡_};
 ghost use lib.ListN.{replicate};
 ghost use Rattle.throughput.specs.Lists.{zeroThroughput};
+use console_say::others;
 use floor::Delivery;
 use throughput::Throughput;
 
@@ -70,12 +71,6 @@ fn rate(x: f64) {
     console_say::small(n / 256);
     console_say::text(b".");
     eight(n % 256 * 390625);
-}
-
-// The set without its lowest tile.
-fn others(set: u64) -> u64 {
-    let t = sets::lowest(set);
-    if t < 64 { sets::without(set, t) } else { set }
 }
 
 // The hopper that a line is about, where there are several.

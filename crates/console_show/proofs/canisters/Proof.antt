@@ -1,12 +1,12 @@
 use Prim.Native.Nat.{_-_}
 use borrow.Author.Needs.{needs}
-use Rattle.console_say.proofs.canisters.Statement.{statement}
-use Rattle.console_say.proofs.canisters.Tie as tie
-use Rattle.console_say.proofs.canisters.Reads as reads
-use Rattle.console_say.proofs.canisters.Lts as lts
+use Rattle.console_show.proofs.canisters.Statement.{statement}
+use Rattle.console_show.proofs.canisters.Tie as tie
+use Rattle.console_show.proofs.canisters.Reads as reads
+use Rattle.console_show.proofs.canisters.Lts as lts
 use Rattle.console_say.proofs.at_most.Reads as at-most-reads
 use Rattle.console_say.proofs.canister.Reads as canister-reads
 use Rattle.console_say.proofs.text.Reads as text-reads
 
 abbrev Inv-loop : tie.InvT-loop
 Inv-loop count members n k₀ t6 k = Unit {0}

@@ -4,11 +4,11 @@ use Prim.Native.Nat.{_-_, _≤_}
 use native.Mathlib.Omega.{arith}
 use lib.ListN.{length}
 use borrow.Author.Needs.{needs}
-use Rattle.console_say.proofs.name.Statement.{statement}
-use Rattle.console_say.proofs.name.Tie as tie
-use Rattle.console_say.proofs.name.Reads as reads
-use Rattle.console_say.proofs.name.Lts as lts
+use Rattle.console_show.proofs.name.Statement.{statement}
+use Rattle.console_show.proofs.name.Tie as tie
+use Rattle.console_show.proofs.name.Reads as reads
+use Rattle.console_show.proofs.name.Lts as lts
 use Rattle.console_say.proofs.text.Reads as text-reads
 
 abbrev Inv-loop : tie.InvT-loop
 Inv-loop letters n₀ n = (n ≤ 8) × (length letters ≡ 8)

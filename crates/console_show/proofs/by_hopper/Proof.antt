@@ -1,14 +1,14 @@
 use Prim.Native.Nat.{_-_, _≤_}
 use borrow.Author.Needs.{needs}
-use Rattle.console_say.proofs.by_hopper.Statement.{statement}
-use Rattle.console_say.proofs.by_hopper.Tie as tie
-use Rattle.console_say.proofs.by_hopper.Reads as reads
-use Rattle.console_say.proofs.by_hopper.Lts as lts
+use Rattle.console_show.proofs.by_hopper.Statement.{statement}
+use Rattle.console_show.proofs.by_hopper.Tie as tie
+use Rattle.console_show.proofs.by_hopper.Reads as reads
+use Rattle.console_show.proofs.by_hopper.Lts as lts
 use Rattle.console_say.proofs.number.Reads as number-reads
 use Rattle.console_say.proofs.others.Reads as others-reads
-use Rattle.console_say.proofs.round.Reads as round-reads
-use Rattle.console_say.proofs.taken.Reads as taken-reads
+use Rattle.console_show.proofs.round.Reads as round-reads
+use Rattle.console_show.proofs.taken.Reads as taken-reads
 use Rattle.console_say.proofs.text.Reads as text-reads
 use Rattle.sets.proofs.lowest.Reads as lowest-reads
 
 abbrev Inv-loop : tie.InvT-loop

@@ -2,13 +2,13 @@ use mathlib.Core.Path.{_≡_}
 use Prim.Native.Nat.{_-_, _≤_}
 use lib.ListN.{length}
 use borrow.Author.Needs.{needs}
-use Rattle.console_say.proofs.layout.Statement.{statement}
-use Rattle.console_say.proofs.layout.Tie as tie
-use Rattle.console_say.proofs.layout.Reads as reads
-use Rattle.console_say.proofs.layout.Lts as lts
-use Rattle.console_say.proofs.name.Reads as name-reads
+use Rattle.console_show.proofs.layout.Statement.{statement}
+use Rattle.console_show.proofs.layout.Tie as tie
+use Rattle.console_show.proofs.layout.Reads as reads
+use Rattle.console_show.proofs.layout.Lts as lts
+use Rattle.console_show.proofs.name.Reads as name-reads
 use Rattle.console_say.proofs.text.Reads as text-reads
-use Rattle.console_say.proofs.tiles.Reads as tiles-reads
+use Rattle.console_show.proofs.tiles.Reads as tiles-reads
 
 abbrev Inv-loop : tie.InvT-loop
 Inv-loop number set letters₀ rest₀ j₀ t6 t7 t8 letters rest j = (j ≤ 8) × (length letters ≡ 8)

@@ -1,15 +1,15 @@
 use Prim.Native.Nat.{_-_, _≤_}
 use borrow.Author.Needs.{needs}
-use Rattle.console_obey.proofs.go.Statement.{statement}
-use Rattle.console_obey.proofs.go.Tie as tie
-use Rattle.console_obey.proofs.go.Reads as reads
-use Rattle.console_obey.proofs.go.Lts as lts
-use Rattle.console_say.proofs.delivered.Reads as delivered-reads
-use Rattle.console_say.proofs.rounds.Reads as rounds-reads
-use Rattle.console_say.proofs.some.Reads as some-reads
+use Rattle.console_rounds.proofs.go.Statement.{statement}
+use Rattle.console_rounds.proofs.go.Tie as tie
+use Rattle.console_rounds.proofs.go.Reads as reads
+use Rattle.console_rounds.proofs.go.Lts as lts
+use Rattle.console_show.proofs.delivered.Reads as delivered-reads
+use Rattle.console_show.proofs.rounds.Reads as rounds-reads
+use Rattle.console_show.proofs.some.Reads as some-reads
 use Rattle.console_session.proofs.refused.Reads as refused-reads
-use Rattle.console_obey.proofs.step.Reads as step-reads
-use Rattle.console_obey.proofs.window.Reads as window-reads
+use Rattle.console_rounds.proofs.step.Reads as step-reads
+use Rattle.console_rounds.proofs.window.Reads as window-reads
 
 abbrev Inv-loop : tie.InvT-loop
 Inv-loop n next₀ k₀ t8 next k = k ≤ n

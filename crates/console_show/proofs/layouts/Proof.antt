@@ -2,12 +2,12 @@ use mathlib.Core.Path.{_≡_}
 use Prim.Native.Nat.{_-_, _≤_}
 use lib.ListN.{length}
 use borrow.Author.Needs.{needs}
-use Rattle.console_say.proofs.layouts.Statement.{statement}
-use Rattle.console_say.proofs.layouts.Tie as tie
-use Rattle.console_say.proofs.layouts.Reads as reads
-use Rattle.console_say.proofs.layouts.Lts as lts
-use Rattle.console_say.proofs.layout.Reads as layout-reads
+use Rattle.console_show.proofs.layouts.Statement.{statement}
+use Rattle.console_show.proofs.layouts.Tie as tie
+use Rattle.console_show.proofs.layouts.Reads as reads
+use Rattle.console_show.proofs.layouts.Lts as lts
+use Rattle.console_show.proofs.layout.Reads as layout-reads
 use Rattle.console_say.proofs.text.Reads as text-reads
 
 abbrev Inv-loop : tie.InvT-loop
 Inv-loop all k₀ k = (k ≤ 8) × (length all ≡ 8)

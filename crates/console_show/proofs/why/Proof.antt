@@ -1,12 +1,12 @@
 use Prim.Native.Nat.{_-_, _≤_}
 use borrow.Author.Needs.{needs}
-use Rattle.console_say.proofs.why.Statement.{statement}
-use Rattle.console_say.proofs.why.Tie as tie
-use Rattle.console_say.proofs.why.Reads as reads
-use Rattle.console_say.proofs.why.Lts as lts
+use Rattle.console_show.proofs.why.Statement.{statement}
+use Rattle.console_show.proofs.why.Tie as tie
+use Rattle.console_show.proofs.why.Reads as reads
+use Rattle.console_show.proofs.why.Lts as lts
 use Rattle.console_say.proofs.number.Reads as number-reads
 use Rattle.console_say.proofs.text.Reads as text-reads
-use Rattle.console_say.proofs.why_tile.Reads as why-tile-reads
+use Rattle.console_show.proofs.why_tile.Reads as why-tile-reads
 
 abbrev Inv-loop : tie.InvT-loop
 Inv-loop at reasons missing some₀ t₀ t11 some t = t ≤ 64

@@ -1,12 +1,12 @@
 use Prim.Native.Nat.{_-_}
 use borrow.Author.Needs.{needs}
-use Rattle.console_say.proofs.taken.Statement.{statement}
-use Rattle.console_say.proofs.taken.Tie as tie
-use Rattle.console_say.proofs.taken.Reads as reads
-use Rattle.console_say.proofs.taken.Lts as lts
+use Rattle.console_show.proofs.taken.Statement.{statement}
+use Rattle.console_show.proofs.taken.Tie as tie
+use Rattle.console_show.proofs.taken.Reads as reads
+use Rattle.console_show.proofs.taken.Lts as lts
 use Rattle.console_say.proofs.at_most.Reads as at-most-reads
 use Rattle.console_say.proofs.small.Reads as small-reads
 use Rattle.console_say.proofs.text.Reads as text-reads
 
 abbrev Inv-loop : tie.InvT-loop
 Inv-loop numbers n k₀ t5 t6 k = Unit {0}

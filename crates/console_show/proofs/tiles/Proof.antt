@@ -1,22 +1,21 @@
 use Prim.Native.Nat.{_-_}
 use borrow.Author.Needs.{needs}
-use Rattle.console_say.proofs.counted.Statement.{statement}
-use Rattle.console_say.proofs.counted.Tie as tie
-use Rattle.console_say.proofs.counted.Reads as reads
-use Rattle.console_say.proofs.counted.Lts as lts
+use Rattle.console_show.proofs.tiles.Statement.{statement}
+use Rattle.console_show.proofs.tiles.Tie as tie
+use Rattle.console_show.proofs.tiles.Reads as reads
+use Rattle.console_show.proofs.tiles.Lts as lts
 use Rattle.console_say.proofs.at_most.Reads as at-most-reads
 use Rattle.console_say.proofs.number.Reads as number-reads
 use Rattle.console_say.proofs.others.Reads as others-reads
-use Rattle.console_say.proofs.small.Reads as small-reads
 use Rattle.console_say.proofs.text.Reads as text-reads
 use Rattle.sets.proofs.lowest.Reads as lowest-reads
 use Rattle.sets.proofs.size.Reads as size-reads
 
 abbrev Inv-loop : tie.InvT-loop
-Inv-loop hoppers delivered n rest₀ k₀ t7 t8 rest k = Unit {0}
+Inv-loop set n rest₀ k₀ t5 rest k = Unit {0}
 
 abbrev μ-loop : tie.MeasureT-loop
-μ-loop hoppers delivered n rest₀ k₀ t7 t8 rest k = n - k
+μ-loop set n rest₀ k₀ t5 rest k = n - k
 
 size-requires : tie.Need-size-requires Inv-loop μ-loop
 size-requires c κs = search needs
@@ -35,21 +34,6 @@ slice-aggregate-text c = search needs
 
 text-requires : tie.Need-text-requires Inv-loop μ-loop
 text-requires c κs = search needs
-
-mul-small : tie.Need-mul-small Inv-loop μ-loop
-mul-small c = search needs
-
-array-read-small : tie.Need-array-read-small Inv-loop μ-loop
-array-read-small c = search needs
-
-small-requires : tie.Need-small-requires Inv-loop μ-loop
-small-requires c κs = search needs
-
-slice-aggregate-text-2 : tie.Need-slice-aggregate-text-2 Inv-loop μ-loop
-slice-aggregate-text-2 c = search needs
-
-text-requires-2 : tie.Need-text-requires-2 Inv-loop μ-loop
-text-requires-2 c κs = search needs
 
 lowest-requires : tie.Need-lowest-requires Inv-loop μ-loop
 lowest-requires c κs = search needs
@@ -75,8 +59,8 @@ loop-again c = search needs
 returns : tie.Need-returns Inv-loop μ-loop
 returns c = search needs
 
-pub counted-spec : {M : Type 1} → statement M
-counted-spec =
+pub tiles-spec : {M : Type 1} → statement M
+tiles-spec =
     tie.close
     (tie.spec
     Inv-loop
@@ -87,11 +71,6 @@ counted-spec =
     loop-holds
     slice-aggregate-text
     text-requires
-    mul-small
-    array-read-small
-    small-requires
-    slice-aggregate-text-2
-    text-requires-2
     lowest-requires
     cast-number
     number-requires

@@ -1,0 +1,125 @@
+// Rounds as they are typed, and what is told of them afterwards.
+use console_session::Session;
+use floor::Delivery;
+use floor::refusals;
+
+// `rounds` takes at most this many.
+const MOST: u32 = 100000;
+
+// A round, and what it gave.
+struct Stepped {
+    session: Session,
+    refusal: u8,
+    deliveries: [Delivery; 4],
+    closed: bool,
+}
+
+fn step(s: Session) -> Stepped {
+    let floor = s.floor;
+    let answer = calls::round(floor);
+    let report = answer.report;
+    let deliveries = report.deliveries;
+    let reasons = report.reasons;
+    let missing = report.missing;
+    let before = s.records;
+    let followed = console_throughput::follow(before, deliveries);
+    let mut next = s;
+    if answer.refusal == 0 {
+        let records = followed.records;
+        next.records = records;
+        let moved = answer.floor;
+        next.floor = moved;
+        next.reasons = reasons;
+        next.missing = missing;
+        next.rounds = std::num::wrapping_add_u64(next.rounds, 1);
+    }
+    Stepped {
+        session: next,
+        refusal: answer.refusal,
+        deliveries: deliveries,
+        closed: followed.closed,
+    }
+}
+
+pub fn round(s: Session) -> Session {
+    let done = step(s);
+    let next = done.session;
+    if done.refusal != 0 {
+        return console_session::refused(next, b"round", done.refusal);
+    }
+    let deliveries = done.deliveries;
+    console_show::delivered(next.rounds, next.floor.settings.hoppers, deliveries);
+    window(next, done.closed);
+    next
+}
+
+// The rates of the windows that a round closed.
+fn window(s: Session, closed: bool) {
+    if closed {
+        let records = s.records;
+        console_throughput::closed(s.rounds, s.floor.settings.hoppers, records);
+    }
+}
+
+// Goes n rounds and tells the rounds that deliver or close a window; ends early where a round is refused.
+fn go(s: Session, n: u32) -> Session {
+    let mut next = s;
+    let mut k: u32 = 0;
+    while k < n {
+        let done = step(next);
+        if done.refusal != 0 {
+            return console_session::refused(next, b"rounds", done.refusal);
+        }
+        let after = done.session;
+        next = after;
+        let deliveries = done.deliveries;
+        if console_show::some(deliveries) {
+            console_show::delivered(next.rounds, next.floor.settings.hoppers, deliveries);
+        }
+        window(next, done.closed);
+        k += 1;
+    }
+    console_show::rounds(n, next.rounds);
+    next
+}
+
+pub fn rounds(s: Session, line: &[u8]) -> Session {
+    let n = console_parse::arguments(line, 1);
+    if !n.good {
+        return console_session::cannot(s, line);
+    }
+    if !s.made {
+        return console_session::refused(s, b"rounds", 0);
+    }
+    let many = n.at[0];
+    if MOST < many {
+        console_say::text(b"rounds: at most 100000\n");
+        return s;
+    }
+    go(s, many)
+}
+
+// Why each tile stood in the last round.
+pub fn why(s: Session) -> Session {
+    if !s.made {
+        return console_session::refused(s, b"why", refusals::MALFORMED);
+    }
+    if s.rounds == 0 {
+        console_say::text(b"why: no round yet\n");
+        return s;
+    }
+    let reasons = s.reasons;
+    let missing = s.missing;
+    console_show::why(s.rounds, reasons, missing);
+    s
+}
+
+// The throughput of each hopper.
+pub fn throughput(s: Session) -> Session {
+    if !s.made {
+        return console_session::refused(s, b"throughput", refusals::MALFORMED);
+    }
+    let records = s.records;
+    console_throughput::show(s.floor.settings.hoppers, records);
+    s
+}
