@@ -8,6 +8,7 @@ ghost use Rattle.book_list.specs.Listing.{listAnswer, listAfter};
 ghost use Rattle.image.specs.Image.{loadAnswer, writeAnswer, written};
 ghost use Rattle.throughput.specs.Window.{feedTold};
 ghost use Rattle.page_call.specs.Page.{pageAnswer, paged};
+ghost use Rattle.plan.specs.Plans.{offerAnswer, releaseAnswer, reportAnswer};
 use book_list::Booking;
 use floor::Answer;
 use floor::Canister;
@@ -15,9 +16,14 @@ use floor::Floor;
 use floor::Name;
 use floor::Placed;
 use floor::Reading;
+use floor::Report;
 use floor::Rounded;
 use floor::Settings;
 use image::Written;
+use plan::Offered;
+use plan::Plan;
+use plan::Planned;
+use plan::Released;
 use throughput::Throughput;
 use throughput::Told;
 
@@ -124,4 +130,25 @@ pub extern "C" fn ceromby_page(floor: Floor, buffer: &mut [u8]) -> Written
     ensures { λ r. ⌜ (r ≡ pageAnswer floor (length (now (buffer .entry)))) × (now (buffer .exit) ≡ paged floor (now (buffer .entry))) ⌝ }
 {
     page_call::page(floor, buffer)
+}
+
+#[no_mangle]
+pub extern "C" fn ceromby_plan_offer(plan: Plan) -> Offered
+    ensures { λ r. ⌜ r ≡ offerAnswer plan ⌝ }
+{
+    plan_calls::offer(plan)
+}
+
+#[no_mangle]
+pub extern "C" fn ceromby_plan_release(plan: Plan, floor: Floor, label: u32) -> Released
+    ensures { λ r. ⌜ r ≡ releaseAnswer plan floor label ⌝ }
+{
+    plan_calls::release(plan, floor, label)
+}
+
+#[no_mangle]
+pub extern "C" fn ceromby_plan_report(plan: Plan, report: Report) -> Planned
+    ensures { λ r. ⌜ r ≡ reportAnswer plan report ⌝ }
+{
+    plan_calls::report(plan, report)
 }

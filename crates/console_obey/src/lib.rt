@@ -34,7 +34,10 @@ fn helped(s: Session) -> Session {
 
 // Obeys a line of one word.
 fn alone(s: Session, line: &[u8]) -> Session {
-    let n = command(line, b"round show list why throughput layouts help quit");
+    let n = command(
+        line,
+        b"round show list why throughput layouts help quit plan entries offer",
+    );
     match n {
         0 => console_rounds::round(s),
         1 => console_floors::show(s),
@@ -44,6 +47,9 @@ fn alone(s: Session, line: &[u8]) -> Session {
         5 => console_tiles::layouts(s),
         6 => helped(s),
         7 => console_session::ended(s),
+        8 => console_plan::plan(s),
+        9 => console_plan::entries(s),
+        10 => console_plan::offer(s),
         _ => console_session::cannot(s, line),
     }
 }
@@ -52,7 +58,7 @@ fn alone(s: Session, line: &[u8]) -> Session {
 fn worded(s: Session, line: &[u8]) -> Session {
     let n = command(
         line,
-        b"fresh fresh! book stop repair rounds read keep recall forget save load load!",
+        b"fresh fresh! book stop repair rounds read keep recall forget save load load! entry release",
     );
     match n {
         0 => console_floors::fresh(s, line, false),
@@ -68,6 +74,8 @@ fn worded(s: Session, line: &[u8]) -> Session {
         10 => console_floors::save(s, line),
         11 => console_floors::load(s, line, false),
         12 => console_floors::load(s, line, true),
+        13 => console_plan::entry(s, line),
+        14 => console_plan::release(s, line),
         _ => console_session::cannot(s, line),
     }
 }

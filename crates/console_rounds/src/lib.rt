@@ -1,6 +1,6 @@
 // Rounds as they are typed, and what is told of them afterwards.
 use console_session::Session;
-use floor::Delivery;
+use floor::Report;
 use floor::refusals;
 
 // `rounds` takes at most this many.
@@ -9,8 +9,8 @@ const MOST: u32 = 100000;
 // A round, and what it gave.
 struct Stepped {
     session: Session,
+    report: Report,
     refusal: u8,
-    deliveries: [Delivery; 4],
     closed: bool,
 }
 
@@ -35,10 +35,19 @@ fn step(s: Session) -> Stepped {
     }
     Stepped {
         session: next,
+        report: report,
         refusal: answer.refusal,
-        deliveries: deliveries,
         closed: followed.closed,
     }
+}
+
+// Tells what a round delivered and the rates of the windows that it closed, and hands its report to the plan.
+fn told(s: Session, report: Report, closed: bool) -> Session {
+    let deliveries = report.deliveries;
+    console_show::delivered(s.rounds, s.floor.settings.hoppers, deliveries);
+    let next = console_plan::follow(s, report);
+    window(next, closed);
+    next
 }
 
 pub fn round(s: Session) -> Session {
@@ -47,10 +56,8 @@ pub fn round(s: Session) -> Session {
     if done.refusal != 0 {
         return console_session::refused(next, b"round", done.refusal);
     }
-    let deliveries = done.deliveries;
-    console_show::delivered(next.rounds, next.floor.settings.hoppers, deliveries);
-    window(next, done.closed);
-    next
+    let report = done.report;
+    told(next, report, done.closed)
 }
 
 // The rates of the windows that a round closed.
@@ -61,7 +68,13 @@ fn window(s: Session, closed: bool) {
     }
 }
 
-// Goes n rounds and tells the rounds that deliver or close a window; ends early where a round is refused.
+// Whether a report lists something.
+fn delivers(report: Report) -> bool {
+    let deliveries = report.deliveries;
+    console_show::some(deliveries)
+}
+
+// Goes n rounds and tells the rounds that deliver or close a window; ends early where a round is refused. A report that lists nothing changes no plan.
 fn go(s: Session, n: u32) -> Session {
     let mut next = s;
     let mut k: u32 = 0;
@@ -72,11 +85,12 @@ fn go(s: Session, n: u32) -> Session {
         }
         let after = done.session;
         next = after;
-        let deliveries = done.deliveries;
-        if console_show::some(deliveries) {
-            console_show::delivered(next.rounds, next.floor.settings.hoppers, deliveries);
+        let report = done.report;
+        if delivers(report) {
+            next = told(next, report, done.closed);
+        } else {
+            window(next, done.closed);
         }
-        window(next, done.closed);
         k += 1;
     }
     console_show::rounds(n, next.rounds);

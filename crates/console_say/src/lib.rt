@@ -61,12 +61,24 @@ fn meaning(n: u8) {
     }
 }
 
-pub fn refused(name: &[u8], n: u8) {
+// The beginning of a refusal.
+fn refused_by(name: &[u8], n: u8) {
     text(name);
     text(b": refused ");
     number(n as u64);
     text(b": ");
+}
+
+pub fn refused(name: &[u8], n: u8) {
+    refused_by(name, n);
     meaning(n);
+    text(b"\n");
+}
+
+// A refusal whose meaning is told in the words given.
+pub fn refused_as(name: &[u8], n: u8, words: &[u8]) {
+    refused_by(name, n);
+    text(words);
     text(b"\n");
 }
 
@@ -199,6 +211,8 @@ pub fn help() {
     text(
         b"      save FILE | load FILE | load! FILE   (load! also where the floor holds canisters)\n",
     );
+    text(b"      plan: begins a plan anew | entry LABEL TILE [AFTER [AFTER]] | entries\n");
+    text(b"      offer: the lowest label that may be booked now | release LABEL: books it\n");
     text(b"      show | throughput | help | quit | # a remark\n");
     text(
         b"      why: of each tile that wasn't empty in the last round, that it moved or why it stood\n",

@@ -6,12 +6,15 @@ use console_list::Entries;
 use floor::Answer;
 use floor::Counters;
 use floor::Floor;
+use plan::Entry;
+use plan::Plan;
 use throughput::Throughput;
 
-// The floor, the throughput of each hopper, what the last round's report says of each tile, the entries of a list that is being
-// typed, how many lines were read, how many rounds the floor went, whether there is a floor, whether to go on.
+// The floor, the plan for it, the throughput of each hopper, what the last round's report says of each tile, the entries of a list
+// that is being typed, how many lines were read, how many rounds the floor went, whether there is a floor, whether to go on.
 pub struct Session {
     pub floor: Floor,
+    pub plan: Plan,
     pub records: [Throughput; 4],
     pub reasons: [u8; 64],
     pub missing: [u16; 64],
@@ -22,12 +25,23 @@ pub struct Session {
     pub going: bool,
 }
 
+// A plan without entries.
+pub fn no_plan() -> Plan {
+    let none = Entry::ZERO;
+    Plan {
+        entries: [none; 64],
+        count: 0,
+    }
+}
+
 pub fn begin() -> Session {
     let floor = floor::zero_floor();
+    let plan = no_plan();
     let entries = console_list::none(false);
     let records = console_throughput::begin();
     Session {
         floor: floor,
+        plan: plan,
         records: records,
         reasons: [0; 64],
         missing: [0; 64],
@@ -94,9 +108,14 @@ pub fn held(c: Counters) -> u64
     if all < booked { booked - all } else { 0 }
 }
 
-// The session with another floor, whose throughput begins anew.
+// The session with another floor, whose throughput and plan begin anew: the numbers of a plan are those of its floor.
 pub fn begun(s: Session, floor: Floor) -> Session {
+    if 0 < s.plan.count {
+        console_say::text(b"plan: no entries, the floor is another\n");
+    }
     let mut next = with_floor(s, floor);
+    let plan = no_plan();
+    next.plan = plan;
     let records = console_throughput::begin();
     next.records = records;
     next.rounds = 0;

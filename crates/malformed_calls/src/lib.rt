@@ -1,5 +1,5 @@
 // Whether every call that takes a floor refuses one that isn't well formed: 30 and the same floor, zeros for a reading, the same
-// bytes for a writing and for a page; a list of bookings answers 30 in every entry.
+// bytes for a writing and for a page; a list of bookings answers 30 in every entry; a release gives the plan back too.
 use book_list::Booking;
 use floor::Canister;
 use floor::Delivery;
@@ -8,6 +8,8 @@ use floor::Layout;
 use floor::Report;
 use floor::Settings;
 use floor::Tile;
+use plan::Entry;
+use plan::Plan;
 use trials_tally::floors;
 
 fn same_settings(x: Settings, y: Settings) -> bool {
@@ -68,7 +70,7 @@ fn same_layouts(xs: [Layout; 8], ys: [Layout; 8]) -> bool {
 }
 
 // Every field of two floors.
-fn same_floor(x: Floor, y: Floor) -> bool {
+pub fn same_floor(x: Floor, y: Floor) -> bool {
     let s = x.settings;
     let r = y.settings;
     let c = x.counters;
@@ -183,6 +185,58 @@ fn finds_nothing(f: Floor) -> bool {
     (answer.refusal == 30) & (answer.a == 0) & (answer.b == 0) & same_floor(a, f)
 }
 
+fn same_entry(x: Entry, y: Entry) -> bool {
+    (x.tile == y.tile)
+        & (x.number == y.number)
+        & (x.label == y.label)
+        & (x.first == y.first)
+        & (x.second == y.second)
+        & (x.stage == y.stage)
+}
+
+// Every field of two plans.
+pub fn same_plan(x: Plan, y: Plan) -> bool {
+    let xs = x.entries;
+    let ys = y.entries;
+    let mut all = x.count == y.count;
+    let mut k: usize = 0;
+    while k < 64 {
+        all = all & same_entry(xs[k], ys[k]);
+        k += 1;
+    }
+    all
+}
+
+// Whether a release is refused by that number, with zeros and the same floor and plan.
+pub fn release_refuses(p: Plan, f: Floor, label: u32, refusal: u8) -> bool {
+    let answer = plan_calls::release(p, f, label);
+    let after = answer.floor;
+    let kept = answer.plan;
+    (answer.refusal == refusal)
+        & (answer.number == 0)
+        & (answer.a == 0)
+        & (answer.b == 0)
+        & same_floor(after, f)
+        & same_plan(kept, p)
+}
+
+// A plan of one entry that waits: label 1, tile 1.
+fn short_plan() -> Plan {
+    let mut entries = [Entry::ZERO; 64];
+    entries[0] = Entry {
+        tile: 1,
+        number: 0,
+        label: 1,
+        first: 0,
+        second: 0,
+        stage: 0,
+    };
+    Plan {
+        entries: entries,
+        count: 1,
+    }
+}
+
 // The answer of the entry with k entries before it, where n are written: 30, or 99, which stood there.
 fn due(k: usize, n: usize) -> u8 {
     if k < n { 30 } else { 99 }
@@ -217,7 +271,7 @@ fn list_refuses(f: Floor, n: usize, refusal: u8, written: usize) -> bool {
     (made.refusal == refusal) & answered(list, written) & same_floor(after, f)
 }
 
-// Book with and without a place, lists of 5, 64 and 65 bookings, stop, repair, round, read, write, page, keep, forget and recall.
+// Book with and without a place, lists of 5, 64 and 65 bookings, stop, repair, round, read, write, page, keep, forget, recall and release.
 pub fn all_refuse(f: Floor) -> bool {
     let book = floors::book(f, 1, 900, 0, 0);
     let stop = calls::stop(f, 1);
@@ -245,4 +299,5 @@ pub fn all_refuse(f: Floor) -> bool {
         & list_refuses(f, 5, 0, 5)
         & list_refuses(f, 64, 0, 64)
         & list_refuses(f, 65, 42, 0)
+        & release_refuses(short_plan(), f, 1, 30)
 }

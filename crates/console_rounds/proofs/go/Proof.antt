@@ -4,12 +4,12 @@ use Rattle.console_rounds.proofs.go.Statement.{statement}
 use Rattle.console_rounds.proofs.go.Tie as tie
 use Rattle.console_rounds.proofs.go.Reads as reads
 use Rattle.console_rounds.proofs.go.Lts as lts
-use Rattle.console_show.proofs.delivered.Reads as delivered-reads
-use Rattle.console_show.proofs.rounds.Reads as rounds-reads
-use Rattle.console_show.proofs.some.Reads as some-reads
-use Rattle.console_session.proofs.refused.Reads as refused-reads
+use Rattle.console_rounds.proofs.delivers.Reads as delivers-reads
 use Rattle.console_rounds.proofs.step.Reads as step-reads
+use Rattle.console_rounds.proofs.told.Reads as told-reads
 use Rattle.console_rounds.proofs.window.Reads as window-reads
+use Rattle.console_session.proofs.refused.Reads as refused-reads
+use Rattle.console_show.proofs.rounds.Reads as rounds-reads
 
 abbrev Inv-loop : tie.InvT-loop
 Inv-loop n next₀ k₀ t8 next k = k ≤ n
@@ -32,11 +32,11 @@ refused-requires c κs = search needs
 returns : tie.Need-returns Inv-loop μ-loop
 returns c = search needs
 
-some-requires : tie.Need-some-requires Inv-loop μ-loop
-some-requires c κs = search needs
+delivers-requires : tie.Need-delivers-requires Inv-loop μ-loop
+delivers-requires c κs = search needs
 
-delivered-requires : tie.Need-delivered-requires Inv-loop μ-loop
-delivered-requires c κs = search needs
+told-requires : tie.Need-told-requires Inv-loop μ-loop
+told-requires c κs = search needs
 
 window-requires : tie.Need-window-requires Inv-loop μ-loop
 window-requires c κs = search needs
@@ -67,8 +67,8 @@ go-spec =
     slice-aggregate-refused
     refused-requires
     returns
-    some-requires
-    delivered-requires
+    delivers-requires
+    told-requires
     window-requires
     add-k
     loop-less

@@ -1,0 +1,101 @@
+use mathlib.Core.Path.{_≡_, sym}
+use mathlib.Core.Bool.{false}
+use Prim.Native.Nat.{ℕ, _-_, _≤_}
+use native.Mathlib.Omega.{arith}
+use lib.ListN.{length, take}
+use Rattle.laws.specs.Define.{allOf}
+use Rattle.laws.specs.Filled.{Upto}
+use Rattle.laws.proofs.Tables.{all-zero, all-step, ended}
+use Rattle.plan.specs.Entries.{used, present, entryFits, planFits}
+use Rattle.plan_check.proofs.Sized.{entries-length, present-length}
+use Rattle.plan_check.proofs.Entries.{fits-code}
+use Rattle.plan_check.proofs.Tables.{zeroEntry, entryAt}
+use borrow.Author.Needs.{needs}
+use Rattle.plan_check.proofs.fits.Statement.{statement}
+use Rattle.plan_check.proofs.fits.Tie as tie
+use Rattle.plan_check.proofs.fits.Reads as reads
+use Rattle.plan_check.proofs.fits.Lts as lts
+use Rattle.plan_check.proofs.entry_fits.Reads as entry-fits-reads
+use Rattle.plan_check.proofs.labels_in.Reads as labels-in-reads
+
+abbrev Inv-loop : tie.InvT-loop
+Inv-loop plan labels table n ok₀ k₀ ok k = (k ≤ n) × (n ≤ 64) × (length (plan .entries) ≡ 64) × (length table ≡ 256) × Upto 256 (present (used plan)) false table × (ok ≡ allOf (entryFits (used plan)) (take k (plan .entries)))
+
+abbrev μ-loop : tie.MeasureT-loop
+μ-loop plan labels table n ok₀ k₀ ok k = n - k
+
+labels-in-requires : tie.Need-labels-in-requires Inv-loop μ-loop
+labels-in-requires c κs = search needs
+
+cast-n : tie.Need-cast-n Inv-loop μ-loop
+cast-n c = search needs
+
+loop-holds : tie.Need-loop-holds Inv-loop μ-loop
+loop-holds c =
+    let S = c .before .before in
+    let T = c .before .labels-in in
+    (omega arith, S .pre, entries-length (S .args .t1) _ (S .good .0), present-length (T .result) _ (T .ok), T .ensures .0, sym (all-zero (entryFits (used (S .args .t1))) (S .args .t1 .entries)))
+
+mul-e : tie.Need-mul-e Inv-loop μ-loop
+mul-e c = search needs
+
+element-copy-out-e : tie.Need-element-copy-out-e Inv-loop μ-loop
+element-copy-out-e c = search needs
+
+cast-first : tie.Need-cast-first Inv-loop μ-loop
+cast-first c = search needs
+
+array-read-first : tie.Need-array-read-first Inv-loop μ-loop
+array-read-first c = search needs
+
+cast-second : tie.Need-cast-second Inv-loop μ-loop
+cast-second c = search needs
+
+array-read-second : tie.Need-array-read-second Inv-loop μ-loop
+array-read-second c = search needs
+
+entry-fits-requires : tie.Need-entry-fits-requires Inv-loop μ-loop
+entry-fits-requires c κs = search needs
+
+add-k : tie.Need-add-k Inv-loop μ-loop
+add-k c = search needs
+
+loop-less : tie.Need-loop-less Inv-loop μ-loop
+loop-less c = search needs
+
+loop-again : tie.Need-loop-again Inv-loop μ-loop
+loop-again c =
+    let l = c .before .before .before .before .before .loop in
+    let p = c .before .before .before .before .before .before .before .before .args .t1 in
+    let x = entryAt (p .entries) (l .k) in
+    let one = fits-code (used p) x (l .inv .4 (x .first) (omega arith)) (l .inv .4 (x .second) (omega arith)) (c .entry-fits .ensures) in
+    (omega arith, l .inv .1, l .inv .2, l .inv .3, l .inv .4, all-step (entryFits (used p)) (p .entries) (l .k) zeroEntry (omega arith) (l .inv .5) one)
+
+returns : tie.Need-returns Inv-loop μ-loop
+unfolding planFits
+returns c =
+    let l = c .before .before .loop in
+    let p = c .before .before .before .before .before .args .t1 in
+    let e = ended (λ (k : ℕ). allOf (entryFits (used p)) (take k (p .entries))) (omega arith) (l .inv .0) (l .inv .5) in
+    rw (e, c .before .before .before .before .labels-in .ensures .1)
+
+pub fits-spec : {M : Type 1} → statement M
+fits-spec =
+    tie.close
+    (tie.spec
+    Inv-loop
+    μ-loop
+    labels-in-requires
+    cast-n
+    loop-holds
+    mul-e
+    element-copy-out-e
+    cast-first
+    array-read-first
+    cast-second
+    array-read-second
+    entry-fits-requires
+    add-k
+    loop-less
+    loop-again
+    returns)

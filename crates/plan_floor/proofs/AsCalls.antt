@@ -1,0 +1,173 @@
+-- A list of calls on a plan and a floor as a list of demand 3: `as-calls`. The statement is specs/Promises.
+use mathlib.Core.Path.{_≡_, refl, sym, ap, _∙_, subst}
+use mathlib.Core.Bool.{Bool, true, false, cond}
+use mathlib.Core.List.{List, [], _∷_, _++_, append-assoc, append-nil}
+use Prim.Native.Nat.{ℕ, _+_, _^_, _≤_, _<_}
+use lib.Dec.{ltb, eqb}
+use borrow.Author.Tests.{ltb-true}
+use Rattle.laws.specs.Define.{refusal}
+use Rattle.laws.specs.Every.{All}
+use Rattle.laws.proofs.Lists.{all-append}
+use Rattle.floor.specs.declared.Floor.{Floor}
+use Rattle.floor.specs.declared.Placed.{Placed}
+use Rattle.floor.specs.Memory.{view, pack}
+use Rattle.floor.specs.Well.{wellFormed}
+use Rattle.floor.specs.Calls.{refusalOf, answer, booked}
+use Rattle.floor.specs.Anywhere.{anywhereTests, placedAt, anywhereAnswer}
+use Rattle.floor.specs.Demand3.{Call, anywhere, Typed, outcome, floorAfter, bookedIn, reportedIn}
+use Rattle.floor.proofs.Pack.{well-sound}
+use Rattle.floor.proofs.Lists.{after-both, list-keeps}
+use Rattle.floor.proofs.Theorem.{demand3}
+use Rattle.plan.specs.declared.Plan.{Plan}
+use Rattle.plan.specs.Entries.{used}
+use Rattle.plan.specs.Plans.{releaseTests, following, tileFor, releaseBooking, releaseAnswer}
+use Rattle.plan_floor.specs.Steps.{Step, call, offer, release, report, State, stepped, after, TypedStep, callsOf, callsIn, bookedOf, bookedBy, reportedOf, reportedBy}
+use Rattle.plan_floor.specs.Promises.{CallsPromise}
+
+-- ---- one list of calls after another
+booked-both : (f : Floor) (cs ds : List Call) → bookedIn f (cs ++ ds) ≡ bookedIn f cs ++ bookedIn (floorAfter f cs) ds
+unfolding bookedIn floorAfter
+booked-both f [] ds = refl
+booked-both f (c ∷ cs) ds = ap (λ (l : List ℕ). outcome f c .booked ++ l) (booked-both (outcome f c .floor) cs ds) ∙ sym (append-assoc (outcome f c .booked) (bookedIn (outcome f c .floor) cs) (bookedIn (floorAfter (outcome f c .floor) cs) ds))
+
+reported-both : (f : Floor) (cs ds : List Call) (k : ℕ) → reportedIn f (cs ++ ds) k ≡ reportedIn f cs k ++ reportedIn (floorAfter f cs) ds k
+unfolding reportedIn floorAfter
+reported-both f [] ds k = refl
+reported-both f (c ∷ cs) ds k = ap (λ (l : List ℕ). outcome f c .reported k ++ l) (reported-both (outcome f c .floor) cs ds k) ∙ sym (append-assoc (outcome f c .reported k) (reportedIn (outcome f c .floor) cs k) (reportedIn (floorAfter (outcome f c .floor) cs) ds k))
+
+-- ---- a release
+-- a refused booking gives the floor back
+booking-kept : (f : Floor) (t n : ℕ) → anywhereAnswer f t n .floor ≡ cond (eqb (anywhereAnswer f t n .refusal) 0) (anywhereAnswer f t n .floor) f
+unfolding anywhereAnswer answer
+booking-kept f t n = go (eqb (refusalOf f (anywhereTests (view f) t n)) 0)
+  where
+    go : (b : Bool) → cond b (pack (booked (view f) t (placedAt (view f) t n))) f ≡ cond b (cond b (pack (booked (view f) t (placedAt (view f) t n))) f) f
+    go true = refl
+    go false = refl
+
+-- the step and the calls that it stands for
+pub record Same (s : State) (c : Step) : Type 0 where
+  pub floor : floorAfter (s .floor) (callsOf s c) ≡ stepped s c .floor
+  pub booked : bookedIn (s .floor) (callsOf s c) ≡ bookedOf s c
+  pub reported : (k : ℕ) → reportedIn (s .floor) (callsOf s c) k ≡ reportedOf s c k
+
+module _ (p : Plan) (f : Floor) (k : ℕ) where
+  abbrev own : ℕ
+  own = refusal (releaseTests p f k)
+
+  abbrev there : Call
+  there = anywhere (tileFor (used p) k) (following f)
+
+  abbrev r : Placed
+  r = releaseBooking p f k
+
+  -- by whether its own tests passed
+  release-floor : (b : Bool) → eqb own 0 ≡ b → floorAfter f (cond b (there ∷ []) []) ≡ cond (eqb (cond b (r .refusal) own) 0) (r .floor) f
+  unfolding floorAfter outcome releaseBooking
+  release-floor true e = booking-kept f (tileFor (used p) k) (following f)
+  release-floor false e = rw e
+
+  release-booked : (b : Bool) → eqb own 0 ≡ b → bookedIn f (cond b (there ∷ []) []) ≡ cond (eqb (cond b (r .refusal) own) 0) (cond (eqb (cond b (r .refusal) own) 0) (following f) 0 ∷ []) []
+  unfolding bookedIn outcome releaseBooking
+  release-booked true e = go (eqb (r .refusal) 0)
+    where
+      go : (b : Bool) → cond b (following f ∷ []) [] ++ [] ≡ cond b (cond b (following f) 0 ∷ []) []
+      go true = refl
+      go false = refl
+  release-booked false e = rw e
+
+  release-reported : (b : Bool) (j : ℕ) → reportedIn f (cond b (there ∷ []) []) j ≡ []
+  unfolding reportedIn outcome
+  release-reported true j = refl
+  release-reported false j = refl
+
+pub same-step : (s : State) (c : Step) → Same s c
+unfolding callsOf stepped bookedOf reportedOf releaseAnswer floorAfter bookedIn reportedIn
+same-step s (call c) = record { floor = refl; booked = append-nil (outcome (s .floor) c .booked); reported = λ k. append-nil (outcome (s .floor) c .reported k) }
+same-step s offer = record { floor = refl; booked = refl; reported = λ k. refl }
+same-step s (release k) = record {
+  floor = release-floor (s .plan) (s .floor) k (eqb (own (s .plan) (s .floor) k) 0) refl;
+  booked = release-booked (s .plan) (s .floor) k (eqb (own (s .plan) (s .floor) k) 0) refl;
+  reported = release-reported (s .plan) (s .floor) k (eqb (own (s .plan) (s .floor) k) 0);
+}
+same-step s (report r) = record { floor = refl; booked = refl; reported = λ k. refl }
+
+-- ---- lists
+same-floor : (s : State) (cs : List Step) → floorAfter (s .floor) (callsIn s cs) ≡ after s cs .floor
+unfolding floorAfter callsIn after
+same-floor s [] = refl
+same-floor s (c ∷ cs) =
+    after-both (s .floor) (callsOf s c) (callsIn (stepped s c) cs) ∙ ap (λ (f : Floor). floorAfter f (callsIn (stepped s c) cs)) (same-step s c .floor) ∙ same-floor (stepped s c) cs
+
+same-booked : (s : State) (cs : List Step) → bookedIn (s .floor) (callsIn s cs) ≡ bookedBy s cs
+unfolding bookedIn callsIn bookedBy
+same-booked s [] = refl
+same-booked s (c ∷ cs) =
+    let S = same-step s c in
+    booked-both (s .floor) (callsOf s c) (callsIn (stepped s c) cs)
+    ∙ ap (λ (l : List ℕ). l ++ bookedIn (floorAfter (s .floor) (callsOf s c)) (callsIn (stepped s c) cs)) (S .booked)
+    ∙ ap (λ (f : Floor). bookedOf s c ++ bookedIn f (callsIn (stepped s c) cs)) (S .floor)
+    ∙ ap (λ (l : List ℕ). bookedOf s c ++ l) (same-booked (stepped s c) cs)
+
+same-reported : (s : State) (cs : List Step) (k : ℕ) → reportedIn (s .floor) (callsIn s cs) k ≡ reportedBy s cs k
+unfolding reportedIn callsIn reportedBy
+same-reported s [] k = refl
+same-reported s (c ∷ cs) k =
+    let S = same-step s c in
+    reported-both (s .floor) (callsOf s c) (callsIn (stepped s c) cs) k
+    ∙ ap (λ (l : List ℕ). l ++ reportedIn (floorAfter (s .floor) (callsOf s c)) (callsIn (stepped s c) cs) k) (S .reported k)
+    ∙ ap (λ (f : Floor). reportedOf s c k ++ reportedIn f (callsIn (stepped s c) cs) k) (S .floor)
+    ∙ ap (λ (l : List ℕ). reportedOf s c k ++ l) (same-reported (stepped s c) cs k)
+
+-- ---- widths
+following-fits : (f : Floor) → wellFormed f ≡ true → following f < 2 ^ 32
+unfolding following view
+following-fits f w = go (ltb (f .counters .last + 1) (2 ^ 32)) refl
+  where
+    go : (b : Bool) → ltb (f .counters .last + 1) (2 ^ 32) ≡ b → cond b (f .counters .last + 1) (f .counters .last) < 2 ^ 32
+    go true e = ltb-true (f .counters .last + 1) (2 ^ 32) e
+    go false e = well-sound f w .last-fits
+
+typed-step : (s : State) (c : Step) → wellFormed (s .floor) ≡ true → TypedStep c → All Typed (callsOf s c)
+unfolding callsOf
+typed-step s (call c) w t = (t, tt)
+typed-step s offer w t = tt
+typed-step s (release k) w t = go (eqb (refusal (releaseTests (s .plan) (s .floor) k)) 0)
+  where
+    go : (b : Bool) → All Typed (cond b (anywhere (tileFor (used (s .plan)) k) (following (s .floor)) ∷ []) [])
+    go true = (following-fits (s .floor) w, tt)
+    go false = tt
+typed-step s (report r) w t = tt
+
+-- a step leaves the floor well formed, the last number doesn't fall, and what is booked is above the old last number and up to the new one
+pub record StepKeeps (s : State) (c : Step) : Type 0 where
+  pub well : wellFormed (stepped s c .floor) ≡ true
+  pub rises : s .floor .counters .last ≤ stepped s c .floor .counters .last
+  pub above : All (λ n. s .floor .counters .last < n) (bookedOf s c)
+  pub upto : All (λ n. n ≤ stepped s c .floor .counters .last) (bookedOf s c)
+
+pub step-keeps : (s : State) (c : Step) → wellFormed (s .floor) ≡ true → TypedStep c → StepKeeps s c
+unfolding view
+step-keeps s c w t =
+    let last = s .floor .counters .last in
+    let K = list-keeps (s .floor) w (callsOf s c) (typed-step s c w t) in
+    let S = same-step s c in
+    record {
+      well = subst (λ (g : Floor). wellFormed g ≡ true) (S .floor) (K .0);
+      rises = subst (λ (g : Floor). last ≤ g .counters .last) (S .floor) (K .1 .rises);
+      above = subst (All (λ n. last < n)) (S .booked) (K .1 .above);
+      upto = subst (λ (g : Floor). All (λ n. n ≤ g .counters .last) (bookedOf s c)) (S .floor) (subst (All (λ n. n ≤ floorAfter (s .floor) (callsOf s c) .counters .last)) (S .booked) (K .1 .upto));
+    }
+
+pub typed-list : (s : State) (cs : List Step) → wellFormed (s .floor) ≡ true → All TypedStep cs → All Typed (callsIn s cs)
+unfolding callsIn
+typed-list s [] w t = tt
+typed-list s (c ∷ cs) w t = all-append Typed (callsOf s c) (callsIn (stepped s c) cs) (typed-step s c w (t .0)) (typed-list (stepped s c) cs (step-keeps s c w (t .0) .well) (t .1))
+
+pub as-calls : CallsPromise
+as-calls s cs = record {
+  same-floor = same-floor s cs;
+  same-booked = same-booked s cs;
+  same-reported = same-reported s cs;
+  promises = λ w t. demand3 (s .floor) w (callsIn s cs) (typed-list s cs w t);
+}

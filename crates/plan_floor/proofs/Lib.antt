@@ -1,0 +1,15 @@
+pub mod Samples
+pub mod Written
+pub mod History
+pub mod Offering
+pub mod Keeping
+pub mod Answers
+pub mod AsCalls
+pub mod Rounds
+pub mod Soundness
+pub mod Once
+pub mod Canisters
+pub mod Emptying
+pub mod Marking
+pub mod Ending
+pub mod Promises

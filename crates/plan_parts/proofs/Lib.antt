@@ -1,0 +1,5 @@
+pub mod Sized
+pub mod Lowest
+pub mod Finding
+pub mod Changed
+pub mod Listed

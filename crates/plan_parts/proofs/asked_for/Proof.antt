@@ -1,0 +1,132 @@
+use mathlib.Core.Path.{_≡_}
+use mathlib.Core.Bool.{false}
+use Prim.Native.Nat.{_+_, _-_, _≤_}
+use native.Mathlib.Omega.{arith}
+use lib.ListN.{length}
+use lib.Seq.{getD-take, length-take-le}
+use Rattle.laws.specs.Filled.{Upto}
+use Rattle.plan.specs.Entries.{used, done, readyLabel}
+use Rattle.plan_check.proofs.Sized.{entries-length}
+use Rattle.plan_check.proofs.Entries.{ready-code}
+use Rattle.plan_check.proofs.Tables.{zeroEntry, entryAt}
+use Rattle.plan_parts.proofs.Finding.{Found, found-none, found-turn}
+use borrow.Author.Needs.{needs}
+use Rattle.plan_parts.proofs.asked_for.Statement.{statement}
+use Rattle.plan_parts.proofs.asked_for.Tie as tie
+use Rattle.plan_parts.proofs.asked_for.Reads as reads
+use Rattle.plan_parts.proofs.asked_for.Lts as lts
+use Rattle.plan_check.proofs.both.Reads as both-reads
+use Rattle.plan_check.proofs.done_table.Reads as done-table-reads
+use Rattle.plan_check.proofs.waits.Reads as waits-reads
+use Rattle.plan_parts.proofs.tile_if.Reads as tile-if-reads
+
+abbrev Inv-loop : tie.InvT-loop
+Inv-loop label plan table n tile₀ ready₀ j₀ tile ready j = (j ≤ n) × (n ≤ 64) × (length (plan .entries) ≡ 64) × (length table ≡ 256) × Upto 256 (done (used plan)) false table × Found (used plan) label (n - j) tile ready
+
+abbrev μ-loop : tie.MeasureT-loop
+μ-loop label plan table n tile₀ ready₀ j₀ tile ready j = n - j
+
+done-table-requires : tie.Need-done-table-requires Inv-loop μ-loop
+done-table-requires c κs = search needs
+
+cast-n : tie.Need-cast-n Inv-loop μ-loop
+cast-n c = search needs
+
+loop-holds : tie.Need-loop-holds Inv-loop μ-loop
+loop-holds c =
+    let S = c .before in
+    let p = S .args .t1 in
+    let T = c .done-table in
+    let few = entries-length p _ (S .good .0) in
+    let n : length (used p) ≡ p .count = length-take-le (p .count) (p .entries) (omega (arith, S .pre)) in
+    (omega arith, S .pre, few, T .ok .1 .0 .1, T .ensures, found-none (used p) (S .args .label) (p .count - 0) (omega arith))
+
+sub-k : tie.Need-sub-k Inv-loop μ-loop
+sub-k c = search needs
+
+sub-k-2 : tie.Need-sub-k-2 Inv-loop μ-loop
+sub-k-2 c = search needs
+
+mul-e : tie.Need-mul-e Inv-loop μ-loop
+mul-e c = search needs
+
+element-copy-out-e : tie.Need-element-copy-out-e Inv-loop μ-loop
+element-copy-out-e c = search needs
+
+cast-first : tie.Need-cast-first Inv-loop μ-loop
+cast-first c = search needs
+
+array-read-first : tie.Need-array-read-first Inv-loop μ-loop
+array-read-first c = search needs
+
+cast-second : tie.Need-cast-second Inv-loop μ-loop
+cast-second c = search needs
+
+array-read-second : tie.Need-array-read-second Inv-loop μ-loop
+array-read-second c = search needs
+
+both-requires : tie.Need-both-requires Inv-loop μ-loop
+both-requires c κs = search needs
+
+waits-requires : tie.Need-waits-requires Inv-loop μ-loop
+waits-requires c κs = search needs
+
+cast-ready : tie.Need-cast-ready Inv-loop μ-loop
+cast-ready c = search needs
+
+tile-if-requires : tie.Need-tile-if-requires Inv-loop μ-loop
+tile-if-requires c κs = search needs
+
+add-j : tie.Need-add-j Inv-loop μ-loop
+add-j c = search needs
+
+loop-less : tie.Need-loop-less Inv-loop μ-loop
+loop-less c = search needs
+
+loop-again : tie.Need-loop-again Inv-loop μ-loop
+loop-again c =
+    let l = c .before .before .before .before .before .before .before .before .loop in
+    let p = c .before .before .before .before .before .before .before .before .before .before .args .t1 in
+    let k = p .count - 1 - l .j in
+    let x = entryAt (p .entries) k in
+    let n : length (used p) ≡ p .count = length-take-le (p .count) (p .entries) (omega arith) in
+    let same : entryAt (used p) k ≡ x = getD-take (p .count) (p .entries) k zeroEntry (omega arith) in
+    let next : p .count - (l .j + 1) ≡ k = omega arith in
+    let one = ready-code (used p) x (c .before .before .waits .ensures) (l .inv .4 (x .first) (omega arith)) (l .inv .4 (x .second) (omega arith)) (c .before .before .before .both .ensures) in
+    let t = found-turn (used p) (c .before .before .before .before .before .before .before .before .before .before .args .label) k (p .count - l .j) x (omega arith) (omega arith) same (l .inv .5) (c .tile-if .ensures) one in
+    (omega arith, l .inv .1, l .inv .2, l .inv .3, l .inv .4, rw next t)
+
+returns : tie.Need-returns Inv-loop μ-loop
+unfolding readyLabel
+returns c =
+    let l = c .before .loop in
+    let p = c .before .before .before .args .t1 in
+    let e : p .count - l .j ≡ 0 = omega arith in
+    let f = rw e at (l .inv .5) in
+    λ i. record { tile = f .0 i; ready = f .1 i }
+
+pub asked-for-spec : {M : Type 1} → statement M
+asked-for-spec =
+    tie.close
+    (tie.spec
+    Inv-loop
+    μ-loop
+    done-table-requires
+    cast-n
+    loop-holds
+    sub-k
+    sub-k-2
+    mul-e
+    element-copy-out-e
+    cast-first
+    array-read-first
+    cast-second
+    array-read-second
+    both-requires
+    waits-requires
+    cast-ready
+    tile-if-requires
+    add-j
+    loop-less
+    loop-again
+    returns)

@@ -1,0 +1,121 @@
+use mathlib.Core.Path.{_≡_, sym, subst}
+use mathlib.Core.Bool.{false, true}
+use Prim.Native.Nat.{ℕ, _-_, _≤_}
+use native.Mathlib.Omega.{arith}
+use lib.ListN.{length, take}
+use lib.Seq.{getD-take, length-take-le}
+use Rattle.laws.specs.Filled.{Upto}
+use Rattle.plan.specs.Entries.{used, done, planFits}
+use Rattle.plan_check.proofs.Sized.{entries-length}
+use Rattle.plan_check.proofs.Entries.{ready-code}
+use Rattle.plan_check.proofs.Tables.{zeroEntry, entryAt}
+use Rattle.plan_parts.proofs.Lowest.{Lowest, lowest-begins, lowest-turn, lowest-none, lowest-some, fits-label}
+use borrow.Author.Needs.{needs}
+use Rattle.plan_parts.proofs.lowest_ready.Statement.{statement}
+use Rattle.plan_parts.proofs.lowest_ready.Tie as tie
+use Rattle.plan_parts.proofs.lowest_ready.Reads as reads
+use Rattle.plan_parts.proofs.lowest_ready.Lts as lts
+use Rattle.plan_check.proofs.both.Reads as both-reads
+use Rattle.plan_check.proofs.done_table.Reads as done-table-reads
+use Rattle.plan_check.proofs.waits.Reads as waits-reads
+use Rattle.plan_parts.proofs.lower.Reads as lower-reads
+
+abbrev Inv-loop : tie.InvT-loop
+Inv-loop plan table n best₀ k₀ best k = (k ≤ n) × (n ≤ 64) × (length (plan .entries) ≡ 64) × (length table ≡ 256) × Upto 256 (done (used plan)) false table × (planFits plan ≡ true) × Lowest (used plan) (take k (plan .entries)) best
+
+abbrev μ-loop : tie.MeasureT-loop
+μ-loop plan table n best₀ k₀ best k = n - k
+
+done-table-requires : tie.Need-done-table-requires Inv-loop μ-loop
+done-table-requires c κs = search needs
+
+cast-n : tie.Need-cast-n Inv-loop μ-loop
+cast-n c = search needs
+
+loop-holds : tie.Need-loop-holds Inv-loop μ-loop
+loop-holds c =
+    let S = c .before in
+    let T = c .done-table in
+    (omega arith, S .pre .0, entries-length (S .args .t1) _ (S .good .0), T .ok .1 .0 .1, T .ensures, S .pre .1, lowest-begins (used (S .args .t1)) (S .args .t1 .entries))
+
+mul-e : tie.Need-mul-e Inv-loop μ-loop
+mul-e c = search needs
+
+element-copy-out-e : tie.Need-element-copy-out-e Inv-loop μ-loop
+element-copy-out-e c = search needs
+
+cast-first : tie.Need-cast-first Inv-loop μ-loop
+cast-first c = search needs
+
+array-read-first : tie.Need-array-read-first Inv-loop μ-loop
+array-read-first c = search needs
+
+cast-second : tie.Need-cast-second Inv-loop μ-loop
+cast-second c = search needs
+
+array-read-second : tie.Need-array-read-second Inv-loop μ-loop
+array-read-second c = search needs
+
+both-requires : tie.Need-both-requires Inv-loop μ-loop
+both-requires c κs = search needs
+
+waits-requires : tie.Need-waits-requires Inv-loop μ-loop
+waits-requires c κs = search needs
+
+lower-requires : tie.Need-lower-requires Inv-loop μ-loop
+lower-requires c κs = search needs
+
+add-k : tie.Need-add-k Inv-loop μ-loop
+add-k c = search needs
+
+loop-less : tie.Need-loop-less Inv-loop μ-loop
+loop-less c = search needs
+
+loop-again : tie.Need-loop-again Inv-loop μ-loop
+loop-again c =
+    let l = c .before .before .before .before .before .before .before .loop in
+    let p = c .before .before .before .before .before .before .before .before .before .args .t1 in
+    let x = entryAt (p .entries) (l .k) in
+    let n : length (used p) ≡ p .count = length-take-le (p .count) (p .entries) (omega arith) in
+    let same : entryAt (used p) (l .k) ≡ x = getD-take (p .count) (p .entries) (l .k) zeroEntry (omega arith) in
+    let some : 1 ≤ x .label = rw (sym same) (fits-label p (l .inv .5) (l .k) (omega arith)) in
+    let one = ready-code (used p) x (c .before .waits .ensures) (l .inv .4 (x .first) (omega arith)) (l .inv .4 (x .second) (omega arith)) (c .before .before .both .ensures) in
+    (omega arith, l .inv .1, l .inv .2, l .inv .3, l .inv .4, l .inv .5, lowest-turn (used p) (p .entries) (l .k) (omega arith) some (l .inv .6) one (c .lower .ensures))
+
+returns : tie.Need-returns Inv-loop μ-loop
+returns c =
+    let l = c .before .before .loop in
+    let p = c .before .before .before .before .args .t1 in
+    let e : l .k ≡ p .count = omega arith in
+    lowest-none p (subst (λ (k : ℕ). Lowest (used p) (take k (p .entries)) (l .best)) e (l .inv .6)) (c .if1 .taken)
+
+returns-2 : tie.Need-returns-2 Inv-loop μ-loop
+returns-2 c =
+    let l = c .before .before .loop in
+    let p = c .before .before .before .before .args .t1 in
+    let e : l .k ≡ p .count = omega arith in
+    lowest-some p (subst (λ (k : ℕ). Lowest (used p) (take k (p .entries)) (l .best)) e (l .inv .6)) (c .if1 .left)
+
+pub lowest-ready-spec : {M : Type 1} → statement M
+lowest-ready-spec =
+    tie.close
+    (tie.spec
+    Inv-loop
+    μ-loop
+    done-table-requires
+    cast-n
+    loop-holds
+    mul-e
+    element-copy-out-e
+    cast-first
+    array-read-first
+    cast-second
+    array-read-second
+    both-requires
+    waits-requires
+    lower-requires
+    add-k
+    loop-less
+    loop-again
+    returns
+    returns-2)

@@ -1,0 +1,63 @@
+use mathlib.Core.Path.{_≡_, sym, ap, _∙_}
+use Prim.Native.Nat.{ℕ, _-_, _≤_}
+use native.Mathlib.Omega.{arith}
+use lib.Dec.{ltb}
+use lib.ListN.{length, take}
+use lib.Seq.{take-all}
+use Rattle.laws.specs.Define.{anyOf}
+use Rattle.laws.proofs.Tables.{ended}
+use Rattle.plan_check.proofs.Tables.{any-more}
+use Rattle.plan_parts.proofs.Listed.{zeroDelivery, any-none}
+use Rattle.plan_parts.proofs.Sized.{deliveries-length}
+use borrow.Author.Needs.{needs}
+use Rattle.plan_parts.proofs.over_four.Statement.{statement}
+use Rattle.plan_parts.proofs.over_four.Tie as tie
+use Rattle.plan_parts.proofs.over_four.Reads as reads
+use Rattle.plan_parts.proofs.over_four.Lts as lts
+
+abbrev Inv-loop : tie.InvT-loop
+Inv-loop given found₀ h₀ found h = (h ≤ 4) × (length (given .deliveries) ≡ 4) × (found ≡ anyOf (λ d. ltb 4 (d .count)) (take h (given .deliveries)))
+
+abbrev μ-loop : tie.MeasureT-loop
+μ-loop given found₀ h₀ found h = 4 - h
+
+loop-holds : tie.Need-loop-holds Inv-loop μ-loop
+loop-holds c = (omega arith, deliveries-length (c .args .t1) _ (c .good .0), any-none (λ d. ltb 4 (d .count)) (c .args .t1 .deliveries))
+
+mul-d : tie.Need-mul-d Inv-loop μ-loop
+mul-d c = search needs
+
+element-copy-out-d : tie.Need-element-copy-out-d Inv-loop μ-loop
+element-copy-out-d c = search needs
+
+add-h : tie.Need-add-h Inv-loop μ-loop
+add-h c = search needs
+
+loop-less : tie.Need-loop-less Inv-loop μ-loop
+loop-less c = search needs
+
+loop-again : tie.Need-loop-again Inv-loop μ-loop
+loop-again c =
+    let l = c .before .before .before .loop in
+    let ds = c .before .before .before .before .args .t1 .deliveries in
+    (omega arith, l .inv .1, rw (l .inv .2) (sym (any-more (λ d. ltb 4 (d .count)) ds (l .h) zeroDelivery (omega arith))))
+
+returns : tie.Need-returns Inv-loop μ-loop
+returns c =
+    let l = c .before .loop in
+    let ds = c .before .before .args .t1 .deliveries in
+    ended (λ (k : ℕ). anyOf (λ d. ltb 4 (d .count)) (take k ds)) (omega arith) (l .inv .0) (l .inv .2) ∙ ap (anyOf (λ d. ltb 4 (d .count))) (take-all 4 ds (omega arith))
+
+pub over-four-spec : {M : Type 1} → statement M
+over-four-spec =
+    tie.close
+    (tie.spec
+    Inv-loop
+    μ-loop
+    loop-holds
+    mul-d
+    element-copy-out-d
+    add-h
+    loop-less
+    loop-again
+    returns)

@@ -1,0 +1,84 @@
+use mathlib.Core.Path.{_≡_, refl, ap}
+use mathlib.Core.List.{List}
+use Prim.Native.Nat.{ℕ, _-_, _≤_}
+use native.Mathlib.Omega.{arith}
+use lib.ListN.{length, length-set}
+use Rattle.laws.proofs.Tables.{ended}
+use Rattle.plan.specs.declared.Entry.{Entry}
+use Rattle.plan.specs.Entries.{released}
+use Rattle.plan_check.proofs.Sized.{entries-length}
+use Rattle.plan_check.proofs.Tables.{zeroEntry}
+use Rattle.plan_parts.proofs.Changed.{mapUpto, map-turn}
+use borrow.Author.Needs.{needs}
+use Rattle.plan_parts.proofs.plan_released.Statement.{statement}
+use Rattle.plan_parts.proofs.plan_released.Tie as tie
+use Rattle.plan_parts.proofs.plan_released.Reads as reads
+use Rattle.plan_parts.proofs.plan_released.Lts as lts
+use Rattle.plan_parts.proofs.entry_released.Reads as entry-released-reads
+
+abbrev Inv-loop : tie.InvT-loop
+Inv-loop plan label number n entries₀ k₀ entries k = (k ≤ n) × (n ≤ 64) × (length (plan .entries) ≡ 64) × (length entries ≡ 64) × (entries ≡ mapUpto k (released label number) (plan .entries))
+
+abbrev μ-loop : tie.MeasureT-loop
+μ-loop plan label number n entries₀ k₀ entries k = n - k
+
+cast-n : tie.Need-cast-n Inv-loop μ-loop
+cast-n c = search needs
+
+loop-holds : tie.Need-loop-holds Inv-loop μ-loop
+loop-holds c =
+    let S = c .before .before in
+    let few = entries-length (S .args .plan) _ (S .good .0) in
+    (omega arith, S .pre, few, few, refl)
+
+mul-e : tie.Need-mul-e Inv-loop μ-loop
+mul-e c = search needs
+
+array-copy-out-e : tie.Need-array-copy-out-e Inv-loop μ-loop
+array-copy-out-e c = search needs
+
+entry-released-requires : tie.Need-entry-released-requires Inv-loop μ-loop
+entry-released-requires c κs = search needs
+
+mul-entries : tie.Need-mul-entries Inv-loop μ-loop
+mul-entries c = search needs
+
+array-set-from-entries : tie.Need-array-set-from-entries Inv-loop μ-loop
+array-set-from-entries c = search needs
+
+add-k : tie.Need-add-k Inv-loop μ-loop
+add-k c = search needs
+
+loop-less : tie.Need-loop-less Inv-loop μ-loop
+loop-less c = search needs
+
+loop-again : tie.Need-loop-again Inv-loop μ-loop
+loop-again c =
+    let l = c .before .before .before .loop in
+    let g = c .before .before .before .before .before .before .args in
+    let v = c .entry-released in
+    (omega arith, l .inv .1, l .inv .2, simp length-set (l .inv .3), map-turn (l .k) (released g.label g.number) (g.plan .entries) (l .entries) zeroEntry (v .result) (omega arith) (l .inv .4) (v .ensures))
+
+returns : tie.Need-returns Inv-loop μ-loop
+returns c =
+    let l = c .before .loop in
+    let g = c .before .before .before .before .args in
+    ap (λ (es : List Entry). record { entries = es; count = g.plan .count }) (ended (λ (k : ℕ). mapUpto k (released g.label g.number) (g.plan .entries)) (omega arith) (l .inv .0) (l .inv .4))
+
+pub plan-released-spec : {M : Type 1} → statement M
+plan-released-spec =
+    tie.close
+    (tie.spec
+    Inv-loop
+    μ-loop
+    cast-n
+    loop-holds
+    mul-e
+    array-copy-out-e
+    entry-released-requires
+    mul-entries
+    array-set-from-entries
+    add-k
+    loop-less
+    loop-again
+    returns)

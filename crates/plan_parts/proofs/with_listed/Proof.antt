@@ -1,0 +1,78 @@
+use mathlib.Core.Path.{_≡_}
+use mathlib.Core.List.{_++_}
+use Prim.Native.Nat.{_+_, _-_, _≤_}
+use native.Mathlib.Omega.{arith}
+use lib.ListN.{length, take, length-set}
+use Rattle.plan_parts.proofs.Sized.{numbers-length}
+use Rattle.plan_parts.proofs.Listed.{put-none, put-turn}
+use borrow.Author.Needs.{needs}
+use Rattle.plan_parts.proofs.with_listed.Statement.{statement}
+use Rattle.plan_parts.proofs.with_listed.Tie as tie
+use Rattle.plan_parts.proofs.with_listed.Reads as reads
+use Rattle.plan_parts.proofs.with_listed.Lts as lts
+
+abbrev Inv-loop : tie.InvT-loop
+Inv-loop m own n out₀ i₀ out i = (i ≤ n) × (n ≤ 4) × (m ≤ 12) × (length own ≡ 4) × (length out ≡ 16) × (take (m + i) out ≡ take m out₀ ++ take i own)
+
+abbrev μ-loop : tie.MeasureT-loop
+μ-loop m own n out₀ i₀ out i = n - i
+
+cast-n : tie.Need-cast-n Inv-loop μ-loop
+cast-n c = search needs
+
+loop-holds : tie.Need-loop-holds Inv-loop μ-loop
+loop-holds c =
+    let S = c .before .before in
+    (omega arith, S .pre .1, S .pre .0, numbers-length (S .args .d) _ (S .good .1 .1 .0), S .good .0 .1 .0 .1, put-none (S .args .items) (S .args .d .numbers) (S .args .m))
+
+mul-out : tie.Need-mul-out Inv-loop μ-loop
+mul-out c = search needs
+
+array-read-out : tie.Need-array-read-out Inv-loop μ-loop
+array-read-out c = search needs
+
+add-out : tie.Need-add-out Inv-loop μ-loop
+add-out c = search needs
+
+mul-out-2 : tie.Need-mul-out-2 Inv-loop μ-loop
+mul-out-2 c = search needs
+
+array-write-out : tie.Need-array-write-out Inv-loop μ-loop
+array-write-out c = search needs
+
+add-i : tie.Need-add-i Inv-loop μ-loop
+add-i c = search needs
+
+loop-less : tie.Need-loop-less Inv-loop μ-loop
+loop-less c = search needs
+
+loop-again : tie.Need-loop-again Inv-loop μ-loop
+loop-again c =
+    let l = c .before .loop in
+    let g = c .before .before .before .before .args in
+    (omega arith, l .inv .1, l .inv .2, l .inv .3, simp length-set (l .inv .4), put-turn (l .out) (g.d .numbers) g.m (l .i) (take g.m g.items) (omega arith) (omega arith) (l .inv .5))
+
+returns : tie.Need-returns Inv-loop μ-loop
+returns c =
+    let l = c .before .loop in
+    let g = c .before .before .before .before .args in
+    let e : l .i ≡ g.d .count = omega arith in
+    rw e at (l .inv .5)
+
+pub with-listed-spec : {M : Type 1} → statement M
+with-listed-spec =
+    tie.close
+    (tie.spec
+    Inv-loop
+    μ-loop
+    cast-n
+    loop-holds
+    mul-out
+    array-read-out
+    add-out
+    mul-out-2
+    array-write-out
+    add-i
+    loop-less
+    loop-again
+    returns)
