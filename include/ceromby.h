@@ -36,6 +36,8 @@ extern "C" {
 #define CEROMBY_PLACES 16 /* canister places of one tile */
 #define CEROMBY_MAX_LAYOUTS 8
 #define CEROMBY_LONGEST_LIST 64 /* bookings in one call */
+#define CEROMBY_MAX_ENTRIES 64 /* of a plan */
+#define CEROMBY_MAX_LABEL 64 /* of a plan's entry; the least is 1 */
 
 /* The set of one tile, 0 to 63: with one hopper, .hoppers = CEROMBY_TILE(5). Sets are joined by |. */
 #define CEROMBY_TILE(t) (UINT64_C(1) << (t))
@@ -44,6 +46,11 @@ extern "C" {
 #define CEROMBY_LETTER(layout, at) ((char)((layout).name >> (56 - 8 * (at)) & 255))
 
 #define CEROMBY_WINDOW 256 /* rounds of a throughput's window */
+
+/* ceromby_entry.stage. These bytes are written; any byte above 2 is read as booked. */
+#define CEROMBY_STAGE_WAITING 0
+#define CEROMBY_STAGE_BOOKED 1
+#define CEROMBY_STAGE_DELIVERED 2
 
 /* Why a tile stood in a round; the first that fits. */
 #define CEROMBY_REASON_STOPPED 1
@@ -72,7 +79,7 @@ extern "C" {
 #define CEROMBY_SHORT_BUFFER 13   /* buffer shorter than the image to write */
 
 /* Refused because of the state. */
-#define CEROMBY_MALFORMED 30      /* the floor handed in isn't well formed, or the throughput isn't sound */
+#define CEROMBY_MALFORMED 30      /* the floor handed in isn't well formed, the throughput isn't sound, or the plan isn't */
 #define CEROMBY_STOPPED 31        /* booking on a stopped tile, or stop of a stopped one */
 #define CEROMBY_RUNNING 32        /* repair of a running tile */
 #define CEROMBY_NUMBER_USED 33    /* canister number not above the last booked */
@@ -92,6 +99,11 @@ extern "C" {
 #define CEROMBY_BAD_NAME 44       /* not 1 to 8 letters A to Z, then zeros */
 #define CEROMBY_NAME_NOT_HELD 45  /* recalling or forgetting a name that isn't held */
 #define CEROMBY_LAYOUTS_FULL 46   /* keeping under a new name with eight held */
+
+/* Refused because of a plan's labels. */
+#define CEROMBY_BAD_LABEL 47      /* an entry's label is repeated or outside 1 to 64, or a predecessor absent or not lower */
+#define CEROMBY_NOT_RELEASED 48   /* release of a label that isn't waiting or not in the plan, or before a predecessor of it
+                                     was delivered */
 
 typedef struct ceromby_canister {
     uint32_t number; /* never 0 on a floor */
@@ -233,6 +245,43 @@ typedef struct ceromby_fed {
     uint8_t refusal;
 } ceromby_fed;
 
+/* An entry of a plan. Any bytes may stand here. */
+typedef struct ceromby_entry {
+    uint32_t tile;   /* a fill tile; looked at in a release alone */
+    uint32_t number; /* what it is booked under; a delivered entry keeps it */
+    uint8_t label;   /* 1 to 64, each once in a plan */
+    uint8_t first;   /* labels of the plan, lower than its own, that must be delivered earlier; 0 for none */
+    uint8_t second;
+    uint8_t stage;   /* 0 waits, 2 delivered, any other byte booked */
+} ceromby_entry;
+
+/* What is to be fed in which order. A new plan has nothing but entries that wait. Entries from the count on are ignored and
+   handed back. A plan isn't sound, and is refused by 30, if it claims more than 64 entries, if an entry past waiting has a
+   predecessor's label on an entry that isn't delivered, or if two booked entries hold one number. */
+typedef struct ceromby_plan {
+    ceromby_entry entries[CEROMBY_MAX_ENTRIES];
+    uint32_t count;
+} ceromby_plan;
+
+typedef struct ceromby_offered {
+    uint8_t label; /* 0 where none is offered, and where refused: look at the refusal */
+    uint8_t refusal;
+} ceromby_offered;
+
+typedef struct ceromby_planned {
+    ceromby_plan plan;
+    uint8_t refusal;
+} ceromby_planned;
+
+typedef struct ceromby_released {
+    ceromby_floor floor;
+    ceromby_plan plan;
+    uint32_t number; /* what was booked, never 0; where refused, 0 */
+    uint16_t a;      /* its place; where refused, (0, 0) */
+    uint16_t b;
+    uint8_t refusal;
+} ceromby_released;
+
 /* A floor without canisters. Refused by 1, 2, 3. */
 ceromby_answer ceromby_fresh(ceromby_settings settings);
 
@@ -301,6 +350,19 @@ ceromby_written ceromby_page(ceromby_floor floor, uint8_t *buffer, size_t length
    round closes the window, sets the rates and empties it; an open round keeps the rates and the closed byte as they are, a
    close sets that to 1. Refused by 30 (the record isn't sound), 41. */
 ceromby_fed ceromby_feed(ceromby_throughput throughput, uint32_t count);
+
+/* The lowest label that waits and whose predecessors are all delivered; 0, accepted, if there is none. Refused by 30 (the
+   plan isn't sound), 47. */
+ceromby_offered ceromby_plan_offer(ceromby_plan plan);
+
+/* Books a label that waits, offered or not, as ceromby_book_anywhere does: on its entry's tile, under the number after the
+   last booked on the floor. The entry becomes booked under it. Refused by 30 (the plan isn't sound, the floor isn't well
+   formed, or a booked number is 0 or above the last booked), 47, 48, 4, 5, 31, 33 (no number is left), 40. */
+ceromby_released ceromby_plan_release(ceromby_plan plan, ceromby_floor floor, uint32_t label);
+
+/* Marks delivered the booked entries whose numbers a round's report lists for any hopper, and changes nothing else. Hand in
+   every report from the first release on. Refused by 30 (the plan isn't sound, or a ceromby_delivery.count is above 4), 47. */
+ceromby_planned ceromby_plan_report(ceromby_plan plan, ceromby_report report);
 
 #ifdef __cplusplus
 }

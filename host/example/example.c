@@ -221,6 +221,34 @@ static void measure(void) {
     printf("feed a record with negative zero: %u\n", ceromby_feed(record, 0).refusal);
 }
 
+/* Medicated feed follows plain: label 2 waits until the delivery of label 1 was reported. */
+static void follow(ceromby_floor floor) {
+    ceromby_plan plan = {
+        .entries = {{.label = 1, .tile = 0}, {.label = 2, .tile = 0, .first = 1}},
+        .count = 2,
+    };
+    for (unsigned round = 1; round <= 9; round++) {
+        ceromby_offered offered = ceromby_plan_offer(plan);
+        printf("round %u, offered %u", round, offered.label);
+        if (offered.label != 0) {
+            ceromby_released released = ceromby_plan_release(plan, floor, offered.label);
+            printf(", released: %u, canister %lu at (%u, %u), label 2: %u", released.refusal,
+                   (unsigned long)released.number, released.a, released.b,
+                   ceromby_plan_release(released.plan, released.floor, 2).refusal);
+            plan = released.plan;
+            floor = released.floor;
+        }
+        ceromby_rounded rounded = ceromby_round(floor);
+        floor = rounded.floor;
+        plan = ceromby_plan_report(plan, rounded.report).plan;
+        printf(", stages %u %u\n", plan.entries[0].stage, plan.entries[1].stage);
+    }
+    plan.entries[1].first = 3;
+    printf("offer with an absent predecessor: %u\n", ceromby_plan_offer(plan).refusal);
+    plan.count = CEROMBY_MAX_ENTRIES + 1;
+    printf("offer of a plan that claims 65 entries: %u\n", ceromby_plan_offer(plan).refusal);
+}
+
 int main(void) {
     ceromby_settings settings = {
         .columns = 2, .rows = 1, .hoppers = CEROMBY_TILE(1), .sources = CEROMBY_TILE(0),
@@ -239,5 +267,6 @@ int main(void) {
     clean_nets(ceromby_fresh(settings).floor);
     start_blank();
     measure();
+    follow(ceromby_fresh(settings).floor);
     return 0;
 }

@@ -96,9 +96,36 @@ static void throughput(void) {
     FIELD(fed, refusal);
 }
 
+static void plan(void) {
+    SIZE(entry);
+    FIELD(entry, tile);
+    FIELD(entry, number);
+    FIELD(entry, label);
+    FIELD(entry, first);
+    FIELD(entry, second);
+    FIELD(entry, stage);
+    SIZE(plan);
+    FIELD(plan, entries);
+    FIELD(plan, count);
+    SIZE(offered);
+    FIELD(offered, label);
+    FIELD(offered, refusal);
+    SIZE(planned);
+    FIELD(planned, plan);
+    FIELD(planned, refusal);
+    SIZE(released);
+    FIELD(released, floor);
+    FIELD(released, plan);
+    FIELD(released, number);
+    FIELD(released, a);
+    FIELD(released, b);
+    FIELD(released, refusal);
+}
+
 int main(void) {
     values();
     answers();
     throughput();
+    plan();
     return 0;
 }

@@ -4,11 +4,13 @@
 //! with tiles and canisters.
 
 mod floors;
+mod plans;
 
 use std::hint::black_box;
 use std::time::Instant;
 
 use floors::{both_shapes, growing, to_book_on, to_list_on, Pair};
+use plans::{stages, Planned};
 
 /// Repetitions of each measure; the median counts. They are many and short,
 /// so that other work on the machine spoils few of them.
@@ -216,6 +218,64 @@ fn feeds() {
     }
 }
 
+/// The calls about plans of 64 entries.
+fn planned() {
+    for Planned { name, ours, theirs } in stages() {
+        let (ours, theirs) = (black_box(&ours), black_box(&theirs));
+        row!(
+            name,
+            "offer",
+            ceromby::plan::offer(ours).err().unwrap_or(0),
+            ceromby::plan::offer(ours),
+            oracle::offer(theirs)
+        );
+        let (told, same) = (black_box(&plans::OURS), black_box(&plans::THEIRS));
+        row!(
+            name,
+            "report of 16",
+            ceromby::plan::report(ours, told),
+            oracle::report(theirs, same)
+        );
+        for (pair, _) in to_release_on() {
+            let (floor, same) = (black_box(&pair.ours), black_box(&pair.theirs));
+            row!(
+                name,
+                &format!("release, {}", pair.name),
+                ceromby::plan::release(ours, floor, 64),
+                oracle::release(theirs, same, 64)
+            );
+        }
+    }
+}
+
+/// A release beside the booking without a place that it makes.
+fn releases() {
+    for Planned { name, ours, .. } in stages() {
+        let ours = black_box(&ours);
+        for (pair, tile) in to_release_on() {
+            let floor = black_box(&pair.ours);
+            let number = pair.theirs.counters.last + 1;
+            row!(
+                name,
+                &format!("release, {}", pair.name),
+                ceromby::plan::release(ours, floor, 64),
+                ceromby::book_anywhere(floor, tile, number)
+            );
+        }
+    }
+}
+
+/// A small floor and a large one, with tile 4 empty.
+fn to_release_on() -> Vec<(Pair, u32)> {
+    let floors = to_book_on().into_iter();
+    let empty = floors.filter(|(_, on)| *on == "empty tile");
+    let ends = |pair: &Pair| ["4 x 4 fresh", "8 x 8 full, near"].contains(&pair.name.as_str());
+    empty
+        .filter(|(pair, _)| ends(pair))
+        .map(|(pair, _)| (plans::aboard(pair), plans::TILE))
+        .collect()
+}
+
 /// How a round's cost grows: floor and canisters by row.
 fn growth() {
     for pair in growing() {
@@ -239,8 +299,11 @@ fn main() {
         timed_calls(&pair);
     }
     feeds();
+    planned();
     head("library ns", "book ns");
     anywhere();
     head("library ns", "singly ns");
     lists();
+    head("library ns", "anywhere ns");
+    releases();
 }

@@ -1,9 +1,11 @@
 //! Safe binding to the canister floor's static library. Every call refuses
 //! bad input by itself, so nothing is tested here.
 
+pub mod plan;
 mod throughput;
 mod types;
 
+pub use plan::{Entry, Offered, Plan, Planned, Released, Stage};
 pub use throughput::{feed, Fed, Throughput, Told};
 pub use types::{
     reason, Answer, Booking, Canister, Counters, Delivery, Floor, Layout, Name, Placed, Reading,
@@ -12,9 +14,10 @@ pub use types::{
 };
 
 mod raw {
+    use crate::plan::{Offered, Plan, Planned, Released};
     use crate::throughput::{Throughput, Told};
     use crate::types::{
-        Answer, Booking, Canister, Floor, Name, Placed, Reading, Rounded, Settings, Written,
+        Answer, Booking, Canister, Floor, Name, Placed, Reading, Report, Rounded, Settings, Written,
     };
 
     extern "C" {
@@ -33,6 +36,9 @@ mod raw {
         pub fn ceromby_write(floor: Floor, buffer: *mut u8, length: usize) -> Written;
         pub fn ceromby_page(floor: Floor, buffer: *mut u8, length: usize) -> Written;
         pub fn ceromby_feed(throughput: Throughput, count: u32) -> Told;
+        pub fn ceromby_plan_offer(plan: Plan) -> Offered;
+        pub fn ceromby_plan_release(plan: Plan, floor: Floor, label: u32) -> Released;
+        pub fn ceromby_plan_report(plan: Plan, report: Report) -> Planned;
     }
 }
 
@@ -159,10 +165,12 @@ fn paged(floor: &Floor, buffer: &mut [u8]) -> Written {
 }
 
 /// For the comparison runs: the answers of a write and of a page with the
-/// length that stands beside a refusal too, and that of a feed with the record
-/// of a refusal. Use [`write`], [`page`] and [`feed`] in their place.
+/// length that stands beside a refusal too, that of a feed with the record of a
+/// refusal, and that of an offer with its label. Use [`write`], [`page`],
+/// [`feed`] and [`plan::offer`] in their place.
 #[cfg(feature = "as-in-c")]
 pub mod as_in_c {
+    pub use crate::plan::offered as offer;
     pub use crate::throughput::told as feed;
     use crate::{Floor, Written};
 

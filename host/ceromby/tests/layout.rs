@@ -3,8 +3,9 @@
 use std::mem::{offset_of, size_of};
 
 use ceromby::{
-    Answer, Booking, Canister, Counters, Delivery, Floor, Layout, Name, Placed, Reading, Report,
-    Rounded, Settings, Side, Throughput, Tile, Told, Written,
+    Answer, Booking, Canister, Counters, Delivery, Entry, Floor, Layout, Name, Offered, Placed,
+    Plan, Planned, Reading, Released, Report, Rounded, Settings, Side, Throughput, Tile, Told,
+    Written,
 };
 
 macro_rules! layout {
@@ -42,6 +43,11 @@ fn as_in_c() {
         "written" Written { refusal, length }
         "throughput" Throughput { last, least, greatest, rounds, deliveries, closed }
         "fed" Told { throughput, rate, rounds, kind, refusal }
+        "entry" Entry { tile, number, label, first, second, stage }
+        "plan" Plan { entries, count }
+        "offered" Offered { label, refusal }
+        "planned" Planned { plan, refusal }
+        "released" Released { floor, plan, number, a, b, refusal }
     };
     assert_eq!(ours, include_str!("../../example/layout.txt"));
 }

@@ -5,33 +5,75 @@ use std::panic::{self, catch_unwind, AssertUnwindSafe};
 use std::sync::atomic::{AtomicBool, Ordering};
 
 use oracle::{
-    Answer, Booking, Canister, FeedAnswer, Floor, PlaceAnswer, Reading, Report, RoundAnswer,
-    Settings, Throughput, Tile, WriteAnswer,
+    Answer, Booking, Canister, FeedAnswer, Floor, OfferAnswer, PlaceAnswer, Plan, PlanAnswer,
+    Reading, ReleaseAnswer, Report, RoundAnswer, Settings, Throughput, Tile, WriteAnswer,
 };
 
 use crate::layouts::{self, Name};
-use crate::{book_lists, convert, page, places, reasons, throughput};
+use crate::{book_lists, convert, page, places, plans, reasons, throughput};
 
 #[derive(Clone, PartialEq, Debug)]
 pub enum Call {
-    Fresh { settings: Settings },
-    Book { tile: u32, canister: Canister },
-    Stop { tile: u32 },
-    Repair { tile: u32 },
+    Fresh {
+        settings: Settings,
+    },
+    Book {
+        tile: u32,
+        canister: Canister,
+    },
+    Stop {
+        tile: u32,
+    },
+    Repair {
+        tile: u32,
+    },
     Round,
-    Read { tile: u32 },
-    Write { size: usize },
-    Load { bytes: Vec<u8> },
-    Keep { name: Name },
-    Forget { name: Name },
-    Recall { name: Name },
-    BookAnywhere { tile: u32, number: u32 },
-    BookList { list: Vec<Booking> },
-    Feed { record: Throughput, count: u32 },
-    Page { size: usize },
+    Read {
+        tile: u32,
+    },
+    Write {
+        size: usize,
+    },
+    Load {
+        bytes: Vec<u8>,
+    },
+    Keep {
+        name: Name,
+    },
+    Forget {
+        name: Name,
+    },
+    Recall {
+        name: Name,
+    },
+    BookAnywhere {
+        tile: u32,
+        number: u32,
+    },
+    BookList {
+        list: Vec<Booking>,
+    },
+    Feed {
+        record: Throughput,
+        count: u32,
+    },
+    Page {
+        size: usize,
+    },
+    Offer {
+        plan: Box<Plan>,
+    },
+    Release {
+        plan: Box<Plan>,
+        label: u32,
+    },
+    Report {
+        plan: Box<Plan>,
+        report: Box<Report>,
+    },
 }
 
-pub const NAMES: [&str; 15] = [
+pub const NAMES: [&str; 18] = [
     "fresh",
     "book",
     "stop",
@@ -47,6 +89,9 @@ pub const NAMES: [&str; 15] = [
     "book list",
     "feed",
     "page",
+    "plan offer",
+    "plan release",
+    "plan report",
 ];
 
 pub const BOOK: usize = 1;
@@ -56,6 +101,9 @@ pub const KEEP: usize = 8;
 pub const FORGET: usize = 9;
 pub const RECALL: usize = 10;
 pub const BOOK_ANYWHERE: usize = 11;
+pub const OFFER: usize = 15;
+pub const RELEASE: usize = 16;
+pub const REPORT: usize = 17;
 
 impl Call {
     /// Its place among `NAMES`.
@@ -76,6 +124,9 @@ impl Call {
             Call::BookList { .. } => 12,
             Call::Feed { .. } => 13,
             Call::Page { .. } => 14,
+            Call::Offer { .. } => OFFER,
+            Call::Release { .. } => RELEASE,
+            Call::Report { .. } => REPORT,
         }
     }
 
@@ -91,6 +142,11 @@ impl Call {
             }
             _ => None,
         }
+    }
+
+    /// Whether it takes a plan, which may be 30 by itself.
+    pub fn takes_a_plan(&self) -> bool {
+        (OFFER..=REPORT).contains(&self.kind())
     }
 
     /// The tile that it names.
@@ -158,6 +214,9 @@ pub enum Outcome {
     Reading(Reading),
     Written(WriteAnswer, Vec<u8>),
     Fed(FeedAnswer),
+    Offered(OfferAnswer),
+    Released(Box<ReleaseAnswer>),
+    Planned(Box<PlanAnswer>),
 }
 
 impl Outcome {
@@ -169,6 +228,9 @@ impl Outcome {
             Outcome::Reading(answer) => answer.refusal,
             Outcome::Written(answer, _) => answer.refusal,
             Outcome::Fed(answer) => answer.fed.err().unwrap_or(0),
+            Outcome::Offered(answer) => answer.refusal,
+            Outcome::Released(answer) => answer.refusal,
+            Outcome::Planned(answer) => answer.refusal,
         }
     }
 
@@ -218,6 +280,7 @@ impl Outcome {
             (Outcome::Answer(answer) | Outcome::Listed(answer, _), _) => answer.floor,
             (Outcome::Placed(answer), _) => answer.floor,
             (Outcome::Round(answer), _) => answer.floor,
+            (Outcome::Released(answer), _) => answer.floor,
             _ => *before,
         }
     }
@@ -305,6 +368,13 @@ fn by_library(floor: &Floor, call: &Call) -> Outcome {
             let answer = page::by_library(&theirs(), &mut buffer, &mut other);
             return Outcome::Written(convert::from_written(&answer), buffer);
         }
+        Call::Offer { plan } => return Outcome::Offered(plans::offer(plan)),
+        Call::Release { plan, label } => {
+            return Outcome::Released(plans::release(plan, floor, *label).into());
+        }
+        Call::Report { plan, report } => {
+            return Outcome::Planned(plans::report(plan, report).into());
+        }
     };
     Outcome::Answer(convert::from_answer(&answer))
 }
@@ -339,6 +409,13 @@ fn by_oracle(floor: &Floor, call: &Call) -> Outcome {
             let mut buffer = blank(*size);
             let answer = oracle::page(floor, &mut buffer);
             return Outcome::Written(answer, buffer);
+        }
+        Call::Offer { plan } => return Outcome::Offered(oracle::offer(plan)),
+        Call::Release { plan, label } => {
+            return Outcome::Released(oracle::release(plan, floor, *label).into());
+        }
+        Call::Report { plan, report } => {
+            return Outcome::Planned(oracle::report(plan, report).into());
         }
     })
 }
@@ -424,6 +501,7 @@ pub fn both(floor: &Floor, call: &Call) -> Result<Outcome, Trouble> {
         (Outcome::Written(answer, buffer), Call::Page { .. }) => {
             page::check(floor, answer, buffer)?;
         }
+        _ if call.takes_a_plan() => plans::check(floor, call, &library)?,
         _ => layouts::check(floor, call, &library)?,
     }
     Ok(library)
@@ -449,7 +527,13 @@ fn keeps_all(floor: &Floor, call: &Call, outcome: &Outcome) -> bool {
             answer.length == 0 && *buffer == blank(buffer.len())
         }
         (Outcome::Fed(answer), Call::Feed { record, .. }) => answer.throughput == *record,
-        (Outcome::Fed(_), _) => false,
+        (Outcome::Offered(answer), _) => answer.label == 0,
+        (Outcome::Released(answer), Call::Release { plan, .. }) => {
+            let told = (answer.number, answer.a, answer.b);
+            answer.floor == *floor && answer.plan == **plan && told == (0, 0, 0)
+        }
+        (Outcome::Planned(answer), Call::Report { plan, .. }) => answer.plan == **plan,
+        (Outcome::Fed(_) | Outcome::Released(_) | Outcome::Planned(_), _) => false,
     }
 }
 
@@ -508,6 +592,16 @@ fn describe(library: &Outcome, oracle: &Outcome) -> String {
             let bits = |answer: &FeedAnswer| answer.throughput.rate_bits();
             fields.each("bits of rate", &bits(one), &bits(other));
         }
+        (Outcome::Offered(one), Outcome::Offered(other)) => {
+            fields.note("label", &one.label, &other.label);
+        }
+        (Outcome::Released(one), Outcome::Released(other)) => {
+            fields.note("number", &one.number, &other.number);
+            fields.note("place told", &(one.a, one.b), &(other.a, other.b));
+            fields.plan(&one.plan, &other.plan);
+            fields.floor(&one.floor, &other.floor);
+        }
+        (Outcome::Planned(one), Outcome::Planned(other)) => fields.plan(&one.plan, &other.plan),
         _ => {}
     }
     let more = fields.0.len().saturating_sub(4);
@@ -534,6 +628,11 @@ impl Fields {
                 self.note(&format!("{name} {at}"), one, other);
             }
         }
+    }
+
+    fn plan(&mut self, one: &Plan, other: &Plan) {
+        self.note("entries claimed", &one.count, &other.count);
+        self.each("entry", &one.entries, &other.entries);
     }
 
     fn floor(&mut self, one: &Floor, other: &Floor) {

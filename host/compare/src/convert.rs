@@ -1,8 +1,8 @@
 //! Between the binding's structs and the oracle's.
 
 use oracle::{
-    Answer, Booking, Canister, Counters, Delivery, Floor, Layout, PlaceAnswer, Reading, Report,
-    RoundAnswer, Settings, Tile, WriteAnswer,
+    Answer, Booking, Canister, Counters, Delivery, Entry, Floor, Layout, PlaceAnswer, Plan,
+    PlanAnswer, Reading, ReleaseAnswer, Report, RoundAnswer, Settings, Tile, WriteAnswer,
 };
 
 pub fn to_settings(from: &Settings) -> ceromby::Settings {
@@ -165,5 +165,63 @@ pub fn from_written(from: &ceromby::Written) -> WriteAnswer {
     WriteAnswer {
         refusal: from.refusal,
         length: from.length,
+    }
+}
+
+pub fn to_report(from: &Report) -> ceromby::Report {
+    ceromby::Report {
+        grants: from.grants,
+        reasons: from.reasons,
+        missing: from.missing,
+        deliveries: from.deliveries.map(|delivery| ceromby::Delivery {
+            numbers: delivery.numbers,
+            count: delivery.count,
+        }),
+    }
+}
+
+pub fn to_plan(from: &Plan) -> ceromby::Plan {
+    ceromby::Plan {
+        entries: from.entries.map(|entry| ceromby::Entry {
+            tile: entry.tile,
+            number: entry.number,
+            label: entry.label,
+            first: entry.first,
+            second: entry.second,
+            stage: entry.stage,
+        }),
+        count: from.count,
+    }
+}
+
+fn from_plan(from: &ceromby::Plan) -> Plan {
+    Plan {
+        entries: from.entries.map(|entry| Entry {
+            tile: entry.tile,
+            number: entry.number,
+            label: entry.label,
+            first: entry.first,
+            second: entry.second,
+            stage: entry.stage,
+        }),
+        count: from.count,
+    }
+}
+
+pub fn from_planned(from: &ceromby::Planned) -> PlanAnswer {
+    PlanAnswer {
+        refusal: from.refusal,
+        plan: from_plan(&from.plan),
+    }
+}
+
+pub fn from_released(from: &ceromby::Released) -> ReleaseAnswer {
+    ReleaseAnswer {
+        refusal: from.refusal,
+        floor: from_floor(&from.floor),
+        plan: from_plan(&from.plan),
+        number: from.number,
+        a: from.a,
+        b: from.b,
     }
 }

@@ -5,14 +5,14 @@ use std::process::ExitCode;
 use oracle::faults::{switch, Fault};
 
 use crate::tally::Tally;
-use crate::{run as compare, show, shrink, Plan};
+use crate::{run as compare, show, shrink, Extent};
 
-fn run_all(plan: Plan, faults: &[Fault]) -> Vec<Fault> {
+fn run_all(extent: Extent, faults: &[Fault]) -> Vec<Fault> {
     let mut unseen = Vec::new();
     for fault in faults {
         switch(Some(*fault));
         let mut tally = Tally::new();
-        match compare(plan, &mut tally) {
+        match compare(extent, &mut tally) {
             Ok(()) => {
                 println!("{}: NOT FOUND ({})", fault.name(), fault.text());
                 unseen.push(*fault);
@@ -38,10 +38,10 @@ fn run_all(plan: Plan, faults: &[Fault]) -> Vec<Fault> {
 }
 
 /// All faults, or the one named.
-pub fn run(plan: Plan, name: Option<&str>) -> ExitCode {
+pub fn run(extent: Extent, name: Option<&str>) -> ExitCode {
     let named = |fault: &Fault| name.is_none_or(|name| name == fault.name());
     let faults: Vec<Fault> = Fault::ALL.iter().copied().filter(named).collect();
-    let unseen = run_all(plan, &faults);
+    let unseen = run_all(extent, &faults);
     println!("{} faults, {} not found", faults.len(), unseen.len());
     match unseen.is_empty() && !faults.is_empty() {
         true => ExitCode::SUCCESS,

@@ -17,6 +17,7 @@ mod layouts;
 mod makers;
 mod page;
 mod places;
+mod plans;
 mod program;
 mod promise;
 mod reasons;
@@ -39,7 +40,7 @@ const USAGE: &str =
     "compare [--seed N] [--calls N] [--images N] [--faults | --fault NAME | --page]";
 
 #[derive(Clone, Copy)]
-struct Plan {
+struct Extent {
     seed: u64,
     calls: u64,
     images: u64,
@@ -53,18 +54,18 @@ struct Found {
 
 /// The four kinds, then the runs for single requests, which have random
 /// numbers and counts of their own.
-fn run(plan: Plan, tally: &mut Tally) -> Result<(), Found> {
-    cycles(plan, tally)?;
+fn run(extent: Extent, tally: &mut Tally) -> Result<(), Found> {
+    cycles(extent, tally)?;
     let mut further = Tally::new();
-    let made = requests(plan, &mut further);
+    let made = requests(extent, &mut further);
     tally.add(further);
     made
 }
 
 /// One of each for five hundred calls.
-fn requests(plan: Plan, tally: &mut Tally) -> Result<(), Found> {
-    for at in 0..plan.calls / 500 {
-        let mut rng = Rng::new(Rng::new(!plan.seed ^ at << 20).draw());
+fn requests(extent: Extent, tally: &mut Tally) -> Result<(), Found> {
+    for at in 0..extent.calls / 500 {
+        let mut rng = Rng::new(Rng::new(!extent.seed ^ at << 20).draw());
         let found = |kind| move |failure| Found { kind, failure };
         single::exchange_once(&mut rng, tally).map_err(found("calls in either order"))?;
         single::exchange_in_list(&mut rng, tally).map_err(found("a list in either order"))?;
@@ -75,6 +76,10 @@ fn requests(plan: Plan, tally: &mut Tally) -> Result<(), Found> {
         single::blank(&mut rng, tally).map_err(found("a blank controller"))?;
         single::places(&mut rng, tally).map_err(found("bookings"))?;
         single::book_lists(&mut rng, tally).map_err(found("lists of bookings"))?;
+        if at % 10 == 0 {
+            let mut own = Rng::new(Rng::new(!extent.seed ^ at << 20 ^ 12).draw());
+            single::whole_plan(&mut own, tally).map_err(found("a whole plan"))?;
+        }
         if at % 100 == 0 {
             single::throughput(&mut rng, tally).map_err(found("the throughput of a floor"))?;
         }
@@ -83,14 +88,14 @@ fn requests(plan: Plan, tally: &mut Tally) -> Result<(), Found> {
 }
 
 /// Cycles of all four kinds until both numbers are reached.
-fn cycles(plan: Plan, tally: &mut Tally) -> Result<(), Found> {
+fn cycles(extent: Extent, tally: &mut Tally) -> Result<(), Found> {
     for cycle in 0.. {
-        let more_calls = tally.calls < plan.calls;
-        let more_images = tally.damaged_images < plan.images;
+        let more_calls = tally.calls < extent.calls;
+        let more_images = tally.damaged_images < extent.images;
         if !more_calls && !more_images {
             break;
         }
-        let mut rng = Rng::new(Rng::new(plan.seed ^ cycle << 20).draw());
+        let mut rng = Rng::new(Rng::new(extent.seed ^ cycle << 20).draw());
         let found = |kind| move |failure| Found { kind, failure };
         if more_calls {
             for _ in 0..12 {
@@ -100,10 +105,12 @@ fn cycles(plan: Plan, tally: &mut Tally) -> Result<(), Found> {
                 runs::damaged(&mut rng, tally).map_err(found("a damaged floor"))?;
             }
             runs::list(&mut rng, tally).map_err(found("a list"))?;
-            let mut own = Rng::new(Rng::new(plan.seed ^ cycle << 20 ^ 2).draw());
+            let mut own = Rng::new(Rng::new(extent.seed ^ cycle << 20 ^ 2).draw());
             single::feeds(&mut own, tally).map_err(found("a throughput record"))?;
-            let mut own = Rng::new(Rng::new(plan.seed ^ cycle << 20 ^ 7).draw());
+            let mut own = Rng::new(Rng::new(extent.seed ^ cycle << 20 ^ 7).draw());
             single::pages(&mut own, tally).map_err(found("a page"))?;
+            let mut own = Rng::new(Rng::new(extent.seed ^ cycle << 20 ^ 12).draw());
+            single::plans(&mut own, tally).map_err(found("a plan"))?;
         }
         if more_images {
             for _ in 0..8 {
@@ -117,14 +124,14 @@ fn cycles(plan: Plan, tally: &mut Tally) -> Result<(), Found> {
     Ok(())
 }
 
-fn ordinary(plan: Plan) -> ExitCode {
+fn ordinary(extent: Extent) -> ExitCode {
     let start = Instant::now();
     let mut tally = Tally::new();
-    if let Err(found) = run(plan, &mut tally) {
+    if let Err(found) = run(extent, &mut tally) {
         let trouble = &found.failure.trouble;
         println!(
             "trouble with {} in {} after {} calls and {} images, seed {}",
-            trouble.at, found.kind, tally.calls, tally.damaged_images, plan.seed
+            trouble.at, found.kind, tally.calls, tally.damaged_images, extent.seed
         );
         println!("{}", trouble.text);
         let (case, trouble) = shrink::shrink(&found.failure);
@@ -145,7 +152,7 @@ fn ordinary(plan: Plan) -> ExitCode {
     };
     println!(
         "no difference{rest}; seed {}, {:.1} s",
-        plan.seed,
+        extent.seed,
         start.elapsed().as_secs_f64()
     );
     match missing.is_empty() {
@@ -155,12 +162,12 @@ fn ordinary(plan: Plan) -> ExitCode {
 }
 
 #[cfg(feature = "faults")]
-fn with_faults(plan: Plan, name: Option<&str>) -> ExitCode {
-    faults::run(plan, name)
+fn with_faults(extent: Extent, name: Option<&str>) -> ExitCode {
+    faults::run(extent, name)
 }
 
 #[cfg(not(feature = "faults"))]
-fn with_faults(_: Plan, _: Option<&str>) -> ExitCode {
+fn with_faults(_: Extent, _: Option<&str>) -> ExitCode {
     eprintln!("--faults needs a build with --features faults");
     ExitCode::from(2)
 }
@@ -175,8 +182,8 @@ enum Mode {
 }
 
 /// What the command's words ask for. None if they can't be read.
-fn asked() -> Option<(Plan, Mode)> {
-    let mut plan = Plan {
+fn asked() -> Option<(Extent, Mode)> {
+    let mut extent = Extent {
         seed: 1,
         calls: 1_500_000,
         images: 150_000,
@@ -185,9 +192,9 @@ fn asked() -> Option<(Plan, Mode)> {
     let mut words = std::env::args().skip(1);
     while let Some(word) = words.next() {
         let field = match word.as_str() {
-            "--seed" => &mut plan.seed,
-            "--calls" => &mut plan.calls,
-            "--images" => &mut plan.images,
+            "--seed" => &mut extent.seed,
+            "--calls" => &mut extent.calls,
+            "--images" => &mut extent.images,
             "--faults" => {
                 mode = Mode::Faults(None);
                 continue;
@@ -204,18 +211,18 @@ fn asked() -> Option<(Plan, Mode)> {
         };
         *field = words.next()?.parse().ok()?;
     }
-    Some((plan, mode))
+    Some((extent, mode))
 }
 
 fn main() -> ExitCode {
-    let Some((plan, mode)) = asked() else {
+    let Some((extent, mode)) = asked() else {
         eprintln!("{USAGE}");
         return ExitCode::from(2);
     };
     call::hush_the_oracle();
     match mode {
-        Mode::Ordinary => ordinary(plan),
-        Mode::Faults(name) => with_faults(plan, name.as_deref()),
-        Mode::Page => program::run(plan),
+        Mode::Ordinary => ordinary(extent),
+        Mode::Faults(name) => with_faults(extent, name.as_deref()),
+        Mode::Page => program::run(extent),
     }
 }

@@ -9,7 +9,7 @@ use std::process::{Command, ExitCode, Stdio};
 use oracle::random::{self, Rng};
 use oracle::{Floor, LONGEST_PAGE, STANDARD};
 
-use crate::{blank, call::Call, images, makers, Plan};
+use crate::{blank, call::Call, images, makers, Extent};
 
 /// The environment variable that names the program.
 const NAME: &str = "CEROMBY_PAGE";
@@ -317,7 +317,7 @@ fn any_image(rng: &mut Rng) -> Vec<u8> {
     bytes
 }
 
-fn all(runner: &mut Runner, plan: Plan) -> Result<(), String> {
+fn all(runner: &mut Runner, extent: Extent) -> Result<(), String> {
     if good_records(74).len() != GOOD || MATTERS != 74_591 {
         return Err(format!("{GOOD} bytes before, {MATTERS} that matter"));
     }
@@ -325,9 +325,9 @@ fn all(runner: &mut Runner, plan: Plan) -> Result<(), String> {
         runner.check(&bytes, due.as_bytes())?;
         runner.check(&bytes, &self::due(&bytes))?;
     }
-    let mut rng = Rng::new(Rng::new(plan.seed ^ 77).draw());
+    let mut rng = Rng::new(Rng::new(extent.seed ^ 77).draw());
     let mut inputs = edges();
-    inputs.extend((0..plan.images / 100).map(|_| any_image(&mut rng)));
+    inputs.extend((0..extent.images / 100).map(|_| any_image(&mut rng)));
     for bytes in inputs {
         let due = due(&bytes);
         if due != self::due(&bytes[..bytes.len().min(MATTERS)]) {
@@ -347,7 +347,7 @@ fn all(runner: &mut Runner, plan: Plan) -> Result<(), String> {
 }
 
 /// Runs the program that `CEROMBY_PAGE` names. It fails without one.
-pub fn run(plan: Plan) -> ExitCode {
+pub fn run(extent: Extent) -> ExitCode {
     let Some(program) = std::env::var_os(NAME) else {
         eprintln!("--page needs the program's path in {NAME}");
         return ExitCode::from(2);
@@ -356,11 +356,11 @@ pub fn run(plan: Plan) -> ExitCode {
     let mut runner = Runner {
         program: Path::new(&program).to_path_buf(),
         file: std::env::temp_dir().join(file),
-        rng: Rng::new(plan.seed),
+        rng: Rng::new(extent.seed),
         met: Met::default(),
         made: 0,
     };
-    let made = all(&mut runner, plan);
+    let made = all(&mut runner, extent);
     // There may be none yet.
     let _ = fs::remove_file(&runner.file);
     if let Err(text) = made {
@@ -375,7 +375,7 @@ pub fn run(plan: Plan) -> ExitCode {
     };
     println!(
         "page program: no difference{rest}; seed {}, {} inputs",
-        plan.seed, runner.made
+        extent.seed, runner.made
     );
     match met {
         true => ExitCode::SUCCESS,

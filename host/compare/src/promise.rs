@@ -42,6 +42,14 @@ fn bookings(call: &Call, outcome: &Outcome) -> Vec<(u32, u32, bool)> {
     match (call, outcome) {
         (Call::Book { tile, canister }, _) => vec![(*tile, canister.number, false)],
         (Call::BookAnywhere { tile, number }, _) => vec![(*tile, *number, true)],
+        (Call::Release { plan, label }, Outcome::Released(answer)) => {
+            let named = |entry: &&oracle::Entry| u32::from(entry.label) == *label;
+            let entry = plan.entries.iter().find(named);
+            entry
+                .map(|entry| (entry.tile, answer.number, true))
+                .into_iter()
+                .collect()
+        }
         (_, Outcome::Listed(_, list)) => {
             let accepted = list.iter().filter(|entry| entry.answer == 0);
             accepted

@@ -98,7 +98,8 @@ impl<'a> Run<'a> {
             return Ok(());
         }
         // Before the first accepted fresh floor there is none.
-        if outcome.answers().any(|answer| answer == 30) && self.floor != Floor::ZERO {
+        let malformed = !call.takes_a_plan() && outcome.answers().any(|answer| answer == 30);
+        if malformed && self.floor != Floor::ZERO {
             let text = format!("{} finds the floor of a list malformed", call.name());
             return Err(Trouble::promise("well formed", text));
         }

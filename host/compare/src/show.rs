@@ -7,7 +7,7 @@ use oracle::{Booking, Canister, Floor, Layout, Settings, Tile};
 use crate::call::Call;
 use crate::layouts::Name;
 use crate::runs::Case;
-use crate::throughput;
+use crate::{plans, throughput};
 
 fn settings(s: &Settings) -> String {
     format!(
@@ -134,6 +134,7 @@ fn call(call: &Call) -> String {
         }
         Call::Feed { record, count } => throughput::show(record, *count),
         Call::Page { size } => format!("page to {size} bytes"),
+        Call::Offer { .. } | Call::Release { .. } | Call::Report { .. } => plans::show(call),
     }
 }
 
@@ -155,6 +156,7 @@ pub fn size(case: &Case) -> String {
         Some(Call::Load { bytes }) => format!("{} bytes", bytes.len()),
         Some(Call::Fresh { settings: s }) => settings(s),
         Some(Call::Feed { record, count }) => throughput::show(record, *count),
+        Some(call) if plans::size(call).is_some() => plans::size(call).unwrap_or_default(),
         last => {
             let list = match last {
                 Some(Call::BookList { list }) => format!(", a list of {}", list.len()),

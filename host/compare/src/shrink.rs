@@ -9,6 +9,7 @@ use crate::call::{Call, Trouble};
 use crate::images::{self, Line};
 use crate::makers;
 use crate::page;
+use crate::plans;
 use crate::runs::{before_last, replay, Case, Failure};
 use crate::throughput;
 
@@ -351,6 +352,13 @@ fn rename_tiles(calls: &mut [Call], tiles: usize, kept: impl Fn(u8) -> Option<u8
                 entry.tile = kept(entry.tile as u8)?.into();
             }
         }
+        if let Call::Release { plan, .. } = call {
+            for entry in &mut plan.entries {
+                if (entry.tile as usize) < tiles {
+                    entry.tile = kept(entry.tile as u8).map_or(u32::MAX, u32::from);
+                }
+            }
+        }
         if let Call::Book { tile, .. }
         | Call::BookAnywhere { tile, .. }
         | Call::Stop { tile }
@@ -421,7 +429,7 @@ fn smaller_calls(floor: &Floor, call: &Call) -> Vec<Call> {
             .map(|settings| Call::Fresh { settings })
             .into(),
         Call::Feed { record, count } => throughput::smaller(record, *count),
-        _ => Vec::new(),
+        _ => plans::smaller(call),
     }
 }
 

@@ -4,13 +4,14 @@ use std::fmt::Display;
 
 use oracle::{Floor, Grid, RoundAnswer, Side};
 
-use crate::call::{Call, Outcome, NAMES};
+use crate::call::{Call, Outcome, NAMES, OFFER, REPORT};
 use crate::{
-    arrows, blank, book_lists, exchange, hoppers, layouts, page, places, reasons, throughput, waits,
+    arrows, blank, book_lists, exchange, hoppers, layouts, page, places, plans, reasons,
+    throughput, waits,
 };
 
 /// The answers that each call can give, in the order of `NAMES`.
-const ANSWERS: [&[u8]; 15] = [
+const ANSWERS: [&[u8]; 18] = [
     &[0, 1, 2, 3],
     &[0, 30, 4, 5, 6, 7, 31, 33, 34],
     &[0, 30, 4, 8, 31],
@@ -26,6 +27,9 @@ const ANSWERS: [&[u8]; 15] = [
     &[0, 42],
     &[0, 30, 41],
     &[0, 30, 43],
+    &[0, 30, 47],
+    &[0, 30, 47, 48, 4, 5, 31, 33, 40],
+    &[0, 30, 47],
 ];
 
 #[derive(Default)]
@@ -47,6 +51,7 @@ pub struct Tally {
     book_lists: book_lists::Counts,
     pub throughput: throughput::Counts,
     page: page::Counts,
+    pub plans: plans::Counts,
     pub settled: u64,
     /// Arrows kept and lists held to the bound in the runs for single requests.
     tied: [u64; 2],
@@ -72,6 +77,7 @@ impl Tally {
 
     /// Takes over what the runs for single requests met.
     pub fn add(&mut self, further: Tally) {
+        self.take_plans(&further);
         self.exchanges = further.exchanges;
         self.waits.add(&further.waits);
         self.hoppers.add(&further.hoppers);
@@ -87,6 +93,16 @@ impl Tally {
         self.further = further.calls;
     }
 
+    /// Takes over what a run met of plans, and no more.
+    pub fn take_plans(&mut self, own: &Tally) {
+        self.plans.add(&own.plans);
+        for kind in OFFER..=REPORT {
+            for (count, more) in self.answers[kind].iter_mut().zip(own.answers[kind]) {
+                *count += more;
+            }
+        }
+    }
+
     pub fn note(&mut self, before: &Floor, call: &Call, outcome: &Outcome) {
         self.answers[call.kind()][usize::from(outcome.refusal())] += 1;
         if let Call::Load { bytes } = call {
@@ -99,6 +115,9 @@ impl Tally {
         }
         if let Call::Page { size } = call {
             self.page.note(before, *size, outcome.refusal());
+        }
+        if call.takes_a_plan() {
+            self.plans.note(before, call, outcome);
         }
         self.layouts.note(before, call, outcome.refusal());
         if let (Call::BookAnywhere { tile, number }, Outcome::Placed(answer)) = (call, outcome) {
@@ -175,6 +194,7 @@ impl Tally {
             self.book_lists.lines(),
             self.throughput.lines(),
             self.page.lines(),
+            self.plans.lines(),
         ];
         for (name, cells) in lines.into_iter().flatten() {
             print_line(&name, cells, &mut missing);

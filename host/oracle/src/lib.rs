@@ -17,6 +17,7 @@ mod image;
 mod layouts;
 mod list;
 mod page;
+mod plan;
 pub mod random;
 pub mod reason;
 pub mod refusal;
@@ -32,6 +33,10 @@ pub use image::{load, write, LONGEST_IMAGE, STANDARD};
 pub use layouts::{forget, keep, name, recall};
 pub use list::{book_list, LONGEST_LIST};
 pub use page::{page, LONGEST_PAGE};
+pub use plan::{
+    offer, release, report, Entry, OfferAnswer, Plan, PlanAnswer, ReleaseAnswer, Stage, BOOKED,
+    DELIVERED, MAX_ENTRIES, MAX_LABEL, WAITING,
+};
 pub use round::round;
 pub use throughput::{deliveries_of, feed, Fed, FeedAnswer, Throughput, WINDOW};
 pub use types::{

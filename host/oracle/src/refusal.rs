@@ -33,3 +33,6 @@ pub const SHORT_PAGE: u8 = 43;
 pub const BAD_NAME: u8 = 44;
 pub const NAME_NOT_HELD: u8 = 45;
 pub const LAYOUTS_FULL: u8 = 46;
+
+pub const BAD_LABEL: u8 = 47;
+pub const NOT_RELEASED: u8 = 48;

@@ -3,11 +3,12 @@
 use oracle::random::{self, Rng};
 use oracle::Floor;
 
-use super::{arbitrary_floor, begin, damaged_floor, finish, list_settings, Failure};
-use crate::call::{Call, Outcome};
+use super::{arbitrary_floor, begin, damaged_floor, finish, list_settings, Failure, Run};
+use crate::call::{Call, Outcome, Trouble};
+use crate::plans::Follow;
 use crate::tally::Tally;
-use crate::throughput::{self, Follow};
-use crate::{arrows, blank, book_lists, exchange, layouts, makers, page, places};
+use crate::throughput::{self, Follow as Feeds};
+use crate::{arrows, blank, book_lists, exchange, layouts, makers, page, places, plans};
 
 /// Every pair in either order, on a well-formed floor and on a damaged one.
 pub fn exchange_once(rng: &mut Rng, tally: &mut Tally) -> Result<(), Box<Failure>> {
@@ -244,6 +245,121 @@ pub fn pages(rng: &mut Rng, tally: &mut Tally) -> Result<(), Box<Failure>> {
     Ok(())
 }
 
+/// Any plans, each with an offer, a report and releases on an arbitrary floor,
+/// on one without a number left and on a damaged one.
+pub fn plans(rng: &mut Rng, tally: &mut Tally) -> Result<(), Box<Failure>> {
+    let mut own = Tally::new();
+    for at in 0..4 {
+        let (first, must) = match at {
+            0 => (arbitrary_floor(rng), None),
+            1 => (oracle::fresh(list_settings(rng)).floor, None),
+            2 => {
+                let floor = arbitrary_floor(rng);
+                (plans::last_number_used(rng, floor), None)
+            }
+            _ => {
+                let (floor, known) = damaged_floor(rng, &mut Tally::new());
+                (floor, known.then_some(30))
+            }
+        };
+        finish(begin(first, at < 3, must), &mut own, |run| {
+            for _ in 0..4 {
+                plan_calls(rng, run, at < 3)?;
+            }
+            run.check()
+        })?;
+    }
+    tally.take_plans(&own);
+    Ok(())
+}
+
+/// One plan from call to call. On a damaged floor it is released alone.
+fn plan_calls(rng: &mut Rng, run: &mut Run, sound: bool) -> Result<(), Trouble> {
+    let floor = run.floor;
+    let mut plan = Box::new(plans::any_plan(rng, &floor));
+    let label = plans::any_label(rng, &plan);
+    let release = Call::Release {
+        plan: plan.clone(),
+        label,
+    };
+    let released = run.make(release)?;
+    if !sound {
+        return Ok(());
+    }
+    run.make(Call::Offer { plan: plan.clone() })?;
+    if let Outcome::Released(answer) = released {
+        plan = answer.plan.into();
+    }
+    for _ in 0..2 {
+        let report = plans::any_report(rng, &plan).into();
+        let call = Call::Report {
+            plan: plan.clone(),
+            report,
+        };
+        if let Outcome::Planned(answer) = run.make(call)? {
+            plan = answer.plan.into();
+        }
+    }
+    run.make(Call::Offer { plan }).map(drop)
+}
+
+/// A plan of which all entries wait, offered, released and reported round after
+/// round until all are delivered, with other calls between them.
+pub fn whole_plan(rng: &mut Rng, tally: &mut Tally) -> Result<(), Box<Failure>> {
+    let mut settings = list_settings(rng);
+    while settings.sources == 0 || rng.chance(2, 3) && settings.tile_count() > 9 {
+        settings = list_settings(rng);
+    }
+    let first = match rng.chance(1, 3) {
+        true => random::floor_with(rng, settings),
+        false => oracle::fresh(settings).floor,
+    };
+    let most = rng.pick(&[4, 8, 16, 64]);
+    let mut follow = Follow::of(plans::new_plan(rng, &first, most));
+    let mut own = Tally::new();
+    finish(begin(first, true, None), &mut own, |run| {
+        for _ in 0..400 {
+            if follow.ended() {
+                break;
+            }
+            let floor = run.floor;
+            let plan = Box::new(follow.plan);
+            let call = match rng.below(16) {
+                0 | 1 => makers::call(rng, &floor),
+                2 => Call::Release {
+                    label: plans::any_label(rng, &plan),
+                    plan,
+                },
+                3..=7 => Call::Offer { plan },
+                _ => Call::Round,
+            };
+            let mut outcome = run.make(call.clone())?;
+            follow
+                .note(&call, &outcome)
+                .inspect_err(|_| run.last_alone())?;
+            let next = match &outcome {
+                Outcome::Offered(answer) if answer.label != 0 => Call::Release {
+                    plan: follow.plan.into(),
+                    label: answer.label.into(),
+                },
+                Outcome::Round(answer) => Call::Report {
+                    plan: follow.plan.into(),
+                    report: answer.report.into(),
+                },
+                _ => continue,
+            };
+            outcome = run.make(next.clone())?;
+            follow
+                .note(&next, &outcome)
+                .inspect_err(|_| run.last_alone())?;
+        }
+        run.check()
+    })?;
+    follow.tell(&mut own.plans);
+    tally.take_plans(&own);
+    Ok(())
+}
+
 /// A floor of which each hopper has a record, over thousands of rounds. Its
 /// calls are counted apart.
 pub fn throughput(rng: &mut Rng, tally: &mut Tally) -> Result<(), Box<Failure>> {
@@ -253,7 +369,7 @@ pub fn throughput(rng: &mut Rng, tally: &mut Tally) -> Result<(), Box<Failure>> 
         1 => oracle::fresh(settings).floor,
         _ => random::floor_with(rng, settings),
     };
-    let mut follow = Follow::of(&first);
+    let mut follow = Feeds::of(&first);
     let mut own = Tally::new();
     finish(begin(first, true, None), &mut own, |run| {
         for at in 0..rng.range(2_000, 4_000) {

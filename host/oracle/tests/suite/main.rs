@@ -16,6 +16,7 @@ mod layouts;
 mod lists;
 mod naive;
 mod page;
+mod plans;
 mod reasons;
 mod refusals;
 mod rounds;

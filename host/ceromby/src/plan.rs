@@ -1,0 +1,153 @@
+//! Plans: what is to be fed in which order.
+
+use crate::raw;
+use crate::types::{Floor, Report};
+
+/// Most entries of a plan.
+pub const MAX_ENTRIES: usize = 64;
+/// The highest label; the lowest is 1.
+pub const MAX_LABEL: u8 = 64;
+
+/// An entry of a plan. Any bytes may stand here.
+#[repr(C)]
+#[derive(Clone, Copy, PartialEq, Eq, Debug, Default)]
+pub struct Entry {
+    /// A fill tile; looked at in a release alone.
+    pub tile: u32,
+    /// What it is booked under; a delivered entry keeps it.
+    pub number: u32,
+    /// 1 to 64, each once in a plan.
+    pub label: u8,
+    /// Lower labels of the plan that must be delivered earlier, 0 for none.
+    pub first: u8,
+    pub second: u8,
+    /// 0 waits, 2 delivered, any other byte booked; [`Entry::stage`] tells.
+    pub stage: u8,
+}
+
+/// Where an entry stands.
+#[derive(Clone, Copy, PartialEq, Eq, Debug)]
+pub enum Stage {
+    Waiting,
+    /// Under this number.
+    Booked(u32),
+    Delivered,
+}
+
+impl Entry {
+    /// An entry that waits. A predecessor 0 is none.
+    pub const fn waiting(label: u8, tile: u32, first: u8, second: u8) -> Entry {
+        Entry {
+            tile,
+            number: 0,
+            label,
+            first,
+            second,
+            stage: 0,
+        }
+    }
+
+    pub const fn stage(&self) -> Stage {
+        match self.stage {
+            0 => Stage::Waiting,
+            2 => Stage::Delivered,
+            _ => Stage::Booked(self.number),
+        }
+    }
+}
+
+/// Entries from the count on are ignored and handed back. A plan that isn't
+/// sound is refused by 30.
+#[repr(C)]
+#[derive(Clone, Copy, PartialEq, Eq, Debug)]
+pub struct Plan {
+    pub entries: [Entry; MAX_ENTRIES],
+    pub count: u32,
+}
+
+impl Plan {
+    /// A plan of these entries. With more than 64 it claims so many, and is
+    /// refused by 30.
+    pub fn of(entries: &[Entry]) -> Plan {
+        let mut plan = Plan {
+            entries: [Entry::default(); MAX_ENTRIES],
+            count: u32::try_from(entries.len()).unwrap_or(u32::MAX),
+        };
+        for (place, entry) in plan.entries.iter_mut().zip(entries) {
+            *place = *entry;
+        }
+        plan
+    }
+
+    /// The entries that count.
+    pub fn used(&self) -> &[Entry] {
+        let count = usize::try_from(self.count).unwrap_or(MAX_ENTRIES);
+        &self.entries[..count.min(MAX_ENTRIES)]
+    }
+}
+
+/// The answer of an offer as C gets it.
+#[repr(C)]
+#[derive(Clone, Copy, PartialEq, Eq, Debug)]
+pub struct Offered {
+    /// 0 where none is offered, and beside a refusal.
+    pub label: u8,
+    pub refusal: u8,
+}
+
+#[repr(C)]
+#[derive(Clone, Copy, PartialEq, Eq, Debug)]
+pub struct Planned {
+    pub plan: Plan,
+    /// 0 for accepted.
+    pub refusal: u8,
+}
+
+#[repr(C)]
+#[derive(Clone, Copy, PartialEq, Eq, Debug)]
+pub struct Released {
+    pub floor: Floor,
+    pub plan: Plan,
+    /// What was booked. Beside a refusal 0, at the place (0, 0).
+    pub number: u32,
+    pub a: u16,
+    pub b: u16,
+    /// 0 for accepted.
+    pub refusal: u8,
+}
+
+impl Released {
+    /// The place (a, b) that the canister took, if it was accepted.
+    pub fn place(&self) -> Option<(u16, u16)> {
+        (self.refusal == 0).then_some((self.a, self.b))
+    }
+}
+
+/// The lowest label that waits and whose predecessors are all delivered, if
+/// there is one, or the number of the refusal.
+pub fn offer(plan: &Plan) -> Result<Option<u8>, u8> {
+    match offered(plan) {
+        Offered { refusal: 0, label } => Ok((label != 0).then_some(label)),
+        Offered { refusal, .. } => Err(refusal),
+    }
+}
+
+/// The answer of an offer as C gets it.
+pub fn offered(plan: &Plan) -> Offered {
+    // SAFETY: plain values in and out.
+    unsafe { raw::ceromby_plan_offer(*plan) }
+}
+
+/// Books a label that waits, as [`crate::book_anywhere`] does, under the number
+/// after the floor's last.
+pub fn release(plan: &Plan, floor: &Floor, label: u32) -> Released {
+    // SAFETY: plain values in and out.
+    unsafe { raw::ceromby_plan_release(*plan, *floor, label) }
+}
+
+/// Marks delivered what a round's report lists, for any hopper. Every report
+/// from the first release on is to be handed in.
+pub fn report(plan: &Plan, report: &Report) -> Planned {
+    // SAFETY: plain values in and out.
+    unsafe { raw::ceromby_plan_report(*plan, *report) }
+}
