@@ -9,6 +9,11 @@ ghost use Rattle.image.specs.Image.{loadAnswer, writeAnswer, written};
 ghost use Rattle.throughput.specs.Window.{feedTold};
 ghost use Rattle.page_call.specs.Page.{pageAnswer, paged};
 ghost use Rattle.plan.specs.Plans.{offerAnswer, releaseAnswer, reportAnswer};
+ghost use Rattle.barge.specs.Barges.{bargeBook, bargeBookAnywhere, bargeStop, bargeRepair, bargeRound};
+use barge::Barge;
+use barge::BargeAnswer;
+use barge::BargePlaced;
+use barge::BargeRounded;
 use book_list::Booking;
 use floor::Answer;
 use floor::Canister;
@@ -151,4 +156,49 @@ pub extern "C" fn ceromby_plan_report(plan: Plan, report: Report) -> Planned
     ensures { λ r. ⌜ r ≡ reportAnswer plan report ⌝ }
 {
     plan_calls::report(plan, report)
+}
+
+#[no_mangle]
+pub extern "C" fn ceromby_barge_book(
+    barge: Barge,
+    floor: u32,
+    tile: u32,
+    canister: Canister,
+) -> BargeAnswer
+    ensures { λ r. ⌜ r ≡ bargeBook barge floor tile canister ⌝ }
+{
+    barge_calls::book(barge, floor, tile, canister)
+}
+
+#[no_mangle]
+pub extern "C" fn ceromby_barge_book_anywhere(
+    barge: Barge,
+    floor: u32,
+    tile: u32,
+    number: u32,
+) -> BargePlaced
+    ensures { λ r. ⌜ r ≡ bargeBookAnywhere barge floor tile number ⌝ }
+{
+    barge_calls::book_anywhere(barge, floor, tile, number)
+}
+
+#[no_mangle]
+pub extern "C" fn ceromby_barge_stop(barge: Barge, floor: u32, tile: u32) -> BargeAnswer
+    ensures { λ r. ⌜ r ≡ bargeStop barge floor tile ⌝ }
+{
+    barge_calls::stop(barge, floor, tile)
+}
+
+#[no_mangle]
+pub extern "C" fn ceromby_barge_repair(barge: Barge, floor: u32, tile: u32) -> BargeAnswer
+    ensures { λ r. ⌜ r ≡ bargeRepair barge floor tile ⌝ }
+{
+    barge_calls::repair(barge, floor, tile)
+}
+
+#[no_mangle]
+pub extern "C" fn ceromby_barge_round(barge: Barge, floor: u32) -> BargeRounded
+    ensures { λ r. ⌜ r ≡ bargeRound barge floor ⌝ }
+{
+    barge_calls::round(barge, floor)
 }

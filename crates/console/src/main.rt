@@ -1,44 +1,45 @@
 // The console: reads calls line by line from standard input and answers each on standard output.
 ghost use Prim.Native.Nat.{_≤_, _<_};
 ghost use lib.ListN.{length};
-use console_session::Session;
+use console_barge::WithBarge;
 use libc::STDIN_FILENO;
 
-// A session, and the place of the first byte not yet obeyed.
+// What the console keeps, and the place of the first byte not yet obeyed.
 struct Place {
-    session: Session,
+    all: WithBarge,
     at: usize,
 }
 
 // One line: a remark is passed over.
-fn line_done(before: Session, line: &[u8]) -> Session {
-    let mut s = before;
+fn line_done(before: WithBarge, line: &[u8]) -> WithBarge {
+    let mut s = before.session;
     s.lines = std::num::wrapping_add_u64(s.lines, 1);
+    let a = console_barge::with_session(before, s);
     if console_parse::is_remark(line) {
-        return s;
+        return a;
     }
     if 400 < line.len() {
         console_say::too_long(s.lines);
-        return s;
+        return a;
     }
-    console_obey::obey(s, line)
+    console_obey::obey(a, line)
 }
 
 // Obeys the whole lines of the text.
-fn obey_lines(before: Session, text: &[u8]) -> Place
+fn obey_lines(before: WithBarge, text: &[u8]) -> Place
     ensures { λ r. ⌜ r .at ≤ length (now (text .entry)) ⌝ }
 {
-    let mut s = before;
+    let mut a = before;
     let mut at = 0;
-    while s.going && at < text.len() {
+    while a.session.going && at < text.len() {
         let to = console_words::find(text, at, b'\n');
         if to == text.len() {
             break;
         }
-        s = line_done(s, &text[at..to]);
+        a = line_done(a, &text[at..to]);
         at = to + 1;
     }
-    Place { session: s, at: at }
+    Place { all: a, at: at }
 }
 
 // Reads once into the buffer from `end` on. Gives the new end, the same one where the input has ended.
@@ -53,49 +54,49 @@ fn read_more(buf: &mut [u8], end: usize) -> usize
     end + io::count(got, &buf[end..])
 }
 
-// After a read: the session, how many bytes of an unfinished line stand at the front of the buffer, whether to read again.
+// After a read: what the console keeps, how many bytes of an unfinished line stand at the front of the buffer, whether to read again.
 struct After {
-    session: Session,
+    all: WithBarge,
     kept: usize,
     more: bool,
 }
 
 // Reads once, obeys the lines that are whole now, and keeps what is left at the front.
-fn turn(before: Session, buf: &mut [u8], kept: usize) -> After
+fn turn(before: WithBarge, buf: &mut [u8], kept: usize) -> After
     requires { ⌜ (kept ≤ 401) × (401 < length (now buf)) ⌝ }
     ensures { λ r. ⌜ r .kept ≤ 401 ⌝ }
 {
     let end = read_more(buf, kept);
     if end == kept {
         return After {
-            session: before,
+            all: before,
             kept: kept,
             more: false,
         };
     }
     let place = obey_lines(before, &buf[..end]);
-    let s = place.session;
+    let a = place.all;
     let left = console_lines::keep(buf, place.at, end);
     After {
-        session: s,
+        all: a,
         kept: left,
-        more: s.going,
+        more: a.session.going,
     }
 }
 
 // The end of the input: a last line without its end is obeyed; a list that has no `end` is not sent. `more`: there may be input, and no reads are left.
-fn finish(s: Session, rest: &[u8], more: bool) {
+fn finish(a: WithBarge, rest: &[u8], more: bool) {
     if more {
         console_say::text(b"console: no reads are left; the lines after line ");
-        console_say::number(s.lines);
+        console_say::number(a.session.lines);
         console_say::text(b" are not read\n");
         return;
     }
-    let mut last = s;
-    if s.going && 0 < rest.len() {
-        last = line_done(s, rest);
+    let mut last = a;
+    if a.session.going && 0 < rest.len() {
+        last = line_done(a, rest);
     }
-    if last.entries.begun {
+    if last.session.entries.begun {
         console_say::text(b"list: not sent, there is no end\n");
     }
 }
@@ -104,19 +105,19 @@ fn finish(s: Session, rest: &[u8], more: bool) {
 fn converse(buf: &mut [u8])
     requires { ⌜ 401 < length (now buf) ⌝ }
 {
-    let mut s = console_session::begin();
+    let mut a = console_barge::begin();
     let mut kept: usize = 0;
     let mut more = true;
     let mut reads = u64::MAX;
     while 0 < reads && more {
-        let done = turn(s, buf, kept);
-        let after = done.session;
-        s = after;
+        let done = turn(a, buf, kept);
+        let after = done.all;
+        a = after;
         kept = done.kept;
         more = done.more;
         reads -= 1;
     }
-    finish(s, &buf[..kept], more);
+    finish(a, &buf[..kept], more);
 }
 
 fn main() {

@@ -5,7 +5,7 @@ use console_session::Session;
 use floor::Canister;
 
 // The canister that four numbers name after its tile.
-fn canister(n: Numbers) -> Canister {
+pub fn canister(n: Numbers) -> Canister {
     Canister {
         number: n.at[1],
         a: console_parse::short(n.at[2]),

@@ -130,6 +130,7 @@ pub fn show(s: Session) -> Session {
         return console_session::refused(s, b"show", answer.refusal);
     }
     let counters = floor.counters;
+    console_say::text(b"show: ");
     console_show::counters(counters, floor.settings.hoppers, s.rounds);
     console_files::show(floor);
     s

@@ -2,6 +2,7 @@
 ghost use Prim.Native.Nat.{_<_};
 ghost use mathlib.Core.Path.{_≡_};
 ghost use Rattle.console_words.specs.Text.{nthWord};
+use console_barge::WithBarge;
 use console_session::Session;
 
 // The place of a word among the words of `names`; 32 where it is none of the first 32.
@@ -80,8 +81,8 @@ fn worded(s: Session, line: &[u8]) -> Session {
     }
 }
 
-// Obeys one line.
-pub fn obey(s: Session, line: &[u8]) -> Session {
+// Obeys a line about the lone floor, or a line of a list.
+fn lone(s: Session, line: &[u8]) -> Session {
     if s.entries.begun {
         return console_book::obey_list(s, line);
     }
@@ -89,4 +90,28 @@ pub fn obey(s: Session, line: &[u8]) -> Session {
         return alone(s, line);
     }
     worded(s, line)
+}
+
+// The number of a command about the barge; a line of a list is none.
+fn of_barge(s: Session, line: &[u8]) -> usize {
+    if s.entries.begun {
+        return 32;
+    }
+    command(line, b"barge allowance put put! take take! on")
+}
+
+// Obeys one line.
+pub fn obey(a: WithBarge, line: &[u8]) -> WithBarge {
+    let s = a.session;
+    let n = of_barge(s, line);
+    match n {
+        0 => console_barge::barge(a, line),
+        1 => console_barge::allowance(a, line),
+        2 => console_barge::put(a, line, false),
+        3 => console_barge::put(a, line, true),
+        4 => console_barge::take(a, line, false),
+        5 => console_barge::take(a, line, true),
+        6 => console_on::on(a, line),
+        _ => console_barge::with_session(a, lone(s, line)),
+    }
 }

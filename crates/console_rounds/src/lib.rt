@@ -1,5 +1,6 @@
 // Rounds as they are typed, and what is told of them afterwards.
 use console_session::Session;
+use console_show::ALONE;
 use floor::Report;
 use floor::refusals;
 
@@ -44,7 +45,7 @@ fn step(s: Session) -> Stepped {
 // Tells what a round delivered and the rates of the windows that it closed, and hands its report to the plan.
 fn told(s: Session, report: Report, closed: bool) -> Session {
     let deliveries = report.deliveries;
-    console_show::delivered(s.rounds, s.floor.settings.hoppers, deliveries);
+    console_show::delivered(ALONE, s.rounds, s.floor.settings.hoppers, deliveries);
     let next = console_plan::follow(s, report);
     window(next, closed);
     next

@@ -82,10 +82,10 @@ pub fn refused_as(name: &[u8], n: u8, words: &[u8]) {
     text(b"\n");
 }
 
-// A call before there is a floor.
+// A call where there is no floor.
 pub fn no_floor(name: &[u8]) {
     text(name);
-    text(b": there is no floor yet; begin with fresh or load\n");
+    text(b": there is no floor; begin with fresh, load or take\n");
 }
 
 // How many canisters.
@@ -213,6 +213,11 @@ pub fn help() {
     );
     text(b"      plan: begins a plan anew | entry LABEL TILE [AFTER [AFTER]] | entries\n");
     text(b"      offer: the lowest label that may be booked now | release LABEL: books it\n");
+    text(
+        b"      put FLOOR: moves the floor to the barge, as its floor 0 to 3 | take FLOOR: moves it back\n",
+    );
+    text(b"      put! and take!: also where that gives up a floor that holds canisters\n");
+    text(b"      on FLOOR, then book, stop, repair or round: on the barge | allowance N | barge\n");
     text(b"      show | throughput | help | quit | # a remark\n");
     text(
         b"      why: of each tile that wasn't empty in the last round, that it moved or why it stood\n",

@@ -111,7 +111,7 @@ pub fn held(c: Counters) -> u64
 // The session with another floor, whose throughput and plan begin anew: the numbers of a plan are those of its floor.
 pub fn begun(s: Session, floor: Floor) -> Session {
     if 0 < s.plan.count {
-        console_say::text(b"plan: no entries, the floor is another\n");
+        console_say::text(b"plan: no entries, its floor is gone\n");
     }
     let mut next = with_floor(s, floor);
     let plan = no_plan();
@@ -120,5 +120,13 @@ pub fn begun(s: Session, floor: Floor) -> Session {
     next.records = records;
     next.rounds = 0;
     next.made = true;
+    next
+}
+
+// The session without a floor.
+pub fn without_floor(s: Session) -> Session {
+    let none = floor::zero_floor();
+    let mut next = begun(s, none);
+    next.made = false;
     next
 }

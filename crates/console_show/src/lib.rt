@@ -27,8 +27,21 @@ fn side(code: u8) {
     }
 }
 
-// The beginning of what round `at` delivered.
-fn round(at: u64) {
+// The floor that is no barge's.
+pub const ALONE: u32 = 4;
+
+// The beginning of a line about a floor of the barge.
+pub fn on(floor: u32) {
+    text(b"on ");
+    small(floor);
+    text(b": ");
+}
+
+// The beginning of what round `at` of a floor delivered.
+fn round(floor: u32, at: u64) {
+    if floor < ALONE {
+        on(floor);
+    }
     text(b"round ");
     number(at);
     text(b": delivered");
@@ -57,13 +70,13 @@ pub fn some(all: [Delivery; 4]) -> bool {
 }
 
 // For each of several hoppers, in tile order, what it took.
-fn by_hopper(at: u64, hoppers: u64, all: [Delivery; 4]) {
+fn by_hopper(floor: u32, at: u64, hoppers: u64, all: [Delivery; 4]) {
     let mut rest = hoppers;
     let mut k: usize = 0;
     while k < 4 {
         let d = all[k];
         if d.count != 0 {
-            round(at);
+            round(floor, at);
             text(b" at ");
             number(sets::lowest(rest) as u64);
             text(b":");
@@ -75,17 +88,17 @@ fn by_hopper(at: u64, hoppers: u64, all: [Delivery; 4]) {
 }
 
 // What a round delivered: one line for the only hopper, or for each of several that took something.
-pub fn delivered(at: u64, hoppers: u64, all: [Delivery; 4]) {
+pub fn delivered(floor: u32, at: u64, hoppers: u64, all: [Delivery; 4]) {
     if !some(all) {
-        round(at);
+        round(floor, at);
         text(b" none\n");
         return;
     }
     if 1 < sets::size(hoppers) {
-        by_hopper(at, hoppers, all);
+        by_hopper(floor, at, hoppers, all);
         return;
     }
-    round(at);
+    round(floor, at);
     taken(all[0]);
 }
 
@@ -239,9 +252,9 @@ fn counted(hoppers: u64, delivered: [u32; 4]) {
     }
 }
 
-// The first line of a shown floor.
+// The counters of a floor and its rounds, to the line's end.
 pub fn counters(c: Counters, hoppers: u64, round: u64) {
-    text(b"show: last ");
+    text(b"last ");
     small(c.last);
     text(b", booked ");
     small(c.booked);

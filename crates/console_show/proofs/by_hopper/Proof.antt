@@ -12,10 +12,10 @@ use Rattle.console_say.proofs.text.Reads as text-reads
 use Rattle.sets.proofs.lowest.Reads as lowest-reads
 
 abbrev Inv-loop : tie.InvT-loop
-Inv-loop at hoppers all rest₀ k₀ t8 t9 rest k = k ≤ 4
+Inv-loop floor at hoppers all rest₀ k₀ t8 t9 rest k = k ≤ 4
 
 abbrev μ-loop : tie.MeasureT-loop
-μ-loop at hoppers all rest₀ k₀ t8 t9 rest k = 4 - k
+μ-loop floor at hoppers all rest₀ k₀ t8 t9 rest k = 4 - k
 
 loop-holds : tie.Need-loop-holds Inv-loop μ-loop
 loop-holds c = search needs

@@ -1,0 +1,114 @@
+-- A call on a sound barge against the same call on the floor that it names, alone.
+use mathlib.Core.Path.{_≡_, refl, sym, _∙_, fun-ext}
+use mathlib.Core.Logic.{inl, inr, _⊎_, _≢_}
+use mathlib.Core.Bool.{Bool, true, false, cond, not, false≢true}
+use mathlib.Core.List.{List, [], _∷_}
+use Prim.Native.Nat.{ℕ, _≤_, _<_}
+use native.Mathlib.Omega.{arith}
+use native.Mathlib.Decide.{ℕ-discrete}
+use lib.Dec.{leb, eqb}
+use borrow.Author.Tests.{eq-eqb, ne-eqb, leb-true, le-leb, lt-leb}
+use Rattle.laws.specs.Define.{refusal}
+use Rattle.laws.specs.Every.{All}
+use Rattle.laws.proofs.Tests.{by-test}
+use Rattle.floor.specs.declared.Floor.{Floor}
+use Rattle.floor.specs.Memory.{view}
+use Rattle.floor.specs.Well.{wellFormed}
+use Rattle.floor.specs.Calls.{refusalOf, answer, bookTests, bookAnswer, stopTests, stopAnswer, repairTests, repairAnswer, roundAnswer}
+use Rattle.floor.specs.Anywhere.{anywhereTests, anywhereAnswer}
+use Rattle.floor.specs.Demand3 as Lone
+use Rattle.barge.specs.declared.Barge.{Barge}
+use Rattle.barge.specs.Barges.{floorAt, aboard, bargeSound, bargeRefusal, allowed}
+use Rattle.barge.specs.Lists.{BargeCall, book, anywhere, stop, repair, round, named, lone, outcome, alone, books, AsAlone, Alone}
+use Rattle.barge.proofs.Answers.{extra, refusal-is, only-50, undone}
+use Rattle.barge.proofs.PerFloor.{Listed, listed}
+
+-- ---- on a lone floor every number is below 50
+below-50 : (l : List (Bool × ℕ)) → All (λ x. x .1 < 50) l → refusal l < 50
+unfolding refusal
+below-50 [] h = omega arith
+below-50 (x ∷ l) h = go (x .0) (below-50 l (h .1))
+  where
+    go : (y : Bool) → refusal l < 50 → cond y (x .1) (refusal l) < 50
+    go true r = h .0
+    go false r = r
+
+lone-below : (f : Floor) (c : BargeCall) → Lone.outcome f (lone c) .refusal < 50
+unfolding Lone.outcome bookAnswer anywhereAnswer stopAnswer repairAnswer roundAnswer answer refusalOf bookTests anywhereTests stopTests repairTests
+lone-below f (book k t c) = below-50 ((not (wellFormed f), 30) ∷ bookTests (view f) t c) (omega arith)
+lone-below f (anywhere k t number) = below-50 ((not (wellFormed f), 30) ∷ anywhereTests (view f) t number) (omega arith)
+lone-below f (stop k t) = below-50 ((not (wellFormed f), 30) ∷ stopTests (view f) t) (omega arith)
+lone-below f (repair k t) = below-50 ((not (wellFormed f), 30) ∷ repairTests (view f) t) (omega arith)
+lone-below f (round k) = below-50 ((not (wellFormed f), 30) ∷ []) (omega arith)
+
+-- ---- the last test
+at-or-above : (b : Barge) → refusal (allowed b) ≡ 50 → b .allowance ≤ aboard b
+unfolding allowed refusal
+at-or-above b e = go (by-test (leb (b .allowance) (aboard b)))
+  where
+    go : (leb (b .allowance) (aboard b) ≡ true) ⊎ (leb (b .allowance) (aboard b) ≡ false) → b .allowance ≤ aboard b
+    go (inl y) = leb-true (b .allowance) (aboard b) y
+    go (inr n) = let q = rw n at e in absurd (omega (arith, q))
+
+over-is : (b : Barge) (c : BargeCall) → refusal (extra b c) ≡ 50 → (books c ≡ true) × (b .allowance ≤ aboard b)
+unfolding refusal
+over-is b (book k t c) e = (refl, at-or-above b e)
+over-is b (anywhere k t number) e = (refl, at-or-above b e)
+over-is b (stop k t) e = absurd (omega (arith, e))
+over-is b (repair k t) e = absurd (omega (arith, e))
+over-is b (round k) e = absurd (omega (arith, e))
+
+is-over : (b : Barge) (c : BargeCall) → books c ≡ true → b .allowance ≤ aboard b → refusal (extra b c) ≡ 50
+unfolding allowed refusal
+is-over b (book k t c) y l = rw (le-leb (b .allowance) (aboard b) l)
+is-over b (anywhere k t number) y l = rw (le-leb (b .allowance) (aboard b) l)
+is-over b (stop k t) y l = absurd (false≢true y)
+is-over b (repair k t) y l = absurd (false≢true y)
+is-over b (round k) y l = absurd (false≢true y)
+
+module _ (b : Barge) (s : bargeSound b ≡ true) (c : BargeCall) (on : named c < 4) where
+  -- the number: the lone call's own, else the last test's
+  by-own : alone b c .refusal ≢ 0 → outcome b c .refusal ≡ alone b c .refusal
+  unfolding bargeRefusal refusal
+  by-own z = refusal-is b c ∙ rw (s, lt-leb 4 (named c) on, ne-eqb (alone b c .refusal) 0 z)
+
+  by-last : alone b c .refusal ≡ 0 → outcome b c .refusal ≡ refusal (extra b c)
+  unfolding bargeRefusal refusal
+  by-last z = refusal-is b c ∙ rw (s, lt-leb 4 (named c) on, z)
+
+  number : outcome b c .refusal ≢ 50 → outcome b c .refusal ≡ alone b c .refusal
+  number n = go (ℕ-discrete (alone b c .refusal) 0)
+    where
+      go : Dec (alone b c .refusal ≡ 0) → outcome b c .refusal ≡ alone b c .refusal
+      go (no z) = by-own z
+      go (yes z) = last (only-50 b c)
+        where
+          last : (refusal (extra b c) ≡ 0) ⊎ (refusal (extra b c) ≡ 50) → outcome b c .refusal ≡ alone b c .refusal
+          last (inl q) = by-last z ∙ q ∙ sym z
+          last (inr q) = absurd (n (by-last z ∙ q))
+
+  over : outcome b c .refusal ≡ 50 → (books c ≡ true) × (alone b c .refusal ≡ 0) × (b .allowance ≤ aboard b)
+  over e = go (ℕ-discrete (alone b c .refusal) 0)
+    where
+      go : Dec (alone b c .refusal ≡ 0) → (books c ≡ true) × (alone b c .refusal ≡ 0) × (b .allowance ≤ aboard b)
+      go (yes z) = let q = over-is b c (sym (by-last z) ∙ e) in (q .0, z, q .1)
+      go (no z) = absurd (omega (arith, lone-below (floorAt b (named c)) c, by-own z, e))
+
+  here : eqb (named c) (named c) ≡ true
+  here = eq-eqb (named c) (named c) refl
+
+  there : outcome b c .refusal ≢ 50 → Listed (named c) b c
+  there n = listed (named c) on b s c here n
+
+  as-alone-here : AsAlone b c
+  as-alone-here = record {
+    refusal = number;
+    floor = λ n. there n .floor;
+    booked = λ n. rw here at (there n .booked);
+    reported = λ n. fun-ext (λ k. rw here at (there n .reported k));
+    over = (over, λ p. by-last (p .1) ∙ is-over b c (p .0) (p .2));
+    given-back = λ z. undone b c z .barge;
+  }
+
+pub as-alone : Alone
+as-alone b s c on = as-alone-here b s c on

@@ -1,0 +1,296 @@
+-- Demand 3 for each floor of a barge: the calls that name a floor, without the bookings that 50 refuses, are a list of calls on that floor alone.
+use mathlib.Core.Path.{_≡_, refl, sym, ap, _∙_, subst, fun-ext}
+use mathlib.Core.Logic.{_⊎_, inl, inr, _↔_, _≢_}
+use mathlib.Core.Bool.{Bool, true, false, cond, not, _&&_, true≢false}
+use mathlib.Core.List.{List, [], _∷_, _++_}
+use Prim.Native.Nat.{ℕ, _+_, _≤_, _<_}
+use native.Mathlib.Omega.{arith}
+use native.Mathlib.Decide.{ℕ-discrete}
+use lib.Dec.{eqb}
+use lib.Seq.{getD-set-same}
+use borrow.Author.Tests.{eqb-true, eqb-false, eq-eqb, ne-eqb}
+use Rattle.laws.specs.Define.{cat}
+use Rattle.laws.specs.Every.{All}
+use Rattle.laws.proofs.Tests.{by-test, and-no}
+use Rattle.floor.specs.declared.Floor.{Floor}
+use Rattle.floor.specs.Model.{runsOf, membersOf}
+use Rattle.floor.specs.Memory.{zeroFloor, view}
+use Rattle.floor.specs.Well.{wellFormed}
+use Rattle.floor.specs.Calls.{bookAnswer}
+use Rattle.floor.specs.Anywhere.{anywhereAnswer}
+use Rattle.floor.specs.Bound.{bound}
+use Rattle.floor.specs.Live.{LivePath, connected, connectedCount}
+use Rattle.floor.specs.Demand3.{Call, isRound}
+use Rattle.floor.specs.Demand3 as Lone
+use Rattle.floor.proofs.Lists.{call-refused}
+use Rattle.floor.proofs.Theorem.{demand3}
+use Rattle.barge.specs.declared.Barge.{Barge}
+use Rattle.barge.specs.Barges.{floorAt, withFloor, bargeSound}
+use Rattle.barge.specs.Lists.{BargeCall, book, anywhere, stop, repair, round, named, lone, alone, Typed, outcome, bargeAfter}
+use Rattle.barge.specs.PerFloor.{bookedOn, reportedOn, reportedAllOn, runsBy, latest, runsOn, disturbs, QuietOn, roundsOn, Promises, PerFloor}
+use Rattle.barge.proofs.Answers.{Sound, sound-of, done, undone, others, own-refused, round-passes, round-done, stays}
+
+-- ---- a refused call on a lone floor
+record Idle (f : Floor) (c : Call) : Type 0 where
+  floor : Lone.outcome f c .floor ≡ f
+  booked : Lone.outcome f c .booked ≡ []
+  reported : Lone.outcome f c .reported ≡ (λ _. [])
+
+idle : (f : Floor) → wellFormed f ≡ true → (c : Call) → Lone.outcome f c .refusal ≢ 0 → Idle f c
+unfolding Lone.outcome
+idle f w (Lone.book t c) h = record { floor = call-refused f w (Lone.book t c) refl h; booked = rw (ne-eqb (bookAnswer f t c .refusal) 0 h); reported = refl }
+idle f w (Lone.anywhere t number) h = record { floor = call-refused f w (Lone.anywhere t number) refl h; booked = rw (ne-eqb (anywhereAnswer f t number .refusal) 0 h); reported = refl }
+idle f w (Lone.stop t) h = record { floor = call-refused f w (Lone.stop t) refl h; booked = refl; reported = refl }
+idle f w (Lone.repair t) h = record { floor = call-refused f w (Lone.repair t) refl h; booked = refl; reported = refl }
+idle f w Lone.round h = absurd (h (round-passes f w))
+idle f w (Lone.keep name) h = record { floor = call-refused f w (Lone.keep name) refl h; booked = refl; reported = refl }
+idle f w (Lone.forget name) h = record { floor = call-refused f w (Lone.forget name) refl h; booked = refl; reported = refl }
+idle f w (Lone.recall name) h = record { floor = call-refused f w (Lone.recall name) refl h; booked = refl; reported = refl }
+
+-- ---- one call seen from floor j
+-- the lone calls that it stands for: itself, or none where it names another floor or 50 refuses it
+unfoldable taken : ℕ → Barge → BargeCall → Bool
+taken j b c = eqb (named c) j && not (eqb (outcome b c .refusal) 50)
+
+pub record Listed (j : ℕ) (b : Barge) (c : BargeCall) : Type 0 where
+  pub here : eqb (named c) j ≡ true
+  pub floor : floorAt (outcome b c .barge) j ≡ Lone.outcome (floorAt b j) (lone c) .floor
+  pub booked : cond (eqb (named c) j) (outcome b c .booked) [] ≡ Lone.outcome (floorAt b j) (lone c) .booked
+  pub reported : (k : ℕ) → cond (eqb (named c) j) (outcome b c .reported k) [] ≡ Lone.outcome (floorAt b j) (lone c) .reported k
+  pub runs : (t : ℕ) (r : Bool) → runsBy j b c t r ≡ Lone.runsBy (floorAt b j) (lone c) t r
+  pub accepted : eqb (outcome b c .refusal) 0 ≡ eqb (Lone.outcome (floorAt b j) (lone c) .refusal) 0
+  pub round : cond {A = ℕ} (eqb (named c) j && isRound (lone c)) 1 0 ≡ cond (isRound (lone c)) 1 0
+
+record Skipped (j : ℕ) (b : Barge) (c : BargeCall) : Type 0 where
+  floor : floorAt (outcome b c .barge) j ≡ floorAt b j
+  booked : cond (eqb (named c) j) (outcome b c .booked) [] ≡ []
+  reported : (k : ℕ) → cond (eqb (named c) j) (outcome b c .reported k) [] ≡ []
+  runs : (t : ℕ) (r : Bool) → runsBy j b c t r ≡ r
+  round : cond {A = ℕ} (eqb (named c) j && isRound (lone c)) 1 0 ≡ 0
+
+-- whether a stop or a repair of the barge counts for floor j
+runs-same : (j : ℕ) (b : Barge) (c : BargeCall) → eqb (named c) j ≡ true → eqb (outcome b c .refusal) 0 ≡ eqb (Lone.outcome (floorAt b j) (lone c) .refusal) 0 → (t : ℕ) (r : Bool) → runsBy j b c t r ≡ Lone.runsBy (floorAt b j) (lone c) t r
+unfolding runsBy Lone.runsBy
+runs-same j b (book k u c) n e t r = refl
+runs-same j b (anywhere k u number) n e t r = refl
+runs-same j b (stop k u) n e t r = rw (n, e)
+runs-same j b (repair k u) n e t r = rw (n, e)
+runs-same j b (round k) n e t r = refl
+
+both : (x y z : Bool) → (x && y) ≡ false → (x && (y && z)) ≡ false
+both true true z h = absurd (true≢false h)
+both true false z h = refl
+both false y z h = refl
+
+runs-none : (j : ℕ) (b : Barge) (c : BargeCall) → (eqb (outcome b c .refusal) 0 && eqb (named c) j) ≡ false → (t : ℕ) (r : Bool) → runsBy j b c t r ≡ r
+unfolding runsBy
+runs-none j b (book k u c) e t r = refl
+runs-none j b (anywhere k u number) e t r = refl
+runs-none j b (stop k u) e t r = ap (λ (x : Bool). cond x false r) (both (eqb (outcome b (stop k u) .refusal) 0) (eqb k j) (eqb u t) e)
+runs-none j b (repair k u) e t r = ap (λ (x : Bool). cond x true r) (both (eqb (outcome b (repair k u) .refusal) 0) (eqb k j) (eqb u t) e)
+runs-none j b (round k) e t r = refl
+
+cond-nil : (x : Bool) {l : List ℕ} → l ≡ [] → cond x l [] ≡ []
+cond-nil true e = e
+cond-nil false e = refl
+
+module _ (j : ℕ) (j4 : j < 4) (b : Barge) (s : bargeSound b ≡ true) (c : BargeCall) where
+  S : Sound b
+  S = sound-of b s
+
+  pub listed : eqb (named c) j ≡ true → outcome b c .refusal ≢ 50 → Listed j b c
+  listed e n = go (ℕ-discrete (outcome b c .refusal) 0)
+    where
+      at : named c ≡ j
+      at = eqb-true (named c) j e
+
+      f : Floor
+      f = floorAt b j
+
+      same : alone b c ≡ Lone.outcome (floorAt b j) (lone c)
+      same = ap (λ (k : ℕ). Lone.outcome (floorAt b k) (lone c)) at
+
+      go : Dec (outcome b c .refusal ≡ 0) → Listed j b c
+      go (yes z) =
+          let D = done b c z in
+          let q : eqb (outcome b c .refusal) 0 ≡ eqb (Lone.outcome f (lone c) .refusal) 0 = ap (λ (x : ℕ). eqb x 0) (z ∙ sym (D .own) ∙ ap (λ (o : Lone.Outcome). o .refusal) same) in
+          record {
+            here = e;
+            floor = ap (λ (x : Barge). floorAt x j) (D .barge) ∙ ap (λ (k : ℕ). floorAt (withFloor b k (alone b c .floor)) j) at ∙ getD-set-same (b .floors) j (alone b c .floor) zeroFloor (omega (arith, S .four)) ∙ ap (λ (o : Lone.Outcome). o .floor) same;
+            booked = rw e (D .booked ∙ ap (λ (o : Lone.Outcome). o .booked) same);
+            reported = λ k. rw e (ap (λ (g : ℕ → List ℕ). g k) (D .reported) ∙ ap (λ (o : Lone.Outcome). o .reported k) same);
+            runs = runs-same j b c e q;
+            accepted = q;
+            round = rw e;
+          }
+      go (no z) =
+          let U = undone b c z in
+          let r : Lone.outcome (floorAt b j) (lone c) .refusal ≢ 0 = λ q. own-refused b c s (omega (arith, at)) z n (ap (λ (o : Lone.Outcome). o .refusal) same ∙ q) in
+          let I = idle f (S .each j j4) (lone c) r in
+          let q : eqb (outcome b c .refusal) 0 ≡ eqb (Lone.outcome f (lone c) .refusal) 0 = ne-eqb (outcome b c .refusal) 0 z ∙ sym (ne-eqb (Lone.outcome f (lone c) .refusal) 0 r) in
+          record {
+            here = e;
+            floor = ap (λ (x : Barge). floorAt x j) (U .barge) ∙ sym (I .floor);
+            booked = rw e (U .booked ∙ sym (I .booked));
+            reported = λ k. rw e (ap (λ (g : ℕ → List ℕ). g k) (U .reported ∙ sym (I .reported)));
+            runs = runs-same j b c e q;
+            accepted = q;
+            round = rw e;
+          }
+
+  elsewhere : eqb (named c) j ≡ false → Skipped j b c
+  elsewhere e = record {
+    floor = others b c j (λ q. eqb-false (named c) j e (sym q));
+    booked = rw e;
+    reported = λ k. rw e;
+    runs = runs-none j b c (rw e (and-no (eqb (outcome b c .refusal) 0)));
+    round = rw e;
+  }
+
+  over : eqb (named c) j ≡ true → outcome b c .refusal ≡ 50 → Skipped j b c
+  over e q =
+      let z : outcome b c .refusal ≢ 0 = λ k. omega arith in
+      let U = undone b c z in
+      record {
+        floor = ap (λ (x : Barge). floorAt x j) (U .barge);
+        booked = cond-nil (eqb (named c) j) (U .booked);
+        reported = λ k. cond-nil (eqb (named c) j) (ap (λ (g : ℕ → List ℕ). g k) (U .reported));
+        runs = runs-none j b c (rw (ne-eqb (outcome b c .refusal) 0 z));
+        round = rw e (no-round (by-test (isRound (lone c))));
+      }
+    where
+      no-round : (isRound (lone c) ≡ true) ⊎ (isRound (lone c) ≡ false) → cond {A = ℕ} (isRound (lone c)) 1 0 ≡ 0
+      no-round (inr n) = rw n
+      no-round (inl y) = absurd (omega (arith, round-done b c s (omega (arith, eqb-true (named c) j e)) y))
+
+  -- itself, or none
+  by-call : (P : List Call → Type 0) → (Listed j b c → P (lone c ∷ [])) → (Skipped j b c → P []) → P (cond (taken j b c) (lone c ∷ []) [])
+  unfolding taken
+  by-call P yes′ no′ = go (by-test (eqb (named c) j)) (ℕ-discrete (outcome b c .refusal) 50)
+    where
+      go : (eqb (named c) j ≡ true) ⊎ (eqb (named c) j ≡ false) → Dec (outcome b c .refusal ≡ 50) → P (cond (eqb (named c) j && not (eqb (outcome b c .refusal) 50)) (lone c ∷ []) [])
+      go (inr e) d = rw e (no′ (elsewhere e))
+      go (inl e) (yes q) = rw (e, eq-eqb (outcome b c .refusal) 50 q) (no′ (over e q))
+      go (inl e) (no n) = rw (e, ne-eqb (outcome b c .refusal) 50 n) (yes′ (listed e n))
+
+-- ---- lists
+-- the calls that name floor j, without those that 50 refuses, as calls on a lone floor
+unfoldable own : ℕ → Barge → List BargeCall → List Call
+own j b [] = []
+own j b (c ∷ cs) = cond (taken j b c) (lone c ∷ []) [] ++ own j (outcome b c .barge) cs
+
+record Same (j : ℕ) (b : Barge) (cs : List BargeCall) (ds : List Call) : Type 0 where
+  floor : floorAt (bargeAfter b cs) j ≡ Lone.floorAfter (floorAt b j) ds
+  booked : bookedOn j b cs ≡ Lone.bookedIn (floorAt b j) ds
+  reported : (k : ℕ) → reportedOn j b cs k ≡ Lone.reportedIn (floorAt b j) ds k
+  runs : (t : ℕ) (r : Bool) → latest j b cs t r ≡ Lone.latest (floorAt b j) ds t r
+  quiet : QuietOn j b cs → Lone.Quiet (floorAt b j) ds
+  rounds : Lone.roundsIn ds ≡ roundsOn j cs
+  typed : All Lone.Typed ds
+  sound : bargeSound (bargeAfter b cs) ≡ true
+
+quiet-lone : (j : ℕ) (b : Barge) (c : BargeCall) (f : Floor) → eqb (named c) j ≡ true → eqb (outcome b c .refusal) 0 ≡ eqb (Lone.outcome f (lone c) .refusal) 0 → disturbs j b c ≡ false → Lone.disturbs f (lone c) ≡ false
+unfolding disturbs Lone.disturbs Lone.changesRunning
+quiet-lone j b (book k t c) f h e q = sym e ∙ (rw h at q)
+quiet-lone j b (anywhere k t number) f h e q = sym e ∙ (rw h at q)
+quiet-lone j b (stop k t) f h e q = sym e ∙ (rw h at q)
+quiet-lone j b (repair k t) f h e q = sym e ∙ (rw h at q)
+quiet-lone j b (round k) f h e q = refl
+
+module _ (j : ℕ) (b : Barge) (c : BargeCall) (cs : List BargeCall) (ds : List Call) (typed-c : Typed c) (R : Same j (outcome b c .barge) cs ds) where
+  with-it : Listed j b c → Same j b (c ∷ cs) (lone c ∷ ds)
+  unfolding bargeAfter bookedOn reportedOn latest Lone.floorAfter Lone.bookedIn Lone.reportedIn Lone.latest
+  with-it L =
+      let f = floorAt b j in
+      let o = Lone.outcome f (lone c) in
+      record {
+        floor = R .floor ∙ ap (λ (x : Floor). Lone.floorAfter x ds) (L .floor);
+        booked = ap (λ (l : List ℕ). l ++ bookedOn j (outcome b c .barge) cs) (L .booked) ∙ ap (λ (l : List ℕ). o .booked ++ l) (R .booked ∙ ap (λ (x : Floor). Lone.bookedIn x ds) (L .floor));
+        reported = λ k. ap (λ (l : List ℕ). l ++ reportedOn j (outcome b c .barge) cs k) (L .reported k) ∙ ap (λ (l : List ℕ). o .reported k ++ l) (R .reported k ∙ ap (λ (x : Floor). Lone.reportedIn x ds k) (L .floor));
+        runs = λ t r. ap (λ (x : Bool). latest j (outcome b c .barge) cs t x) (L .runs t r) ∙ R .runs t (Lone.runsBy f (lone c) t r) ∙ ap (λ (x : Floor). Lone.latest x ds t (Lone.runsBy f (lone c) t r)) (L .floor);
+        quiet = λ q. (quiet-lone j b c f (L .here) (L .accepted) (q .0), subst (λ (x : Floor). Lone.Quiet x ds) (L .floor) (R .quiet (q .1)));
+        rounds = ap (λ (n : ℕ). n + Lone.roundsIn ds) (sym (L .round)) ∙ ap (λ (n : ℕ). cond (eqb (named c) j && isRound (lone c)) 1 0 + n) (R .rounds);
+        typed = (typed-c, R .typed);
+        sound = R .sound;
+      }
+
+  without : Skipped j b c → Same j b (c ∷ cs) ds
+  unfolding bargeAfter bookedOn reportedOn latest
+  without L =
+      record {
+        floor = R .floor ∙ ap (λ (x : Floor). Lone.floorAfter x ds) (L .floor);
+        booked = ap (λ (l : List ℕ). l ++ bookedOn j (outcome b c .barge) cs) (L .booked) ∙ (R .booked ∙ ap (λ (x : Floor). Lone.bookedIn x ds) (L .floor));
+        reported = λ k. ap (λ (l : List ℕ). l ++ reportedOn j (outcome b c .barge) cs k) (L .reported k) ∙ (R .reported k ∙ ap (λ (x : Floor). Lone.reportedIn x ds k) (L .floor));
+        runs = λ t r. ap (λ (x : Bool). latest j (outcome b c .barge) cs t x) (L .runs t r) ∙ R .runs t r ∙ ap (λ (x : Floor). Lone.latest x ds t r) (L .floor);
+        quiet = λ q. subst (λ (x : Floor). Lone.Quiet x ds) (L .floor) (R .quiet (q .1));
+        rounds = let z = L .round in R .rounds ∙ omega arith;
+        typed = R .typed;
+        sound = R .sound;
+      }
+
+same : (j : ℕ) → j < 4 → (b : Barge) → bargeSound b ≡ true → (cs : List BargeCall) → All Typed cs → Same j b cs (own j b cs)
+unfolding own bargeAfter bookedOn reportedOn latest Lone.floorAfter Lone.bookedIn Lone.reportedIn Lone.latest
+same j j4 b s [] h = record { floor = refl; booked = refl; reported = λ k. refl; runs = λ t r. refl; quiet = λ _. tt; rounds = refl; typed = tt; sound = s }
+same j j4 b s (c ∷ cs) h =
+    let b′ = outcome b c .barge in
+    let R = same j j4 b′ (stays b c s (h .0)) cs (h .1) in
+    by-call j j4 b s c (λ l. Same j b (c ∷ cs) (l ++ own j b′ cs)) (with-it j b c cs (own j b′ cs) (h .0) R) (without j b c cs (own j b′ cs) (h .0) R)
+
+-- ---- "Per floor of a sound barge, demand 3 reads as before for the calls that name it."
+module _ (j : ℕ) (j4 : j < 4) (b : Barge) (s : bargeSound b ≡ true) (cs : List BargeCall) (typed : All Typed cs) where
+  abbrev first : Floor
+  first = floorAt b j
+
+  abbrev calls : List Call
+  calls = own j b cs
+
+  R : Same j b cs calls
+  R = same j j4 b s cs typed
+
+  P : Lone.Promises first calls
+  P = demand3 first (sound-of b s .each j j4) calls (R .typed)
+
+  runs-are : Lone.runsAfter first calls ≡ runsOn j b cs
+  unfolding Lone.runsAfter runsOn
+  runs-are = fun-ext (λ t. sym (R .runs t (runsOf (view first) t)))
+
+  reported-all : reportedAllOn j b cs ≡ Lone.reportedAll first calls
+  unfolding reportedAllOn Lone.reportedAll
+  reported-all = ap (cat 4) (fun-ext (R .reported))
+
+  is-now : P .now ≡ floorAt (bargeAfter b cs) j
+  is-now = P .is-now ∙ sym (R .floor)
+
+  further : (ds : List BargeCall) → All Typed ds → Same j (bargeAfter b cs) ds (own j (bargeAfter b cs) ds)
+  further ds h = same j j4 (bargeAfter b cs) (R .sound) ds h
+
+  promises : Promises j b cs
+  promises = record {
+    first = first;
+    is-first = refl;
+    now = P .now;
+    is-now = is-now;
+    well = P .well;
+    same-settings = P .same-settings;
+    within = P .within;
+    spaced = P .spaced;
+    kept = rw (R .booked, reported-all) (P .kept);
+    once-before = rw (R .booked) (P .once-before);
+    once-now = rw reported-all (P .once-now);
+    booked = rw (R .booked) (P .booked);
+    delivered = λ k. rw (R .reported k) (P .delivered k);
+    counts-live = subst (λ (r : ℕ → Bool). (t : ℕ) → LivePath (first .settings) r t ↔ connected (first .settings) r t ≡ true) runs-are (P .counts-live);
+    emptied = λ ds h q n t p.
+        let F = further ds h in
+        let back : Floor → Floor = λ x. Lone.floorAfter x (own j (bargeAfter b cs) ds) in
+        ap (λ (x : Floor). membersOf (view x) t) (F .floor ∙ ap back (sym is-now))
+        ∙ P .emptied (own j (bargeAfter b cs) ds) (F .typed) (subst (λ (x : Floor). Lone.Quiet x (own j (bargeAfter b cs) ds)) (sym is-now) (F .quiet q))
+        (enough ds F n) t (subst (λ (r : ℕ → Bool). LivePath (first .settings) r t) (sym runs-are) p);
+  }
+    where
+      enough : (ds : List BargeCall) → Same j (bargeAfter b cs) ds (own j (bargeAfter b cs) ds) → bound (first .settings) (connectedCount (view (P .now)) (runsOn j b cs)) ≤ roundsOn j ds
+          → bound (first .settings) (connectedCount (view (P .now)) (Lone.runsAfter first calls)) ≤ Lone.roundsIn (own j (bargeAfter b cs) ds)
+      enough ds F n = subst (λ (r : ℕ → Bool). bound (first .settings) (connectedCount (view (P .now)) r) ≤ Lone.roundsIn (own j (bargeAfter b cs) ds)) (sym runs-are) (omega (arith, F .rounds))
+
+pub per-floor : PerFloor
+per-floor j j4 b s cs typed = promises j j4 b s cs typed

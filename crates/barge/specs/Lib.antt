@@ -1,0 +1,4 @@
+pub mod Barges
+pub mod Lists
+pub mod PerFloor
+pub mod Alike
