@@ -1,13 +1,15 @@
 /* The canister floor. Every struct goes by value; nothing is kept between calls, so calls may run side by side.
    Any bytes may stand in a struct: a floor that isn't well formed is refused by 30 (ceromby_book_list: in every entry).
 
-   A refused call gives the floor that was handed in (ceromby_fresh and ceromby_load: the all-zero floor, which is refused
-   by 30 everywhere), zeros for everything else (a refused reading has distance 0, not 255), and leaves the buffer or list.
+   A refused call gives back the floor, throughput, plan or barge that was handed in (ceromby_fresh and ceromby_load: the
+   all-zero floor, which is refused by 30 everywhere), zeros for everything else (a refused reading has distance 0, not
+   255), and leaves the buffer or list.
    The numbers given at each call stand in the order in which they are tested.
 
    What the caller owes: a pointer to `length` bytes, or for ceromby_book_list to `length` entries, that stay valid and
    that nobody else writes during the call (any pointer but NULL where length is 0); for ceromby_write, ceromby_page and
-   ceromby_book_list nobody else reads them either. A floor takes 8,696 bytes, and a call about 100 KB of stack. */
+   ceromby_book_list nobody else reads them either. A floor takes 8,696 bytes, and a call about 100 KB of stack; a barge takes
+   34,792 bytes, and a call with one about 210 KB of stack. */
 
 #ifndef CEROMBY_H
 #define CEROMBY_H
@@ -38,6 +40,8 @@ extern "C" {
 #define CEROMBY_LONGEST_LIST 64 /* bookings in one call */
 #define CEROMBY_MAX_ENTRIES 64 /* of a plan */
 #define CEROMBY_MAX_LABEL 64 /* of a plan's entry; the least is 1 */
+#define CEROMBY_FLOORS 4 /* of a barge */
+#define CEROMBY_MAX_ALLOWANCE 4032 /* of a barge; the least is 1 */
 
 /* The set of one tile, 0 to 63: with one hopper, .hoppers = CEROMBY_TILE(5). Sets are joined by |. */
 #define CEROMBY_TILE(t) (UINT64_C(1) << (t))
@@ -79,7 +83,8 @@ extern "C" {
 #define CEROMBY_SHORT_BUFFER 13   /* buffer shorter than the image to write */
 
 /* Refused because of the state. */
-#define CEROMBY_MALFORMED 30      /* the floor handed in isn't well formed, the throughput isn't sound, or the plan isn't */
+#define CEROMBY_MALFORMED 30      /* the floor handed in isn't well formed, the throughput isn't sound, or the plan or the
+                                     barge isn't */
 #define CEROMBY_STOPPED 31        /* booking on a stopped tile, or stop of a stopped one */
 #define CEROMBY_RUNNING 32        /* repair of a running tile */
 #define CEROMBY_NUMBER_USED 33    /* canister number not above the last booked */
@@ -104,6 +109,10 @@ extern "C" {
 #define CEROMBY_BAD_LABEL 47      /* an entry's label is repeated or outside 1 to 64, or a predecessor absent or not lower */
 #define CEROMBY_NOT_RELEASED 48   /* release of a label that isn't waiting or not in the plan, or before a predecessor of it
                                      was delivered */
+
+/* Refused because of a barge. */
+#define CEROMBY_NO_FLOOR 49       /* floor number not 0 to 3 */
+#define CEROMBY_OVERLOADED 50     /* booking with as many canisters aboard as are allowed, or more */
 
 typedef struct ceromby_canister {
     uint32_t number; /* never 0 on a floor */
@@ -282,6 +291,32 @@ typedef struct ceromby_released {
     uint8_t refusal;
 } ceromby_released;
 
+/* Four floors, numbered 0 to 3, with a joint allowance of canisters aboard. A barge isn't sound, and is refused by 30, if the
+   allowance isn't 1 to 4,032, or if any floor isn't well formed. More canisters than that may be aboard: then nothing is
+   booked until enough have been delivered. */
+typedef struct ceromby_barge {
+    ceromby_floor floors[CEROMBY_FLOORS];
+    uint32_t allowance;
+} ceromby_barge;
+
+typedef struct ceromby_barge_answer {
+    ceromby_barge barge;
+    uint8_t refusal;
+} ceromby_barge_answer;
+
+typedef struct ceromby_barge_placed {
+    ceromby_barge barge;
+    uint16_t a; /* the place that the canister took; where refused, (0, 0) */
+    uint16_t b;
+    uint8_t refusal;
+} ceromby_barge_placed;
+
+typedef struct ceromby_barge_rounded {
+    ceromby_barge barge;
+    ceromby_report report;
+    uint8_t refusal;
+} ceromby_barge_rounded;
+
 /* A floor without canisters. Refused by 1, 2, 3. */
 ceromby_answer ceromby_fresh(ceromby_settings settings);
 
@@ -363,6 +398,26 @@ ceromby_released ceromby_plan_release(ceromby_plan plan, ceromby_floor floor, ui
 /* Marks delivered the booked entries whose numbers a round's report lists for any hopper, and changes nothing else. Hand in
    every report from the first release on. Refused by 30 (the plan isn't sound, or a ceromby_delivery.count is above 4), 47. */
 ceromby_planned ceromby_plan_report(ceromby_plan plan, ceromby_report report);
+
+/* The calls on a floor of a barge. Each does to the floor of that number what the call without a barge does to a lone one, and
+   leaves the other three and the allowance. A refused one gives the barge that was handed in. First comes 30 (the barge isn't
+   sound), then 49, then what the call is refused by on a lone floor, and last, for the two bookings, 50: as many canisters are
+   aboard, on all four floors together, as the allowance, or more. Each delivery, on any floor, makes room for one more. */
+
+/* Refused by 30, 49, 4, 5, 6, 7, 31, 33, 34, 50. */
+ceromby_barge_answer ceromby_barge_book(ceromby_barge barge, uint32_t floor, uint32_t tile, ceromby_canister canister);
+
+/* Refused by 30, 49, 4, 5, 6, 31, 33, 40, 50. */
+ceromby_barge_placed ceromby_barge_book_anywhere(ceromby_barge barge, uint32_t floor, uint32_t tile, uint32_t number);
+
+/* Refused by 30, 49, 4, 8, 31. */
+ceromby_barge_answer ceromby_barge_stop(ceromby_barge barge, uint32_t floor, uint32_t tile);
+
+/* Refused by 30, 49, 4, 32. */
+ceromby_barge_answer ceromby_barge_repair(ceromby_barge barge, uint32_t floor, uint32_t tile);
+
+/* One round of one floor; the report is that floor's. Refused by 30, 49. */
+ceromby_barge_rounded ceromby_barge_round(ceromby_barge barge, uint32_t floor);
 
 #ifdef __cplusplus
 }

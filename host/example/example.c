@@ -249,6 +249,33 @@ static void follow(ceromby_floor floor) {
     printf("offer of a plan that claims 65 entries: %u\n", ceromby_plan_offer(plan).refusal);
 }
 
+/* Four floors with room for two canisters together: the third is booked once one of them was delivered. */
+static void share(ceromby_floor floor) {
+    static ceromby_barge barge;
+    for (unsigned i = 0; i < CEROMBY_FLOORS; i++)
+        barge.floors[i] = floor;
+    barge.allowance = 2;
+    ceromby_barge_placed placed = ceromby_barge_book_anywhere(barge, 0, 0, 5);
+    printf("book on floor 0: %u at (%u, %u)\n", placed.refusal, placed.a, placed.b);
+    ceromby_canister canister = {.number = 5, .a = 60, .b = 0};
+    ceromby_barge_answer answer = ceromby_barge_book(placed.barge, 3, 0, canister);
+    printf("book on floor 3: %u\n", answer.refusal);
+    printf("book on floor 1: %u\n", ceromby_barge_book(answer.barge, 1, 0, canister).refusal);
+    ceromby_barge_rounded rounded = ceromby_barge_round(answer.barge, 3);
+    ceromby_delivery delivery = rounded.report.deliveries[0];
+    printf("round of floor 3: %u, %u delivered, number %lu\n", rounded.refusal, delivery.count,
+           (unsigned long)delivery.numbers[0]);
+    printf("book on floor 1: %u\n", ceromby_barge_book(rounded.barge, 1, 0, canister).refusal);
+    answer = ceromby_barge_stop(rounded.barge, 0, 0);
+    printf("stop tile 0 of floor 0: %u\n", answer.refusal);
+    show("  floor 0", answer.barge.floors[0]);
+    show("  floor 1", answer.barge.floors[1]);
+    printf("repair it: %u\n", ceromby_barge_repair(answer.barge, 0, 0).refusal);
+    printf("round of floor 4: %u\n", ceromby_barge_round(answer.barge, CEROMBY_FLOORS).refusal);
+    barge.allowance = CEROMBY_MAX_ALLOWANCE + 1;
+    printf("an allowance of 4,033: %u\n", ceromby_barge_round(barge, CEROMBY_FLOORS).refusal);
+}
+
 int main(void) {
     ceromby_settings settings = {
         .columns = 2, .rows = 1, .hoppers = CEROMBY_TILE(1), .sources = CEROMBY_TILE(0),
@@ -268,5 +295,6 @@ int main(void) {
     start_blank();
     measure();
     follow(ceromby_fresh(settings).floor);
+    share(ceromby_fresh(settings).floor);
     return 0;
 }

@@ -122,10 +122,29 @@ static void plan(void) {
     FIELD(released, refusal);
 }
 
+static void barge(void) {
+    SIZE(barge);
+    FIELD(barge, floors);
+    FIELD(barge, allowance);
+    SIZE(barge_answer);
+    FIELD(barge_answer, barge);
+    FIELD(barge_answer, refusal);
+    SIZE(barge_placed);
+    FIELD(barge_placed, barge);
+    FIELD(barge_placed, a);
+    FIELD(barge_placed, b);
+    FIELD(barge_placed, refusal);
+    SIZE(barge_rounded);
+    FIELD(barge_rounded, barge);
+    FIELD(barge_rounded, report);
+    FIELD(barge_rounded, refusal);
+}
+
 int main(void) {
     values();
     answers();
     throughput();
     plan();
+    barge();
     return 0;
 }

@@ -3,12 +3,14 @@
 //! cost much more than another one. With --growth: how a round's cost grows
 //! with tiles and canisters.
 
+mod barges;
 mod floors;
 mod plans;
 
 use std::hint::black_box;
 use std::time::Instant;
 
+use barges::{fours, Four};
 use floors::{both_shapes, growing, to_book_on, to_list_on, Pair};
 use plans::{stages, Planned};
 
@@ -276,6 +278,95 @@ fn to_release_on() -> Vec<(Pair, u32)> {
         .collect()
 }
 
+/// The calls on the last of a barge's four floors.
+fn barges() {
+    for four in fours() {
+        let (lone, tile) = (&four.lone, four.lone.tile);
+        let name = lone.name.as_str();
+        let number = lone.theirs.counters.last + 1;
+        let (a, b) = lone.place;
+        let place = ceromby::Canister { number, a, b };
+        let same = oracle::Canister { number, a, b };
+        let (ours, theirs) = (black_box(&four.ours), black_box(&four.theirs));
+        row!(
+            name,
+            "barge book",
+            ceromby::barge::book(ours, 3, tile, place),
+            oracle::barge_book(theirs, 3, tile, same)
+        );
+        row!(
+            name,
+            "barge book anywhere",
+            ceromby::barge::book_anywhere(ours, 3, tile, number),
+            oracle::barge_book_anywhere(theirs, 3, tile, number)
+        );
+        row!(
+            name,
+            "barge stop",
+            ceromby::barge::stop(ours, 3, tile),
+            oracle::barge_stop(theirs, 3, tile)
+        );
+        row!(
+            name,
+            "barge round",
+            ceromby::barge::round(ours, 3),
+            oracle::barge_round(theirs, 3)
+        );
+        let Four { ours, theirs, .. } = four.stopped();
+        let (ours, theirs) = (black_box(&ours), black_box(&theirs));
+        row!(
+            name,
+            "barge repair",
+            ceromby::barge::repair(ours, 3, tile),
+            oracle::barge_repair(theirs, 3, tile)
+        );
+    }
+}
+
+/// The same beside the calls on a lone floor.
+fn beside_lone() {
+    for four in fours() {
+        let (lone, tile) = (&four.lone, four.lone.tile);
+        let name = lone.name.as_str();
+        let number = lone.theirs.counters.last + 1;
+        let (a, b) = lone.place;
+        let place = ceromby::Canister { number, a, b };
+        let (ours, floor) = (black_box(&four.ours), black_box(&lone.ours));
+        row!(
+            name,
+            "barge book",
+            ceromby::barge::book(ours, 3, tile, place),
+            ceromby::book(floor, tile, place)
+        );
+        row!(
+            name,
+            "barge book anywhere",
+            ceromby::barge::book_anywhere(ours, 3, tile, number),
+            ceromby::book_anywhere(floor, tile, number)
+        );
+        row!(
+            name,
+            "barge stop",
+            ceromby::barge::stop(ours, 3, tile),
+            ceromby::stop(floor, tile)
+        );
+        row!(
+            name,
+            "barge round",
+            ceromby::barge::round(ours, 3),
+            ceromby::round(floor)
+        );
+        let Four { ours, lone, .. } = four.stopped();
+        let (ours, floor) = (black_box(&ours), black_box(&lone.ours));
+        row!(
+            name,
+            "barge repair",
+            ceromby::barge::repair(ours, 3, tile),
+            ceromby::repair(floor, tile)
+        );
+    }
+}
+
 /// How a round's cost grows: floor and canisters by row.
 fn growth() {
     for pair in growing() {
@@ -300,10 +391,13 @@ fn main() {
     }
     feeds();
     planned();
+    barges();
     head("library ns", "book ns");
     anywhere();
     head("library ns", "singly ns");
     lists();
     head("library ns", "anywhere ns");
     releases();
+    head("library ns", "lone ns");
+    beside_lone();
 }

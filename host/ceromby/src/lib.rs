@@ -1,10 +1,12 @@
 //! Safe binding to the canister floor's static library. Every call refuses
 //! bad input by itself, so nothing is tested here.
 
+pub mod barge;
 pub mod plan;
 mod throughput;
 mod types;
 
+pub use barge::{Barge, BargeAnswer, BargePlaced, BargeRounded};
 pub use plan::{Entry, Offered, Plan, Planned, Released, Stage};
 pub use throughput::{feed, Fed, Throughput, Told};
 pub use types::{
@@ -14,6 +16,7 @@ pub use types::{
 };
 
 mod raw {
+    use crate::barge::{Barge, BargeAnswer, BargePlaced, BargeRounded};
     use crate::plan::{Offered, Plan, Planned, Released};
     use crate::throughput::{Throughput, Told};
     use crate::types::{
@@ -39,6 +42,21 @@ mod raw {
         pub fn ceromby_plan_offer(plan: Plan) -> Offered;
         pub fn ceromby_plan_release(plan: Plan, floor: Floor, label: u32) -> Released;
         pub fn ceromby_plan_report(plan: Plan, report: Report) -> Planned;
+        pub fn ceromby_barge_book(
+            barge: Barge,
+            floor: u32,
+            tile: u32,
+            canister: Canister,
+        ) -> BargeAnswer;
+        pub fn ceromby_barge_book_anywhere(
+            barge: Barge,
+            floor: u32,
+            tile: u32,
+            number: u32,
+        ) -> BargePlaced;
+        pub fn ceromby_barge_stop(barge: Barge, floor: u32, tile: u32) -> BargeAnswer;
+        pub fn ceromby_barge_repair(barge: Barge, floor: u32, tile: u32) -> BargeAnswer;
+        pub fn ceromby_barge_round(barge: Barge, floor: u32) -> BargeRounded;
     }
 }
 

@@ -3,9 +3,9 @@
 use std::mem::{offset_of, size_of};
 
 use ceromby::{
-    Answer, Booking, Canister, Counters, Delivery, Entry, Floor, Layout, Name, Offered, Placed,
-    Plan, Planned, Reading, Released, Report, Rounded, Settings, Side, Throughput, Tile, Told,
-    Written,
+    Answer, Barge, BargeAnswer, BargePlaced, BargeRounded, Booking, Canister, Counters, Delivery,
+    Entry, Floor, Layout, Name, Offered, Placed, Plan, Planned, Reading, Released, Report, Rounded,
+    Settings, Side, Throughput, Tile, Told, Written,
 };
 
 macro_rules! layout {
@@ -48,6 +48,10 @@ fn as_in_c() {
         "offered" Offered { label, refusal }
         "planned" Planned { plan, refusal }
         "released" Released { floor, plan, number, a, b, refusal }
+        "barge" Barge { floors, allowance }
+        "barge_answer" BargeAnswer { barge, refusal }
+        "barge_placed" BargePlaced { barge, a, b, refusal }
+        "barge_rounded" BargeRounded { barge, report, refusal }
     };
     assert_eq!(ours, include_str!("../../example/layout.txt"));
 }

@@ -9,6 +9,7 @@ use oracle::{
     Reading, ReleaseAnswer, Report, RoundAnswer, Settings, Throughput, Tile, WriteAnswer,
 };
 
+use crate::barges::{self, Given, Named};
 use crate::layouts::{self, Name};
 use crate::{book_lists, convert, page, places, plans, reasons, throughput};
 
@@ -71,9 +72,10 @@ pub enum Call {
         plan: Box<Plan>,
         report: Box<Report>,
     },
+    Barge(Box<Named>),
 }
 
-pub const NAMES: [&str; 18] = [
+pub const NAMES: [&str; 23] = [
     "fresh",
     "book",
     "stop",
@@ -92,6 +94,20 @@ pub const NAMES: [&str; 18] = [
     "plan offer",
     "plan release",
     "plan report",
+    BARGE_NAMES[0],
+    BARGE_NAMES[1],
+    BARGE_NAMES[2],
+    BARGE_NAMES[3],
+    BARGE_NAMES[4],
+];
+
+/// The calls on a floor of a barge.
+pub const BARGE_NAMES: [&str; 5] = [
+    "barge book",
+    "barge anywhere",
+    "barge stop",
+    "barge repair",
+    "barge round",
 ];
 
 pub const BOOK: usize = 1;
@@ -104,6 +120,8 @@ pub const BOOK_ANYWHERE: usize = 11;
 pub const OFFER: usize = 15;
 pub const RELEASE: usize = 16;
 pub const REPORT: usize = 17;
+/// The first of the calls on a barge.
+pub const BARGE: usize = 18;
 
 impl Call {
     /// Its place among `NAMES`.
@@ -127,6 +145,7 @@ impl Call {
             Call::Offer { .. } => OFFER,
             Call::Release { .. } => RELEASE,
             Call::Report { .. } => REPORT,
+            Call::Barge(named) => BARGE + named.sort(),
         }
     }
 
@@ -217,6 +236,7 @@ pub enum Outcome {
     Offered(OfferAnswer),
     Released(Box<ReleaseAnswer>),
     Planned(Box<PlanAnswer>),
+    OnBarge(Box<Given>),
 }
 
 impl Outcome {
@@ -231,6 +251,7 @@ impl Outcome {
             Outcome::Offered(answer) => answer.refusal,
             Outcome::Released(answer) => answer.refusal,
             Outcome::Planned(answer) => answer.refusal,
+            Outcome::OnBarge(given) => given.refusal,
         }
     }
 
@@ -329,7 +350,7 @@ fn listed(floor: &ceromby::Floor, list: &[Booking]) -> (ceromby::Answer, Vec<Boo
     (answer, after)
 }
 
-fn by_library(floor: &Floor, call: &Call) -> Outcome {
+pub fn by_library(floor: &Floor, call: &Call) -> Outcome {
     let theirs = || convert::to_floor(floor);
     let answer = match call {
         Call::Fresh { settings } => ceromby::fresh(convert::to_settings(settings)),
@@ -375,6 +396,7 @@ fn by_library(floor: &Floor, call: &Call) -> Outcome {
         Call::Report { plan, report } => {
             return Outcome::Planned(plans::report(plan, report).into());
         }
+        Call::Barge(named) => return Outcome::OnBarge(named.by_library().into()),
     };
     Outcome::Answer(convert::from_answer(&answer))
 }
@@ -417,6 +439,7 @@ fn by_oracle(floor: &Floor, call: &Call) -> Outcome {
         Call::Report { plan, report } => {
             return Outcome::Planned(oracle::report(plan, report).into());
         }
+        Call::Barge(named) => return Outcome::OnBarge(named.by_oracle().into()),
     })
 }
 
@@ -501,6 +524,7 @@ pub fn both(floor: &Floor, call: &Call) -> Result<Outcome, Trouble> {
         (Outcome::Written(answer, buffer), Call::Page { .. }) => {
             page::check(floor, answer, buffer)?;
         }
+        (Outcome::OnBarge(given), Call::Barge(named)) => barges::check(named, given)?,
         _ if call.takes_a_plan() => plans::check(floor, call, &library)?,
         _ => layouts::check(floor, call, &library)?,
     }
@@ -533,7 +557,11 @@ fn keeps_all(floor: &Floor, call: &Call, outcome: &Outcome) -> bool {
             answer.floor == *floor && answer.plan == **plan && told == (0, 0, 0)
         }
         (Outcome::Planned(answer), Call::Report { plan, .. }) => answer.plan == **plan,
-        (Outcome::Fed(_) | Outcome::Released(_) | Outcome::Planned(_), _) => false,
+        (Outcome::OnBarge(given), Call::Barge(named)) => {
+            given.barge == named.barge && given.place == (0, 0) && given.report == Report::ZERO
+        }
+        (Outcome::Fed(_) | Outcome::Released(_), _) => false,
+        (Outcome::Planned(_) | Outcome::OnBarge(_), _) => false,
     }
 }
 
@@ -571,12 +599,17 @@ fn describe(library: &Outcome, oracle: &Outcome) -> String {
             fields.floor(&one.floor, &other.floor);
         }
         (Outcome::Round(one), Outcome::Round(other)) => {
-            let (ones, others) = (&one.report, &other.report);
-            fields.each("grant of tile", &ones.grants, &others.grants);
-            fields.each("reason of tile", &ones.reasons, &others.reasons);
-            fields.each("missing ahead of tile", &ones.missing, &others.missing);
-            fields.each("delivery", &ones.deliveries, &others.deliveries);
+            fields.report(&one.report, &other.report);
             fields.floor(&one.floor, &other.floor);
+        }
+        (Outcome::OnBarge(one), Outcome::OnBarge(other)) => {
+            fields.note("place told", &one.place, &other.place);
+            fields.report(&one.report, &other.report);
+            let (ones, others) = (&one.barge, &other.barge);
+            fields.note("allowance", &ones.allowance, &others.allowance);
+            for (one, other) in ones.floors.iter().zip(&others.floors) {
+                fields.floor(one, other);
+            }
         }
         (Outcome::Reading(one), Outcome::Reading(other)) => {
             fields.note("tile", &one.tile, &other.tile);
@@ -628,6 +661,13 @@ impl Fields {
                 self.note(&format!("{name} {at}"), one, other);
             }
         }
+    }
+
+    fn report(&mut self, one: &Report, other: &Report) {
+        self.each("grant of tile", &one.grants, &other.grants);
+        self.each("reason of tile", &one.reasons, &other.reasons);
+        self.each("missing ahead of tile", &one.missing, &other.missing);
+        self.each("delivery", &one.deliveries, &other.deliveries);
     }
 
     fn plan(&mut self, one: &Plan, other: &Plan) {

@@ -1,7 +1,7 @@
 //! Between the binding's structs and the oracle's.
 
 use oracle::{
-    Answer, Booking, Canister, Counters, Delivery, Entry, Floor, Layout, PlaceAnswer, Plan,
+    Answer, Barge, Booking, Canister, Counters, Delivery, Entry, Floor, Layout, PlaceAnswer, Plan,
     PlanAnswer, Reading, ReleaseAnswer, Report, RoundAnswer, Settings, Tile, WriteAnswer,
 };
 
@@ -140,16 +140,20 @@ fn from_delivery(from: ceromby::Delivery) -> Delivery {
     }
 }
 
+pub fn from_report(from: &ceromby::Report) -> Report {
+    Report {
+        grants: from.grants,
+        reasons: from.reasons,
+        missing: from.missing,
+        deliveries: from.deliveries.map(from_delivery),
+    }
+}
+
 pub fn from_rounded(from: &ceromby::Rounded) -> RoundAnswer {
     RoundAnswer {
         refusal: from.refusal,
         floor: from_floor(&from.floor),
-        report: Report {
-            grants: from.report.grants,
-            reasons: from.report.reasons,
-            missing: from.report.missing,
-            deliveries: from.report.deliveries.map(from_delivery),
-        },
+        report: from_report(&from.report),
     }
 }
 
@@ -223,5 +227,19 @@ pub fn from_released(from: &ceromby::Released) -> ReleaseAnswer {
         number: from.number,
         a: from.a,
         b: from.b,
+    }
+}
+
+pub fn to_barge(from: &Barge) -> ceromby::Barge {
+    ceromby::Barge {
+        floors: from.floors.each_ref().map(to_floor),
+        allowance: from.allowance,
+    }
+}
+
+pub fn from_barge(from: &ceromby::Barge) -> Barge {
+    Barge {
+        floors: from.floors.each_ref().map(from_floor),
+        allowance: from.allowance,
     }
 }

@@ -1,6 +1,7 @@
 //! Long random runs of the library against the second implementation.
 
 mod arrows;
+mod barges;
 mod blank;
 mod book_lists;
 mod call;
@@ -80,6 +81,10 @@ fn requests(extent: Extent, tally: &mut Tally) -> Result<(), Found> {
             let mut own = Rng::new(Rng::new(!extent.seed ^ at << 20 ^ 12).draw());
             single::whole_plan(&mut own, tally).map_err(found("a whole plan"))?;
         }
+        if at % 20 == 0 {
+            let mut own = Rng::new(Rng::new(!extent.seed ^ at << 20 ^ 13).draw());
+            single::barge_list(&mut own, tally).map_err(found("a list on a barge"))?;
+        }
         if at % 100 == 0 {
             single::throughput(&mut rng, tally).map_err(found("the throughput of a floor"))?;
         }
@@ -111,6 +116,8 @@ fn cycles(extent: Extent, tally: &mut Tally) -> Result<(), Found> {
             single::pages(&mut own, tally).map_err(found("a page"))?;
             let mut own = Rng::new(Rng::new(extent.seed ^ cycle << 20 ^ 12).draw());
             single::plans(&mut own, tally).map_err(found("a plan"))?;
+            let mut own = Rng::new(Rng::new(extent.seed ^ cycle << 20 ^ 13).draw());
+            single::barges(&mut own, tally).map_err(found("a barge"))?;
         }
         if more_images {
             for _ in 0..8 {

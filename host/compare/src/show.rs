@@ -135,6 +135,14 @@ fn call(call: &Call) -> String {
         Call::Feed { record, count } => throughput::show(record, *count),
         Call::Page { size } => format!("page to {size} bytes"),
         Call::Offer { .. } | Call::Release { .. } | Call::Report { .. } => plans::show(call),
+        Call::Barge(named) => {
+            let floors = named.barge.floors.iter().enumerate();
+            let each = |(at, one): (usize, &Floor)| format!("\n  floor {at}:\n{}", floor(one));
+            let floors: String = floors.map(each).collect();
+            let (number, allowance) = (named.floor, named.barge.allowance);
+            let made = self::call(&named.call);
+            format!("on floor {number}, {made}, with an allowance of {allowance}{floors}")
+        }
     }
 }
 
@@ -157,6 +165,16 @@ pub fn size(case: &Case) -> String {
         Some(Call::Fresh { settings: s }) => settings(s),
         Some(Call::Feed { record, count }) => throughput::show(record, *count),
         Some(call) if plans::size(call).is_some() => plans::size(call).unwrap_or_default(),
+        Some(Call::Barge(named)) => {
+            let sides = |floor: &Floor| {
+                let s = &floor.settings;
+                let held: u32 = floor.tiles.iter().map(|t| u32::from(t.count)).sum();
+                format!("{} x {}, {held} canisters", s.columns, s.rows)
+            };
+            let floors: Vec<String> = named.barge.floors.iter().map(sides).collect();
+            let (floors, allowance) = (floors.join("; "), named.barge.allowance);
+            format!("{floors}; allowance {allowance}, floor {}", named.floor)
+        }
         last => {
             let list = match last {
                 Some(Call::BookList { list }) => format!(", a list of {}", list.len()),

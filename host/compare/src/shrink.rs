@@ -5,6 +5,7 @@ use oracle::{
     NONE, NO_SIDE, PLACES,
 };
 
+use crate::barges::Named;
 use crate::call::{Call, Trouble};
 use crate::images::{self, Line};
 use crate::makers;
@@ -429,8 +430,87 @@ fn smaller_calls(floor: &Floor, call: &Call) -> Vec<Call> {
             .map(|settings| Call::Fresh { settings })
             .into(),
         Call::Feed { record, count } => throughput::smaller(record, *count),
+        Call::Barge(named) => smaller_barges(named)
+            .into_iter()
+            .map(|named| Call::Barge(named.into()))
+            .collect(),
         _ => plans::smaller(call),
     }
+}
+
+/// Each floor made smaller, as for a lone floor, with the same allowance and
+/// with one that has as much left; a smaller allowance; a plainer call.
+fn smaller_barges(named: &Named) -> Vec<Named> {
+    let mut tries = Vec::new();
+    for (at, floor) in named.barge.floors.iter().enumerate() {
+        let own = at == named.floor as usize;
+        let case = Case {
+            first: *floor,
+            calls: own.then(|| named.call.clone()).into_iter().collect(),
+            drain: false,
+            must: None,
+            sound: false,
+            either: false,
+        };
+        for change in rough_changes(floor) {
+            let mut case = case.clone();
+            if !change.apply(&mut case) || case.first == *floor {
+                continue;
+            }
+            let mut less = named.clone();
+            less.barge.floors[at] = case.first;
+            if let (true, Some(call)) = (own, case.calls.pop()) {
+                less.call = call;
+            }
+            let gone = named.barge.total().saturating_sub(less.barge.total());
+            tries.push(less.clone());
+            less.barge.allowance = less.barge.allowance.saturating_sub(gone);
+            tries.push(less);
+        }
+    }
+    for least in [1, 2, 4_032, 4_033] {
+        let mut less = named.clone();
+        less.barge.allowance = less.barge.allowance.min(least);
+        tries.push(less);
+    }
+    if let Some(floor) = named.barge.floors.get(named.floor as usize) {
+        let calls = smaller_calls(floor, &named.call).into_iter();
+        tries.extend(calls.map(|call| Named {
+            call,
+            ..named.clone()
+        }));
+    }
+    tries
+}
+
+/// Two tiles without canisters.
+const PLAIN: Settings = Settings {
+    columns: 2,
+    rows: 1,
+    hoppers: 2,
+    sources: 0,
+    width: 100,
+    length: 30,
+    gap: 10,
+    travel: 20,
+};
+
+/// Changes of a floor of a barge: few of them, as each has four floors. None of
+/// the plain floor and of the all-zero one, so that nothing leads back.
+fn rough_changes(floor: &Floor) -> Vec<Change> {
+    let plain = |floor: &mut Floor| *floor = oracle::fresh(PLAIN).floor;
+    if *floor == Floor::ZERO || *floor == oracle::fresh(PLAIN).floor {
+        return Vec::new();
+    }
+    let mut changes = vec![Change::Floor(plain)];
+    let held: usize = floor.tiles.iter().map(|tile| usize::from(tile.count)).sum();
+    let all = floor_changes(floor).into_iter();
+    changes.extend(all.filter(|change| match change {
+        Change::Place(..) => false,
+        Change::Remove(..) | Change::Tile(..) => held < 20,
+        _ => true,
+    }));
+    changes
 }
 
 /// Half of a list, one entry less, or a lower number.

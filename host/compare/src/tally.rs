@@ -1,17 +1,18 @@
 //! What the runs met.
 
 use std::fmt::Display;
+use std::ops::Range;
 
 use oracle::{Floor, Grid, RoundAnswer, Side};
 
-use crate::call::{Call, Outcome, NAMES, OFFER, REPORT};
+use crate::call::{Call, Outcome, BARGE, NAMES, OFFER};
 use crate::{
-    arrows, blank, book_lists, exchange, hoppers, layouts, page, places, plans, reasons,
+    arrows, barges, blank, book_lists, exchange, hoppers, layouts, page, places, plans, reasons,
     throughput, waits,
 };
 
 /// The answers that each call can give, in the order of `NAMES`.
-const ANSWERS: [&[u8]; 18] = [
+const ANSWERS: [&[u8]; 23] = [
     &[0, 1, 2, 3],
     &[0, 30, 4, 5, 6, 7, 31, 33, 34],
     &[0, 30, 4, 8, 31],
@@ -30,6 +31,11 @@ const ANSWERS: [&[u8]; 18] = [
     &[0, 30, 47],
     &[0, 30, 47, 48, 4, 5, 31, 33, 40],
     &[0, 30, 47],
+    &[0, 30, 49, 4, 5, 6, 7, 31, 33, 34, 50],
+    &[0, 30, 49, 4, 5, 6, 31, 33, 40, 50],
+    &[0, 30, 49, 4, 8, 31],
+    &[0, 30, 49, 4, 32],
+    &[0, 30, 49],
 ];
 
 #[derive(Default)]
@@ -52,6 +58,7 @@ pub struct Tally {
     pub throughput: throughput::Counts,
     page: page::Counts,
     pub plans: plans::Counts,
+    pub barges: barges::Counts,
     pub settled: u64,
     /// Arrows kept and lists held to the bound in the runs for single requests.
     tied: [u64; 2],
@@ -78,6 +85,7 @@ impl Tally {
     /// Takes over what the runs for single requests met.
     pub fn add(&mut self, further: Tally) {
         self.take_plans(&further);
+        self.take_barges(&further);
         self.exchanges = further.exchanges;
         self.waits.add(&further.waits);
         self.hoppers.add(&further.hoppers);
@@ -96,7 +104,17 @@ impl Tally {
     /// Takes over what a run met of plans, and no more.
     pub fn take_plans(&mut self, own: &Tally) {
         self.plans.add(&own.plans);
-        for kind in OFFER..=REPORT {
+        self.take_answers(own, OFFER..BARGE);
+    }
+
+    /// Takes over what a run met of barges, and no more.
+    pub fn take_barges(&mut self, own: &Tally) {
+        self.barges.add(&own.barges);
+        self.take_answers(own, BARGE..NAMES.len());
+    }
+
+    fn take_answers(&mut self, own: &Tally, kinds: Range<usize>) {
+        for kind in kinds {
             for (count, more) in self.answers[kind].iter_mut().zip(own.answers[kind]) {
                 *count += more;
             }
@@ -115,6 +133,9 @@ impl Tally {
         }
         if let Call::Page { size } = call {
             self.page.note(before, *size, outcome.refusal());
+        }
+        if let (Call::Barge(named), Outcome::OnBarge(given)) = (call, outcome) {
+            self.barges.note(named, given);
         }
         if call.takes_a_plan() {
             self.plans.note(before, call, outcome);
@@ -195,6 +216,7 @@ impl Tally {
             self.throughput.lines(),
             self.page.lines(),
             self.plans.lines(),
+            self.barges.lines(),
         ];
         for (name, cells) in lines.into_iter().flatten() {
             print_line(&name, cells, &mut missing);

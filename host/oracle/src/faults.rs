@@ -150,6 +150,20 @@ faults! {
     LabelCut "label-cut" "the label asked for is cut to eight bits"
     NoNumberFirst "no-number-first" "33 before 4 where no number is left"
     NumberCleared "number-cleared" "a report clears the number of what it marks"
+    AllowanceFirst "allowance-first" "50 before 34 and 40"
+    FloorsTotal "floors-total" "the canisters of the named floor alone are held against the allowance"
+    OtherFloorMoves "other-floor-moves" "a round moves the next floor too"
+    FloorFirst "floor-first" "49 before 30"
+    AllowanceLate "allowance-late" "50 one canister later"
+    NamedFloorAlone "named-floor-alone" "30 by the named floor alone"
+    NoAllowance "no-allowance" "an allowance of 0 is accepted"
+    LargerAllowance "larger-allowance" "an allowance of 4,033 is accepted"
+    FloorCut "floor-cut" "the floor's number is cut to eight bits"
+    OverloadRefused "overload-refused" "30 for a total above the allowance"
+    DeliveredAboard "delivered-aboard" "a delivery doesn't lower the total"
+    AnywhereFree "anywhere-free" "a booking without a place is never 50"
+    PlaceBeyond "place-beyond" "a booking that is 50 tells its place"
+    StopLoaded "stop-loaded" "a stop may be 50"
 }
 
 #[cfg(feature = "faults")]

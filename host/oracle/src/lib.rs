@@ -6,6 +6,7 @@
 #![forbid(unsafe_code)]
 
 mod anywhere;
+mod barge;
 mod calls;
 mod check;
 #[cfg(feature = "faults")]
@@ -26,6 +27,10 @@ mod throughput;
 mod types;
 
 pub use anywhere::{book_anywhere, place_by_candidates, place_by_pairs};
+pub use barge::{
+    barge_book, barge_book_anywhere, barge_repair, barge_round, barge_stop, Barge, BargeAnswer,
+    BargePlaceAnswer, BargeRoundAnswer, FLOORS, MAX_ALLOWANCE,
+};
 pub use calls::{book, fresh, read, repair, stop};
 pub use check::{settings_refusal, well_formed};
 pub use grid::{Grid, Side, Spot};

@@ -36,3 +36,6 @@ pub const LAYOUTS_FULL: u8 = 46;
 
 pub const BAD_LABEL: u8 = 47;
 pub const NOT_RELEASED: u8 = 48;
+
+pub const NO_FLOOR: u8 = 49;
+pub const OVERLOADED: u8 = 50;

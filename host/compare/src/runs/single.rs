@@ -4,11 +4,12 @@ use oracle::random::{self, Rng};
 use oracle::Floor;
 
 use super::{arbitrary_floor, begin, damaged_floor, finish, list_settings, Failure, Run};
+use crate::barges::{Follow as Loads, Named};
 use crate::call::{Call, Outcome, Trouble};
 use crate::plans::Follow;
 use crate::tally::Tally;
 use crate::throughput::{self, Follow as Feeds};
-use crate::{arrows, blank, book_lists, exchange, layouts, makers, page, places, plans};
+use crate::{arrows, barges, blank, book_lists, exchange, layouts, makers, page, places, plans};
 
 /// Every pair in either order, on a well-formed floor and on a damaged one.
 pub fn exchange_once(rng: &mut Rng, tally: &mut Tally) -> Result<(), Box<Failure>> {
@@ -357,6 +358,99 @@ pub fn whole_plan(rng: &mut Rng, tally: &mut Tally) -> Result<(), Box<Failure>> 
     })?;
     follow.tell(&mut own.plans);
     tally.take_plans(&own);
+    Ok(())
+}
+
+/// Any barges, each with a few calls on any floor: sound ones, with an
+/// allowance near the total, and damaged ones.
+pub fn barges(rng: &mut Rng, tally: &mut Tally) -> Result<(), Box<Failure>> {
+    let mut own = Tally::new();
+    for at in 0..3 {
+        let mut barge = barges::any_barge(rng, |rng| match rng.below(4) {
+            0 => oracle::fresh(list_settings(rng)).floor,
+            1 => makers::nearly_full_floor(rng),
+            _ => arbitrary_floor(rng),
+        });
+        let mut must = None;
+        if at == 2 {
+            let (bad, known) = damaged_floor(rng, &mut Tally::new());
+            let certain = barges::damage(rng, &mut barge, bad) || known;
+            must = certain.then_some(30);
+        }
+        finish(begin(Floor::ZERO, false, must), &mut own, |run| {
+            for _ in 0..4 {
+                let floor = barges::any_floor_number(rng);
+                let call = barges::any_call(rng, &barge, floor);
+                let named = Named { barge, floor, call };
+                run.case.calls.clear();
+                if let Outcome::OnBarge(given) = run.make(Call::Barge(named.into()))? {
+                    barge = given.barge;
+                }
+            }
+            Ok(())
+        })?;
+    }
+    if rng.chance(1, 16) {
+        full_barge(rng, &mut own)?;
+    }
+    tally.take_barges(&own);
+    Ok(())
+}
+
+/// Bookings on a barge that is full, or has room for one more canister.
+fn full_barge(rng: &mut Rng, tally: &mut Tally) -> Result<(), Box<Failure>> {
+    let (mut barge, floor, tile) = barges::full_barge(rng);
+    finish(begin(Floor::ZERO, false, None), tally, |run| {
+        for _ in 0..2 {
+            let number = barge.floors[floor as usize].counters.last + 1;
+            let call = Call::BookAnywhere { tile, number };
+            let named = Named { barge, floor, call };
+            run.case.calls.clear();
+            if let Outcome::OnBarge(given) = run.make(Call::Barge(named.into()))? {
+                barge = given.barge;
+            }
+        }
+        Ok(())
+    })
+}
+
+/// Bookings, stops, repairs and rounds on all four floors of a barge.
+pub fn barge_list(rng: &mut Rng, tally: &mut Tally) -> Result<(), Box<Failure>> {
+    let fresh = rng.chance(1, 2);
+    let mut barge = barges::any_barge(rng, |rng| match fresh {
+        true => oracle::fresh(list_settings(rng)).floor,
+        false => random::floor(rng),
+    });
+    if fresh {
+        barge.allowance = rng.range(1, 20) as u32;
+    }
+    let mut follow = Loads::of(barge);
+    let mut own = Tally::new();
+    finish(begin(Floor::ZERO, false, None), &mut own, |run| {
+        for at in 0..rng.range(50, 200) {
+            let floor = match rng.chance(1, 40) {
+                true => barges::any_floor_number(rng),
+                false => rng.below(4) as u32,
+            };
+            let lone = follow.barge.floors.get(floor as usize);
+            let call = barges::list_call(rng, lone.unwrap_or(&follow.barge.floors[0]));
+            let named = Named {
+                barge: follow.barge,
+                floor,
+                call,
+            };
+            run.case.calls.clear();
+            if let Outcome::OnBarge(given) = run.make(Call::Barge(named.clone().into()))? {
+                follow.note(&named, &given, run.tally)?;
+            }
+            if at % 16 == 0 {
+                follow.check()?;
+            }
+        }
+        follow.check()
+    })?;
+    follow.tell(&mut own.barges);
+    tally.take_barges(&own);
     Ok(())
 }
 

@@ -2,6 +2,7 @@
 
 mod anywhere;
 mod arrows;
+mod barge;
 mod blank;
 mod book_list;
 mod common;

@@ -1,0 +1,96 @@
+//! Four floors with one allowance. Each call names a floor, 0 to 3, does there
+//! what the call of the same name does on a lone one, and leaves the others.
+
+use crate::raw;
+use crate::types::{Canister, Floor, Report};
+
+/// The floors of a barge.
+pub const FLOORS: usize = 4;
+/// The greatest allowance; the least is 1.
+pub const MAX_ALLOWANCE: u32 = 4_032;
+
+/// Any bytes may stand here; a barge that isn't sound is refused by 30.
+#[repr(C)]
+#[derive(Clone, Copy, PartialEq, Eq, Debug)]
+pub struct Barge {
+    pub floors: [Floor; FLOORS],
+    /// With so many canisters aboard, or more, bookings are refused by 50.
+    pub allowance: u32,
+}
+
+impl Barge {
+    /// The canisters on all four floors.
+    pub fn total(&self) -> u32 {
+        let tiles = self.floors.iter().flat_map(|floor| &floor.tiles);
+        tiles.map(|tile| u32::from(tile.count)).sum()
+    }
+}
+
+#[repr(C)]
+#[derive(Clone, Copy, PartialEq, Eq, Debug)]
+pub struct BargeAnswer {
+    pub barge: Barge,
+    /// 0 for accepted.
+    pub refusal: u8,
+}
+
+/// The answer of a booking without a place.
+#[repr(C)]
+#[derive(Clone, Copy, PartialEq, Eq, Debug)]
+pub struct BargePlaced {
+    pub barge: Barge,
+    /// The place that the canister took. Beside a refusal it is (0, 0), which
+    /// is a place too; `place` gives none then.
+    pub a: u16,
+    pub b: u16,
+    /// 0 for accepted.
+    pub refusal: u8,
+}
+
+impl BargePlaced {
+    /// The place (a, b) that the canister took, if it was accepted.
+    pub fn place(&self) -> Option<(u16, u16)> {
+        (self.refusal == 0).then_some((self.a, self.b))
+    }
+}
+
+#[repr(C)]
+#[derive(Clone, Copy, PartialEq, Eq, Debug)]
+pub struct BargeRounded {
+    pub barge: Barge,
+    /// Of the floor that was named.
+    pub report: Report,
+    /// 0 for accepted.
+    pub refusal: u8,
+}
+
+/// Adds a canister to a tile of a floor.
+pub fn book(barge: &Barge, floor: u32, tile: u32, canister: Canister) -> BargeAnswer {
+    // SAFETY: plain values in and out.
+    unsafe { raw::ceromby_barge_book(*barge, floor, tile, canister) }
+}
+
+/// Adds a canister at the lowest place that keeps the spacing.
+/// [`BargePlaced::place`] tells it.
+pub fn book_anywhere(barge: &Barge, floor: u32, tile: u32, number: u32) -> BargePlaced {
+    // SAFETY: plain values in and out.
+    unsafe { raw::ceromby_barge_book_anywhere(*barge, floor, tile, number) }
+}
+
+/// Stops a tile of a floor.
+pub fn stop(barge: &Barge, floor: u32, tile: u32) -> BargeAnswer {
+    // SAFETY: plain values in and out.
+    unsafe { raw::ceromby_barge_stop(*barge, floor, tile) }
+}
+
+/// Sets a stopped tile of a floor running.
+pub fn repair(barge: &Barge, floor: u32, tile: u32) -> BargeAnswer {
+    // SAFETY: plain values in and out.
+    unsafe { raw::ceromby_barge_repair(*barge, floor, tile) }
+}
+
+/// One round of a floor.
+pub fn round(barge: &Barge, floor: u32) -> BargeRounded {
+    // SAFETY: plain values in and out.
+    unsafe { raw::ceromby_barge_round(*barge, floor) }
+}
