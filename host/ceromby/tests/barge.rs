@@ -1,18 +1,10 @@
 //! Four floors, one allowance.
 
-use ceromby::barge::{book, book_anywhere, repair, round, stop, FLOORS, MAX_ALLOWANCE};
-use ceromby::{fresh, tile, Barge, Canister, Settings};
+mod common;
 
-const SETTINGS: Settings = Settings {
-    columns: 2,
-    rows: 1,
-    hoppers: tile(1),
-    sources: tile(0),
-    width: 100,
-    length: 30,
-    gap: 10,
-    travel: 20,
-};
+use ceromby::barge::{book, book_anywhere, repair, round, stop, FLOORS, MAX_ALLOWANCE};
+use ceromby::{fresh, Barge, Canister};
+use common::SETTINGS;
 
 fn empty(allowance: u32) -> Barge {
     Barge {

@@ -1,20 +1,12 @@
 //! One short way through every call.
 
+mod common;
+
 use ceromby::{
     book, book_anywhere, book_list, forget, fresh, keep, load, read, reason, recall, repair, round,
     stop, tile, write, Booking, Canister, Layout, Name, Settings, LONGEST_LIST,
 };
-
-const SETTINGS: Settings = Settings {
-    columns: 2,
-    rows: 1,
-    hoppers: tile(1),
-    sources: tile(0),
-    width: 100,
-    length: 30,
-    gap: 10,
-    travel: 20,
-};
+use common::SETTINGS;
 
 #[test]
 fn the_first_trial() {

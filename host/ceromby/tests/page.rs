@@ -1,17 +1,9 @@
 //! The floor on the wheelhouse page.
 
-use ceromby::{book, fresh, load, page, round, stop, tile, Canister, Settings, LONGEST_PAGE};
+mod common;
 
-const SETTINGS: Settings = Settings {
-    columns: 2,
-    rows: 1,
-    hoppers: tile(1),
-    sources: tile(0),
-    width: 100,
-    length: 30,
-    gap: 10,
-    travel: 20,
-};
+use ceromby::{book, fresh, load, page, round, stop, Canister, LONGEST_PAGE};
+use common::SETTINGS;
 
 #[test]
 fn the_fresh_floor_of_two_tiles() {

@@ -1,18 +1,10 @@
 //! Medicated feed follows plain.
 
-use ceromby::plan::{offer, release, report, MAX_ENTRIES};
-use ceromby::{fresh, round, stop, tile, Entry, Plan, Settings, Stage};
+mod common;
 
-const SETTINGS: Settings = Settings {
-    columns: 2,
-    rows: 1,
-    hoppers: tile(1),
-    sources: tile(0),
-    width: 100,
-    length: 30,
-    gap: 10,
-    travel: 20,
-};
+use ceromby::plan::{offer, release, report, MAX_ENTRIES};
+use ceromby::{fresh, round, stop, Entry, Plan, Stage};
+use common::SETTINGS;
 
 #[test]
 fn one_after_the_other() {
