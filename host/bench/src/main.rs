@@ -10,7 +10,7 @@ mod plans;
 use std::hint::black_box;
 use std::time::Instant;
 
-use barges::{fours, Four};
+use barges::fours;
 use floors::{both_shapes, growing, to_book_on, to_list_on, Pair};
 use plans::{stages, Planned};
 
@@ -278,93 +278,76 @@ fn to_release_on() -> Vec<(Pair, u32)> {
         .collect()
 }
 
-/// The calls on the last of a barge's four floors.
-fn barges() {
-    for four in fours() {
-        let (lone, tile) = (&four.lone, four.lone.tile);
-        let name = lone.name.as_str();
-        let number = lone.theirs.counters.last + 1;
-        let (a, b) = lone.place;
-        let place = ceromby::Canister { number, a, b };
-        let same = oracle::Canister { number, a, b };
-        let (ours, theirs) = (black_box(&four.ours), black_box(&four.theirs));
-        row!(
-            name,
-            "barge book",
-            ceromby::barge::book(ours, 3, tile, place),
-            oracle::barge_book(theirs, 3, tile, same)
-        );
-        row!(
-            name,
-            "barge book anywhere",
-            ceromby::barge::book_anywhere(ours, 3, tile, number),
-            oracle::barge_book_anywhere(theirs, 3, tile, number)
-        );
-        row!(
-            name,
-            "barge stop",
-            ceromby::barge::stop(ours, 3, tile),
-            oracle::barge_stop(theirs, 3, tile)
-        );
-        row!(
-            name,
-            "barge round",
-            ceromby::barge::round(ours, 3),
-            oracle::barge_round(theirs, 3)
-        );
-        let Four { ours, theirs, .. } = four.stopped();
-        let (ours, theirs) = (black_box(&ours), black_box(&theirs));
-        row!(
-            name,
-            "barge repair",
-            ceromby::barge::repair(ours, 3, tile),
-            oracle::barge_repair(theirs, 3, tile)
-        );
-    }
+/// The calls on the last of a barge's four floors, each beside another call.
+macro_rules! on_barges {
+    ($side:ident, $($beside:ident).+; $book:expr, $anywhere:expr, $stop:expr, $round:expr, $repair:expr) => {
+        for four in fours() {
+            let (name, tile) = (four.lone.name.as_str(), four.lone.tile);
+            let number = four.lone.theirs.counters.last + 1;
+            let (a, b) = four.lone.place;
+            let place = ceromby::Canister { number, a, b };
+            let same = $side::Canister { number, a, b };
+            let (ours, other) = (black_box(&four.ours), black_box(&four.$($beside).+));
+            row!(
+                name,
+                "barge book",
+                ceromby::barge::book(ours, 3, tile, place),
+                ($book)(other, tile, same)
+            );
+            row!(
+                name,
+                "barge book anywhere",
+                ceromby::barge::book_anywhere(ours, 3, tile, number),
+                ($anywhere)(other, tile, number)
+            );
+            row!(
+                name,
+                "barge stop",
+                ceromby::barge::stop(ours, 3, tile),
+                ($stop)(other, tile)
+            );
+            row!(
+                name,
+                "barge round",
+                ceromby::barge::round(ours, 3),
+                ($round)(other)
+            );
+            let four = four.stopped();
+            let (ours, other) = (black_box(&four.ours), black_box(&four.$($beside).+));
+            row!(
+                name,
+                "barge repair",
+                ceromby::barge::repair(ours, 3, tile),
+                ($repair)(other, tile)
+            );
+        }
+    };
 }
 
-/// The same beside the calls on a lone floor.
+/// Beside the same calls of the oracle.
+fn barges() {
+    on_barges!(
+        oracle,
+        theirs;
+        |barge, tile, place| oracle::barge_book(barge, 3, tile, place),
+        |barge, tile, number| oracle::barge_book_anywhere(barge, 3, tile, number),
+        |barge, tile| oracle::barge_stop(barge, 3, tile),
+        |barge| oracle::barge_round(barge, 3),
+        |barge, tile| oracle::barge_repair(barge, 3, tile)
+    );
+}
+
+/// Beside the calls on a lone floor.
 fn beside_lone() {
-    for four in fours() {
-        let (lone, tile) = (&four.lone, four.lone.tile);
-        let name = lone.name.as_str();
-        let number = lone.theirs.counters.last + 1;
-        let (a, b) = lone.place;
-        let place = ceromby::Canister { number, a, b };
-        let (ours, floor) = (black_box(&four.ours), black_box(&lone.ours));
-        row!(
-            name,
-            "barge book",
-            ceromby::barge::book(ours, 3, tile, place),
-            ceromby::book(floor, tile, place)
-        );
-        row!(
-            name,
-            "barge book anywhere",
-            ceromby::barge::book_anywhere(ours, 3, tile, number),
-            ceromby::book_anywhere(floor, tile, number)
-        );
-        row!(
-            name,
-            "barge stop",
-            ceromby::barge::stop(ours, 3, tile),
-            ceromby::stop(floor, tile)
-        );
-        row!(
-            name,
-            "barge round",
-            ceromby::barge::round(ours, 3),
-            ceromby::round(floor)
-        );
-        let Four { ours, lone, .. } = four.stopped();
-        let (ours, floor) = (black_box(&ours), black_box(&lone.ours));
-        row!(
-            name,
-            "barge repair",
-            ceromby::barge::repair(ours, 3, tile),
-            ceromby::repair(floor, tile)
-        );
-    }
+    on_barges!(
+        ceromby,
+        lone.ours;
+        ceromby::book,
+        ceromby::book_anywhere,
+        ceromby::stop,
+        ceromby::round,
+        ceromby::repair
+    );
 }
 
 /// How a round's cost grows: floor and canisters by row.

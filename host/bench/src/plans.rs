@@ -77,25 +77,10 @@ pub fn stages() -> [Planned; 3] {
         theirs.entries[63].stage = WAITING;
         Planned {
             name,
-            ours: ours(&theirs),
+            ours: convert::to_plan(&theirs),
             theirs,
         }
     })
-}
-
-fn ours(plan: &Plan) -> ceromby::Plan {
-    let entry = |entry: Entry| ceromby::Entry {
-        tile: entry.tile,
-        number: entry.number,
-        label: entry.label,
-        first: entry.first,
-        second: entry.second,
-        stage: entry.stage,
-    };
-    ceromby::Plan {
-        entries: plan.entries.map(entry),
-        count: plan.count,
-    }
 }
 
 /// The floor with its last number high enough for the booked ones.

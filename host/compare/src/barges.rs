@@ -7,7 +7,6 @@ mod makers;
 use oracle::{Answer, Barge, Floor, PlaceAnswer, Report, RoundAnswer, FLOORS};
 
 use crate::call::{Call, Outcome, Trouble};
-use crate::convert;
 use crate::promise::Record;
 use crate::tally::Tally;
 

@@ -5,7 +5,6 @@ use oracle::random::Rng;
 use oracle::{Floor, Report, STANDARD};
 
 use crate::call::{Call, Outcome, Trouble};
-use crate::convert;
 
 /// The loads required of a run, of zero bytes and of one to three.
 const LEAST: u64 = 1_000;

@@ -5,18 +5,9 @@ use oracle::random::{self, Rng};
 use oracle::{Answer, Booking, Canister, Floor, LONGEST_LIST};
 
 use crate::call::{Call, Trouble};
-use crate::{convert, makers, places};
+use crate::{makers, places, tally};
 
-const LENGTHS: [&str; 8] = [
-    "0",
-    "1",
-    "2 to 62",
-    "63",
-    "64",
-    "65",
-    "66 to 999",
-    "1000 or more",
-];
+const LENGTHS: [&str; 8] = tally::lengths(["66 to 999", "1000 or more"]);
 const MALFORMED: [&str; 3] = ["0", "1 to 64", "65 or more"];
 /// The answers that an entry can receive.
 const ANSWERS: [u8; 9] = [0, 30, 4, 5, 6, 7, 31, 33, 34];
@@ -46,13 +37,7 @@ impl Counts {
             let size = usize::from(length > 0) + usize::from(length > LONGEST_LIST);
             self.malformed[size] += 1;
         } else {
-            self.lengths[match length {
-                0 | 1 => length,
-                2..=62 => 2,
-                63..=65 => length - 60,
-                66..=999 => 6,
-                _ => 7,
-            }] += 1;
+            self.lengths[tally::length_group(length, 6 + usize::from(length > 999))] += 1;
         }
         if refusal != 0 {
             return;

@@ -11,7 +11,7 @@ use oracle::{
 
 use crate::barges::{self, Given, Named};
 use crate::layouts::{self, Name};
-use crate::{book_lists, convert, page, places, plans, reasons, throughput};
+use crate::{book_lists, page, places, plans, reasons, throughput};
 
 #[derive(Clone, PartialEq, Debug)]
 pub enum Call {

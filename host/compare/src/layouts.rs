@@ -6,7 +6,7 @@ use oracle::random::{self, Rng};
 use oracle::{Floor, Layout, MAX_LAYOUTS};
 
 use crate::call::{Call, Outcome, Trouble, FORGET, KEEP, NAMES, RECALL};
-use crate::{convert, layout_damage, layout_images, makers};
+use crate::{layout_damage, layout_images, makers};
 
 /// A name as a call is handed it: eight bytes, or text through the binding.
 #[derive(Clone, PartialEq, Debug)]

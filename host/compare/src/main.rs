@@ -5,7 +5,6 @@ mod barges;
 mod blank;
 mod book_lists;
 mod call;
-mod convert;
 mod exchange;
 #[cfg(feature = "faults")]
 mod faults;

@@ -5,7 +5,7 @@ use oracle::random::{self, Rng};
 use oracle::{Canister, Floor, PlaceAnswer, Settings, PLACES};
 
 use crate::call::{Call, Trouble};
-use crate::{convert, makers};
+use crate::makers;
 
 /// Where accepted ones were placed. The last two may be among those before.
 const FOUND: [&str; 5] = [

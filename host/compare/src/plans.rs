@@ -13,7 +13,6 @@ use oracle::{
 };
 
 use crate::call::{Call, Outcome, Trouble};
-use crate::convert;
 
 pub use counts::Counts;
 pub use makers::{any_label, any_plan, any_report, last_number_used, new_plan};

@@ -38,6 +38,21 @@ const ANSWERS: [&[u8]; 23] = [
     &[0, 30, 49],
 ];
 
+/// The groups of lengths: those up to 65, and two more.
+pub const fn lengths(more: [&'static str; 2]) -> [&'static str; 8] {
+    ["0", "1", "2 to 62", "63", "64", "65", more[0], more[1]]
+}
+
+/// The group of a length; over 65 it is `over`.
+pub fn length_group(length: usize, over: usize) -> usize {
+    match length {
+        0 | 1 => length,
+        2..=62 => 2,
+        63..=65 => length - 60,
+        _ => over,
+    }
+}
+
 #[derive(Default)]
 pub struct Tally {
     pub calls: u64,

@@ -11,19 +11,10 @@ use super::{
     predecessors, share_a_number, used, went_ahead,
 };
 use crate::call::{Call, Outcome};
-use crate::convert;
+use crate::tally;
 
 const CALLS: [&str; 3] = ["offers", "releases", "reports"];
-const CLAIMS: [&str; 8] = [
-    "0",
-    "1",
-    "2 to 62",
-    "63",
-    "64",
-    "65",
-    "more",
-    "4,294,967,295",
-];
+const CLAIMS: [&str; 8] = tally::lengths(["more", "4,294,967,295"]);
 /// What a plan, a floor or a report is 30 for, and for nothing else.
 const MALFORMED: [&str; 13] = [
     "too many claimed",
@@ -148,16 +139,8 @@ impl Counts {
     }
 
     fn note_plan(&mut self, call: usize, plan: &Plan, refusal: u8, more: &[usize]) {
-        self.claims[call][match plan.count {
-            0 => 0,
-            1 => 1,
-            2..=62 => 2,
-            63 => 3,
-            64 => 4,
-            65 => 5,
-            u32::MAX => 7,
-            _ => 6,
-        }] += 1;
+        let over = 6 + usize::from(plan.count == u32::MAX);
+        self.claims[call][tally::length_group(plan.count as usize, over)] += 1;
         let Some(entries) = used(plan) else {
             self.malformed[0] += 1;
             return;

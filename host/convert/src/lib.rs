@@ -5,26 +5,28 @@ use oracle::{
     PlanAnswer, Reading, ReleaseAnswer, Report, RoundAnswer, Settings, Tile, WriteAnswer,
 };
 
-pub fn to_settings(from: &Settings) -> ceromby::Settings {
-    ceromby::Settings {
-        columns: from.columns,
-        rows: from.rows,
-        hoppers: from.hoppers,
-        sources: from.sources,
-        width: from.width,
-        length: from.length,
-        gap: from.gap,
-        travel: from.travel,
-    }
+/// Two functions, there and back, for a struct that has the same fields on both sides.
+macro_rules! alike {
+    ($name:ident: $($field:ident),+; $to:ident, $from:ident) => {
+        pub fn $to(from: &$name) -> ceromby::$name {
+            ceromby::$name { $($field: from.$field),+ }
+        }
+
+        fn $from(from: &ceromby::$name) -> $name {
+            $name { $($field: from.$field),+ }
+        }
+    };
 }
 
-pub fn to_canister(from: &Canister) -> ceromby::Canister {
-    ceromby::Canister {
-        number: from.number,
-        a: from.a,
-        b: from.b,
-    }
-}
+alike!(
+    Settings: columns, rows, hoppers, sources, width, length, gap, travel;
+    to_settings, from_settings
+);
+alike!(Counters: last, booked, delivered; to_counters, from_counters);
+alike!(Canister: number, a, b; to_canister, from_canister);
+alike!(Layout: name, set; to_layout, from_layout);
+alike!(Delivery: numbers, count; to_delivery, from_delivery);
+alike!(Entry: tile, number, label, first, second, stage; to_entry, from_entry);
 
 pub fn to_booking(from: &Booking) -> ceromby::Booking {
     ceromby::Booking {
@@ -37,7 +39,7 @@ pub fn to_booking(from: &Booking) -> ceromby::Booking {
 pub fn from_booking(from: &ceromby::Booking) -> Booking {
     Booking {
         tile: from.tile,
-        canister: from_canister(from.canister),
+        canister: from_canister(&from.canister),
         answer: from.answer,
     }
 }
@@ -55,38 +57,10 @@ fn to_tile(from: Tile) -> ceromby::Tile {
 pub fn to_floor(from: &Floor) -> ceromby::Floor {
     ceromby::Floor {
         settings: to_settings(&from.settings),
-        counters: ceromby::Counters {
-            last: from.counters.last,
-            booked: from.counters.booked,
-            delivered: from.counters.delivered,
-        },
+        counters: to_counters(&from.counters),
         tiles: from.tiles.map(to_tile),
-        canisters: from.canisters.map(|canister| to_canister(&canister)),
-        layouts: from.layouts.map(|layout| ceromby::Layout {
-            name: layout.name,
-            set: layout.set,
-        }),
-    }
-}
-
-fn from_settings(from: &ceromby::Settings) -> Settings {
-    Settings {
-        columns: from.columns,
-        rows: from.rows,
-        hoppers: from.hoppers,
-        sources: from.sources,
-        width: from.width,
-        length: from.length,
-        gap: from.gap,
-        travel: from.travel,
-    }
-}
-
-fn from_canister(from: ceromby::Canister) -> Canister {
-    Canister {
-        number: from.number,
-        a: from.a,
-        b: from.b,
+        canisters: from.canisters.each_ref().map(to_canister),
+        layouts: from.layouts.each_ref().map(to_layout),
     }
 }
 
@@ -103,17 +77,10 @@ fn from_tile(from: ceromby::Tile) -> Tile {
 fn from_floor(from: &ceromby::Floor) -> Floor {
     Floor {
         settings: from_settings(&from.settings),
-        counters: Counters {
-            last: from.counters.last,
-            booked: from.counters.booked,
-            delivered: from.counters.delivered,
-        },
+        counters: from_counters(&from.counters),
         tiles: from.tiles.map(from_tile),
-        canisters: from.canisters.map(from_canister),
-        layouts: from.layouts.map(|layout| Layout {
-            name: layout.name,
-            set: layout.set,
-        }),
+        canisters: from.canisters.each_ref().map(from_canister),
+        layouts: from.layouts.each_ref().map(from_layout),
     }
 }
 
@@ -133,19 +100,12 @@ pub fn from_placed(from: &ceromby::Placed) -> PlaceAnswer {
     }
 }
 
-fn from_delivery(from: ceromby::Delivery) -> Delivery {
-    Delivery {
-        numbers: from.numbers,
-        count: from.count,
-    }
-}
-
 pub fn from_report(from: &ceromby::Report) -> Report {
     Report {
         grants: from.grants,
         reasons: from.reasons,
         missing: from.missing,
-        deliveries: from.deliveries.map(from_delivery),
+        deliveries: from.deliveries.each_ref().map(from_delivery),
     }
 }
 
@@ -161,7 +121,7 @@ pub fn from_reading(from: &ceromby::Reading) -> Reading {
     Reading {
         refusal: from.refusal,
         tile: from_tile(from.tile),
-        members: from.members.map(from_canister),
+        members: from.members.each_ref().map(from_canister),
     }
 }
 
@@ -177,37 +137,20 @@ pub fn to_report(from: &Report) -> ceromby::Report {
         grants: from.grants,
         reasons: from.reasons,
         missing: from.missing,
-        deliveries: from.deliveries.map(|delivery| ceromby::Delivery {
-            numbers: delivery.numbers,
-            count: delivery.count,
-        }),
+        deliveries: from.deliveries.each_ref().map(to_delivery),
     }
 }
 
 pub fn to_plan(from: &Plan) -> ceromby::Plan {
     ceromby::Plan {
-        entries: from.entries.map(|entry| ceromby::Entry {
-            tile: entry.tile,
-            number: entry.number,
-            label: entry.label,
-            first: entry.first,
-            second: entry.second,
-            stage: entry.stage,
-        }),
+        entries: from.entries.each_ref().map(to_entry),
         count: from.count,
     }
 }
 
 fn from_plan(from: &ceromby::Plan) -> Plan {
     Plan {
-        entries: from.entries.map(|entry| Entry {
-            tile: entry.tile,
-            number: entry.number,
-            label: entry.label,
-            first: entry.first,
-            second: entry.second,
-            stage: entry.stage,
-        }),
+        entries: from.entries.each_ref().map(from_entry),
         count: from.count,
     }
 }
