@@ -2,21 +2,28 @@
 use mathlib.Core.Path.{_≡_, sym, ap, _∙_}
 use mathlib.Core.Bool.{true}
 use Prim.Native.Nat.{ℕ, _≤_, _<_}
+use mathlib.Core.List.{List}
 use lib.ListN.{length}
+use Rattle.laws.specs.Define.{tab}
 use Rattle.floor.specs.declared.Floor.{Floor}
-use Rattle.floor.specs.Settings.{total, settingsPass}
+use Rattle.floor.specs.declared.Tile.{Tile}
+use Rattle.floor.specs.Settings.{total, settingsPass, Ranged}
 use Rattle.floor.specs.Model.{Model, noTile, tokenOf, membersOf}
-use Rattle.floor.specs.Memory.{headOf, stateOf, view, unused, build, pack, fits}
+use Rattle.floor.specs.Memory.{headOf, retiled, stateOf, view, unused, build, pack, fits}
 use Rattle.floor.specs.Well.{wellFormed}
 use Rattle.floor.specs.Route.{route}
-use Rattle.floor.specs.Signal.{signal}
-use Rattle.floor.proofs.Well.{faces-le}
-use Rattle.floor.proofs.Rows.{view-settings, Placed}
-use Rattle.floor.proofs.Pack.{state-packed, view-pack, fits-pack, well-sound, well-few, well-settings, well-placed}
+use Rattle.floor.specs.Signal.{signal, grantOf}
+use Rattle.floor.specs.Reasons.{reasonOf, missingOf}
+use Rattle.floor.proofs.Well.{faces-le, ranged}
+use Rattle.floor.proofs.Rows.{view-settings, fits-canisters, Placed}
+use Rattle.floor.proofs.Pack.{state-packed, view-pack, fits-pack, well-sound, well-few, well-settings, well-fits, well-placed, few-on}
+use Rattle.floor.proofs.Reasons.{signal-lacks}
 use Rattle.floor.proofs.Capacity.{sound-small}
-use Rattle.round_route.proofs.RouteFloor.{route-settings, route-length, route-token, route-members}
-use Rattle.round_signal.specs.Signalling.{Ready}
-use Rattle.round_signal.proofs.SignalFloor.{signal-settings, signal-length, signal-members}
+use Rattle.round_route.specs.Routed.{Redone, routedAt}
+use Rattle.round_route.proofs.RouteFloor.{route-pack, route-settings, route-length, route-token, route-members}
+use Rattle.round_signal.specs.Signalling.{Ready, Granted, tileAt, grantAt, reasonAt, besideAt}
+use Rattle.round_signal.proofs.Loops.{Asked}
+use Rattle.round_signal.proofs.SignalFloor.{signal-pack, lack-view, reasons-pack, signal-settings, signal-length, signal-members}
 
 module _ (f : Floor) (w : wellFormed f ≡ true) where
   abbrev m : Model
@@ -81,3 +88,41 @@ module _ (f : Floor) (w : wellFormed f ≡ true) where
 
   pub signalled-fits : fits (pack (signal (route (view f)))) ≡ true
   signalled-fits = fits-pack last last-len last-few last-small last-placed
+
+  -- ---- from the tiles that Route gave
+  module _ (ts : List Tile) (r : Redone (total (f .settings)) (routedAt (f .settings) (f .tiles)) (f .tiles) ts) where
+    bounds : Ranged (f .settings)
+    bounds = ranged (f .settings) (well-settings f w)
+
+    packed : retiled f ts ≡ pack m
+    packed = route-pack f (bounds .2) (well-fits f w) ts r
+
+    fitting : fits (retiled f ts) ≡ true
+    fitting = signal-asks (retiled f ts) packed .1
+
+    read : view (retiled f ts) ≡ m
+    read = after-route (retiled f ts) packed
+
+    -- what Signal asks
+    pub asked : Asked (f .settings) ts (f .canisters)
+    asked = record {
+      ranged = bounds;
+      ready = signal-asks (retiled f ts) packed .2;
+      roomy = few-on (retiled f ts) (bounds .2) fitting;
+      slight = λ u. rw (lack-view (retiled f ts) (bounds .2) fitting u, read) (signal-lacks (view f) (well-sound f w) u);
+      tiles-length = r .0;
+      canisters-length = fits-canisters f (well-fits f w);
+    }
+
+    -- what it gives
+    pub given-tiles : (new : List Tile) (gs : List ℕ) → Redone (total (f .settings)) (tileAt (f .settings) ts (f .canisters)) ts new → Granted 64 (total (f .settings)) (grantAt (f .settings) ts (f .canisters)) gs
+        → (retiled f new ≡ pack (signal m)) × (gs ≡ tab 64 (grantOf m))
+    given-tiles new gs a b =
+        let both = signal-pack (retiled f ts) (bounds .2) fitting new gs a b in
+        (both .0 ∙ ap (λ (x : Model). pack (signal x)) read, both .1 ∙ ap (λ (x : Model). tab 64 (grantOf x)) read)
+
+    pub given-reasons : (rs ms : List ℕ) → Granted 64 (total (f .settings)) (reasonAt (f .settings) ts (f .canisters)) rs → Granted 64 (total (f .settings)) (besideAt (f .settings) ts (f .canisters)) ms
+        → (rs ≡ tab 64 (reasonOf m)) × (ms ≡ tab 64 (missingOf m))
+    given-reasons rs ms a b =
+        let why = reasons-pack (retiled f ts) (bounds .2) fitting rs ms a b in
+        (why .0 ∙ ap (λ (x : Model). tab 64 (reasonOf x)) read, why .1 ∙ ap (λ (x : Model). tab 64 (missingOf x)) read)

@@ -1,20 +1,41 @@
 -- What holds at the heads of Signal's loops: over the tiles; a tile's sixteen places copied; over the tiles again, why each stood.
-use mathlib.Core.Path.{_≡_}
+-- The first two are loops of `run_round`, so that their turns are laws here.
+use mathlib.Core.Path.{_≡_, refl, sym, ap, _∙_, subst, fun-ext}
 use mathlib.Core.List.{List}
-use Prim.Native.Nat.{ℕ, _*_, _^_, _≤_, _<_}
-use lib.ListN.{length, take, drop, getD}
+use Prim.Native.Nat.{ℕ, _+_, _*_, _^_, _≤_, _<_}
+use native.Mathlib.Omega.{arith}
+use lib.ListN.{length, take, drop, getD, set, replicate, length-set}
+use lib.Seq.{take-all}
+use Rattle.laws.specs.Filled.{Upto}
+use Rattle.laws.proofs.Tables.{copy-turn}
 use Rattle.floor.specs.declared.Canister.{Canister}
 use Rattle.floor.specs.declared.Settings.{Settings}
 use Rattle.floor.specs.declared.Tile.{Tile}
 use Rattle.floor.specs.Settings.{total, Ranged}
-use Rattle.round_route.specs.Routed.{Redone}
+use Rattle.floor.specs.Grid.{around}
+use Rattle.floor.specs.Memory.{zeroTile, zeroCanister, block}
+use Rattle.floor.specs.Signal.{Signal}
+use Rattle.round_route.specs.Routed.{Redone, within}
+use Rattle.round_route.proofs.Passes.{redone-none, redone-turn, redone-end}
+use Rattle.round_grants.specs.declared.Signal as S
+use Rattle.round_grants.specs.TileSignal.{given, signalFrom}
 use Rattle.round_signal.specs.Signalling as M
+use Rattle.round_signal.proofs.PassLaws.{signal-read, granted-none, granted-turn, granted-end, granted-within}
 
-pub record Signalled (s : Settings) (tiles : List Tile) (canisters : List Canister) (all : ℕ) (out : List Tile) (grants turns lacks : List ℕ) (t : ℕ) : Type 0 where
-  pub below : t ≤ all
-  pub few : all ≤ 64
+-- what Signal asks of the tiles and the canisters
+pub record Asked (s : Settings) (tiles : List Tile) (canisters : List Canister) : Type 0 where
+  pub ranged : Ranged s
+  pub ready : M.Ready s tiles
+  pub roomy : M.Roomy s tiles
+  pub slight : M.Slight s tiles canisters
   pub tiles-length : length tiles ≡ 64
   pub canisters-length : length canisters ≡ 1024
+
+pub record Signalled (s : Settings) (tiles : List Tile) (canisters : List Canister) (all : ℕ) (out : List Tile) (grants turns lacks : List ℕ) (t : ℕ) : Type 0 where
+  pub asked : Asked s tiles canisters
+  pub below : t ≤ all
+  pub whole : all ≡ total s
+  pub few : all ≤ 64
   pub tokened : Redone t (M.tileAt s tiles canisters) tiles out
   pub granted : M.Granted 64 t (M.grantAt s tiles canisters) grants
   pub turned : M.Granted 65 t (M.turnAt s tiles canisters) turns
@@ -38,3 +59,91 @@ pub record Reasoned (s : Settings) (tiles : List Tile) (all : ℕ) (turns lacks 
   pub slight : (u : ℕ) → getD lacks u 0 < 2 ^ 16
   pub stood : M.Granted 64 i (M.reasonBy s tiles (λ u. getD turns u 0) (λ u. getD lacks u 0)) reasons
   pub lacking : M.Granted 64 i (M.lackBy s tiles (λ u. getD turns u 0) (λ u. getD lacks u 0)) missing
+
+-- ---- the places of tile t
+module _ {tiles : List Tile} {canisters : List Canister} {t : ℕ} {items : List Canister} {k : ℕ} (p : Copied tiles canisters t items k) where
+  pub copied-turn : k < 16 → Copied tiles canisters t (set items k (getD canisters (16 * t + k) zeroCanister)) (k + 1)
+  copied-turn h = record {
+    below = omega arith;
+    here = p .here;
+    items-length = simp length-set (p .items-length);
+    canisters-length = p .canisters-length;
+    tiles-length = p .tiles-length;
+    copied = copy-turn items canisters (16 * t) k zeroCanister (omega (arith, h, p .items-length)) (omega (arith, h, p .here, p .canisters-length)) (p .copied);
+  }
+
+  pub copied-whole : 16 ≤ k → items ≡ block canisters t
+  copied-whole h =
+      let e : k ≡ 16 = omega (arith, h, p .below) in
+      sym (take-all 16 items (omega (arith, p .items-length))) ∙ rw e at (p .copied)
+
+-- ---- the tiles
+pub signalled-start : (s : Settings) (tiles : List Tile) (canisters : List Canister) → Asked s tiles canisters → {all : ℕ} → all ≡ total s
+    → Signalled s tiles canisters all tiles (replicate 64 0) (replicate 65 0) (replicate 65 0) 0
+signalled-start s tiles canisters a e = record {
+  asked = a;
+  below = omega arith;
+  whole = e;
+  few = omega (arith, e, a .ranged .2);
+  tokened = redone-none (M.tileAt s tiles canisters) tiles (a .tiles-length);
+  granted = granted-none 64 (M.grantAt s tiles canisters);
+  turned = granted-none 65 (M.turnAt s tiles canisters);
+  lacking = granted-none 65 (M.lackAt s tiles canisters);
+}
+
+module _ {s : Settings} {tiles : List Tile} {canisters : List Canister} {all : ℕ} {out : List Tile} {grants turns lacks : List ℕ} {t : ℕ} (p : Signalled s tiles canisters all out grants turns lacks t) where
+  module _ (turn : t < all) where
+    pub on : t < total s
+    on = omega (arith, p .whole)
+
+    pub here : t < 64
+    here = omega (arith, p .few)
+
+    pub copied-start : Copied tiles canisters t (replicate 16 zeroCanister) 0
+    copied-start = record { below = omega arith; here = here; items-length = refl; canisters-length = p .asked .canisters-length; tiles-length = p .asked .tiles-length; copied = refl }
+
+    pub tile-asked : Ranged s × (t < total s) × (getD tiles t zeroTile .token .code ≤ 4) × (getD tiles t zeroTile .count ≤ 16)
+    tile-asked = (p .asked .ranged, on, p .asked .ready t on, p .asked .roomy t on)
+
+    pub signalled-turn : {items : List Canister} {k : ℕ} → Copied tiles canisters t items k → 16 ≤ k → (show : List ℕ) → Upto 65 (within (total s) (M.shownIn tiles) 0) 0 show
+        → (one : S.Signal) → given one ≡ around s (λ u. getD show u 0) t (signalFrom s (getD tiles t zeroTile .running) (getD tiles t zeroTile .token .code) (take (getD tiles t zeroTile .count) items))
+        → {v : Tile} → v ≡ M.tokened (getD tiles t zeroTile) (one .token .code)
+        → Signalled s tiles canisters all (set out t v) (set grants t (one .grant .code)) (set turns t (one .turn .code)) (set lacks t (one .missing)) (t + 1)
+    unfolding M.tileAt M.grantAt M.turnAt M.lackAt
+    signalled-turn {items} {k} q over show shows one e {v} w =
+        let r = signal-read s tiles canisters items t show on (p .asked .ranged .2) shows e (copied-whole q over) in record {
+          asked = p .asked;
+          below = omega arith;
+          whole = p .whole;
+          few = p .few;
+          tokened = redone-turn (M.tileAt s tiles canisters) tiles out t v here (p .tokened) (w ∙ ap (λ (x : Signal). M.tokened (getD tiles t zeroTile) (x .token)) r);
+          granted = granted-turn 64 (M.grantAt s tiles canisters) grants t (one .grant .code) here (p .granted) (ap (λ (x : Signal). x .grant) r);
+          turned = granted-turn 65 (M.turnAt s tiles canisters) turns t (one .turn .code) (omega (arith, here)) (p .turned) (ap (λ (x : Signal). x .turn) r);
+          lacking = granted-turn 65 (M.lackAt s tiles canisters) lacks t (one .missing) (omega (arith, here)) (p .lacking) (ap (λ (x : Signal). x .missing) r);
+        }
+
+  -- the end of the pass
+  module _ (over : all ≤ t) where
+    all-of : t ≡ total s
+    all-of = omega (arith, p .below, p .whole)
+
+    turn-of : (u : ℕ) → getD turns u 0 ≡ M.turnsAt s tiles canisters u
+    turn-of = granted-within 65 (M.turnAt s tiles canisters) turns (total s) (granted-end 65 (M.turnAt s tiles canisters) turns t (total s) all-of (p .turned))
+
+    lack-of : (u : ℕ) → getD lacks u 0 ≡ M.lacksAt s tiles canisters u
+    lack-of = granted-within 65 (M.lackAt s tiles canisters) lacks (total s) (granted-end 65 (M.lackAt s tiles canisters) lacks t (total s) all-of (p .lacking))
+
+    pub reasons-asked : Ranged s × ((u : ℕ) → getD lacks u 0 < 2 ^ 16)
+    reasons-asked = (p .asked .ranged, λ u. rw (lack-of u) (p .asked .slight u))
+
+    pub tiles-signalled : Redone (total s) (M.tileAt s tiles canisters) tiles out
+    tiles-signalled = redone-end (M.tileAt s tiles canisters) tiles out t (total s) all-of (p .tokened)
+
+    pub grants-signalled : M.Granted 64 (total s) (M.grantAt s tiles canisters) grants
+    grants-signalled = granted-end 64 (M.grantAt s tiles canisters) grants t (total s) all-of (p .granted)
+
+    pub reasons-signalled : (rs : List ℕ) → M.Granted 64 (total s) (M.reasonBy s tiles (λ u. getD turns u 0) (λ u. getD lacks u 0)) rs → M.Granted 64 (total s) (M.reasonAt s tiles canisters) rs
+    reasons-signalled rs r = subst (λ (g : ℕ → ℕ). M.Granted 64 (total s) g rs) (λ i. M.reasonBy s tiles (fun-ext turn-of i) (fun-ext lack-of i)) r
+
+    pub missing-signalled : (ms : List ℕ) → M.Granted 64 (total s) (M.lackBy s tiles (λ u. getD turns u 0) (λ u. getD lacks u 0)) ms → M.Granted 64 (total s) (M.besideAt s tiles canisters) ms
+    missing-signalled ms r = subst (λ (g : ℕ → ℕ). M.Granted 64 (total s) g ms) (λ i. M.lackBy s tiles (fun-ext turn-of i) (fun-ext lack-of i)) r

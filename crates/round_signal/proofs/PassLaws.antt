@@ -1,5 +1,5 @@
 -- Signal as a pass: a tile's signal from what was read, and the grants given one after another.
-use mathlib.Core.Path.{_≡_, sym, ap, _∙_}
+use mathlib.Core.Path.{_≡_, refl, sym, ap, _∙_}
 use mathlib.Core.List.{List}
 use Prim.Native.Nat.{ℕ, suc, _+_, _≤_, _<_}
 use native.Mathlib.Omega.{arith}
@@ -8,27 +8,30 @@ use lib.Dec.{ltb}
 use borrow.Author.Tests.{lt-ltb, le-ltb}
 use mathlib.Core.Bool.{cond}
 use lib.ListN.{getD, set, take, replicate, length-set, length-replicate}
+use Rattle.laws.specs.Filled.{Upto}
 use Rattle.laws.proofs.Tables.{upto-turn, rest-turn, zeros-at}
 use Rattle.floor.specs.declared.Canister.{Canister}
 use Rattle.floor.specs.declared.Settings.{Settings}
 use Rattle.floor.specs.declared.Tile.{Tile}
 use Rattle.floor.specs.Signal.{Signal}
 use Rattle.floor.specs.Settings.{total}
-use Rattle.floor.specs.Grid.{neighbour}
+use Rattle.floor.specs.Grid.{neighbour, around}
 use Rattle.floor.specs.Memory.{zeroTile, block}
 use Rattle.round_route.specs.Routed.{within}
+use Rattle.round_route.proofs.Passes.{shows-near}
 use Rattle.round_grants.specs.TileSignal.{signalFrom}
 use Rattle.round_signal.specs.Signalling.{Granted, shownIn, signalAt}
 
--- ---- the tile's signal from what was read of its neighbours and of its sixteen places
+-- ---- the tile's signal from what all tiles show and from its sixteen places
 module _ (s : Settings) (ts : List Tile) (cs items : List Canister) (t : ℕ) where
-  abbrev show : ℕ → ℕ
-  show k = within (total s) (shownIn ts) 0 (neighbour s k t)
-
-  pub signal-read : {x : Signal} {w so n e : ℕ} → x ≡ signalFrom s (getD ts t zeroTile .running) (getD ts t zeroTile .token .code) (take (getD ts t zeroTile .count) items) w so n e
-      → items ≡ block cs t → w ≡ show 1 → so ≡ show 2 → n ≡ show 3 → e ≡ show 4 → x ≡ signalAt s ts cs t
+  pub signal-read : (show : List ℕ) → t < total s → total s ≤ 64 → Upto 65 (within (total s) (shownIn ts) 0) 0 show → {x : Signal}
+      → x ≡ around s (λ u. getD show u 0) t (signalFrom s (getD ts t zeroTile .running) (getD ts t zeroTile .token .code) (take (getD ts t zeroTile .count) items))
+      → items ≡ block cs t → x ≡ signalAt s ts cs t
   unfolding signalAt
-  signal-read v i p q r u = rw (v, i, p, q, r, u)
+  signal-read show h few p v i = rw (v, i, near 1, near 2, near 3, near 4)
+    where
+      near : (k : ℕ) → getD show (neighbour s k t) 0 ≡ within (total s) (shownIn ts) 0 (neighbour s k t)
+      near k = shows-near s (shownIn ts) 0 show k t h few p refl
 
 -- ---- a loop that gives the grants, one after another
 module _ (N : ℕ) (g : ℕ → ℕ) where

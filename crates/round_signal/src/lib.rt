@@ -1,34 +1,28 @@
-// Signal, the second step of a round: which side each tile grants, and its new turn.
+// Signal, the second step of a round: which side each tile grants, its new turn, and why it stood. The pass over the tiles that
+// reads their canisters is in `run_round`.
 
 ghost use mathlib.Core.Path.{_≡_};
-ghost use mathlib.Core.Bool.{true, cond};
+ghost use mathlib.Core.Bool.{cond};
 ghost use lib.Dec.{eqb};
-ghost use Prim.Native.Nat.{_^_, _≤_, _<_};
-ghost use Rattle.laws.specs.Define.{tab};
+ghost use lib.ListN.{getD, take};
+ghost use Prim.Native.Nat.{ℕ, _^_, _≤_, _<_};
 ghost use Rattle.laws.specs.Filled.{Upto};
 ghost use Rattle.floor.specs.Settings.{total, Ranged};
-ghost use Rattle.floor.specs.Memory.{retiled, view, pack};
-ghost use Rattle.floor.specs.Well.{wellFormed};
-ghost use Rattle.floor.specs.Route as R;
-ghost use Rattle.floor.specs.Signal as G;
-ghost use Rattle.floor.specs.Reasons as W;
+ghost use Rattle.floor.specs.Grid.{around};
 ghost use Rattle.floor.specs.Signal.{shownNext};
-ghost use Rattle.round_route.specs.Routed.{Redone, within};
-ghost use Rattle.round_signal.specs.Signalling.{Ready, Roomy, Slight, Granted, shownIn, tokened, tileAt, grantAt, ownReason, aheadReason, reasonAt, besideAt};
+ghost use Rattle.round_route.specs.Routed.{within};
+ghost use Rattle.round_grants.specs.TileSignal.{given, signalFrom};
+ghost use Rattle.round_signal.specs.Signalling.{Granted, shownIn, tokened, ownReason, aheadReason, reasonBy, lackBy};
 use floor::Canister;
-use floor::Floor;
 use floor::Members;
 use floor::Settings;
 use floor::Side;
 use floor::Tile;
+use round_grants::Signal;
 use round_grants::signal_tile;
-use round_route::route_pass;
 
-// What Route and Signal give of a floor: the tiles with their new tokens, every tile's grant, why each tile stood, 6 where it
-// moved, and the millimetres missing beside 5.
-pub struct Signals {
-    pub tiles: [Tile; 64],
-    pub grants: [u8; 64],
+// Why each tile stood, 6 where it moved, and the millimetres missing beside 5.
+pub struct Stood {
     pub reasons: [u8; 64],
     pub missing: [u16; 64],
 }
@@ -55,7 +49,7 @@ pub fn shown(s: Settings, tiles: [Tile; 64]) -> [u8; 65]
 }
 
 // The tile with another token.
-fn with_token(tile: Tile, token: Side) -> Tile
+pub fn with_token(tile: Tile, token: Side) -> Tile
     ensures { λ r. ⌜ r ≡ tokened tile (token .code) ⌝ }
 {
     let next = tile.next;
@@ -107,40 +101,30 @@ fn beside(why: u8, lack: u32) -> u16
     if why == 5 { lack as u16 } else { 0 }
 }
 
-// All tiles together. A tile's sixteen places are read in the first loop: the large array is handed to no helper. In the
-// second each tile tells why it stood, by itself or by the tile ahead of it, from that one's turn before it passed on and the
+// Tile t's signal, from its sixteen places and what all tiles show.
+pub fn signal_at(s: Settings, t: usize, tile: Tile, items: [Canister; 16], show: [u8; 65]) -> Signal
+    requires { ⌜ Ranged s × (t < total s) × (tile .token .code ≤ 4) × (tile .count ≤ 16) ⌝ }
+    ensures { λ r. ⌜ given r ≡ around s (λ u. getD show u 0) t (signalFrom s (tile .running) (tile .token .code) (take (tile .count) items)) ⌝ }
+{
+    let token = tile.token;
+    let members = Members {
+        count: tile.count,
+        items: items,
+    };
+    let west = show[Side::WEST.neighbour(s, t)];
+    let south = show[Side::SOUTH.neighbour(s, t)];
+    let north = show[Side::NORTH.neighbour(s, t)];
+    let east = show[Side::EAST.neighbour(s, t)];
+    signal_tile(s, tile.running, token, members, west, south, north, east)
+}
+
+// Why each tile stood: it tells by itself, or by the tile ahead of it, from that one's turn before it passed on and the
 // millimetres missing there; at the number of no tile both are none.
-pub fn signal_pass(s: Settings, tiles: [Tile; 64], canisters: [Canister; 1024]) -> Signals
-    requires { ⌜ Ranged s × Ready s tiles × Roomy s tiles × Slight s tiles canisters ⌝ }
-    ensures { λ r. ⌜ Redone (total s) (tileAt s tiles canisters) tiles (r .tiles) × Granted 64 (total s) (grantAt s tiles canisters) (r .grants) × Granted 64 (total s) (reasonAt s tiles canisters) (r .reasons) × Granted 64 (total s) (besideAt s tiles canisters) (r .missing) ⌝ }
+pub fn reason_pass(s: Settings, tiles: [Tile; 64], turns: [u8; 65], lacks: [u32; 65]) -> Stood
+    requires { ⌜ Ranged s × ((u : ℕ) → getD lacks u 0 < 2 ^ 16) ⌝ }
+    ensures { λ r. ⌜ Granted 64 (total s) (reasonBy s tiles (λ u. getD turns u 0) (λ u. getD lacks u 0)) (r .reasons) × Granted 64 (total s) (lackBy s tiles (λ u. getD turns u 0) (λ u. getD lacks u 0)) (r .missing) ⌝ }
 {
     let all = s.tile_count();
-    let show = shown(s, tiles);
-    let mut out = tiles;
-    let mut grants = [0u8; 64];
-    let mut turns = [0u8; 65];
-    let mut lacks = [0u32; 65];
-    for t in 0usize..all {
-        let mut items = [Canister::ZERO; 16];
-        for k in 0usize..16 {
-            items[k] = canisters[16 * t + k];
-        }
-        let tile = tiles[t];
-        let token = tile.token;
-        let members = Members {
-            count: tile.count,
-            items: items,
-        };
-        let west = show[Side::WEST.neighbour(s, t)];
-        let south = show[Side::SOUTH.neighbour(s, t)];
-        let north = show[Side::NORTH.neighbour(s, t)];
-        let east = show[Side::EAST.neighbour(s, t)];
-        let one = signal_tile(s, tile.running, token, members, west, south, north, east);
-        out[t] = with_token(tile, one.token);
-        grants[t] = one.grant.code;
-        turns[t] = one.turn.code;
-        lacks[t] = one.missing;
-    }
     let mut reasons = [0u8; 64];
     let mut missing = [0u16; 64];
     let mut i: usize = 0;
@@ -161,22 +145,8 @@ pub fn signal_pass(s: Settings, tiles: [Tile; 64], canisters: [Canister; 1024]) 
             i += 1;
         }
     }
-    Signals {
-        tiles: out,
-        grants: grants,
+    Stood {
         reasons: reasons,
         missing: missing,
     }
-}
-
-// Route, then Signal: what they give of a floor, whose canisters stay.
-pub fn route_and_signal(f: Floor) -> Signals
-    requires { ⌜ wellFormed f ≡ true ⌝ }
-    ensures { λ r. ⌜ (retiled f (r .tiles) ≡ pack (G.signal (R.route (view f)))) × (r .grants ≡ tab 64 (G.grantOf (R.route (view f)))) × (r .reasons ≡ tab 64 (W.reasonOf (R.route (view f)))) × (r .missing ≡ tab 64 (W.missingOf (R.route (view f)))) ⌝ }
-{
-    let s = f.settings;
-    let tiles = f.tiles;
-    let canisters = f.canisters;
-    let routed = route_pass(s, tiles);
-    signal_pass(s, routed, canisters)
 }

@@ -1,0 +1,186 @@
+use Prim.Native.Nat.{ℕ, _<_, _-_}
+use native.Mathlib.Omega.{arith}
+use mathlib.Core.Path.{_≡_, refl}
+use lib.ListN.{getD}
+use Rattle.floor.specs.Settings.{total}
+use Rattle.floor.specs.Memory.{zeroTile}
+use Rattle.round_route.proofs.Passes.{near-read}
+use Rattle.round_signal.specs.Signalling as M
+use Rattle.round_signal.proofs.Loops.{Reasoned}
+use Rattle.round_signal.proofs.PassLaws.{granted-none, granted-turn, granted-skip, granted-end}
+use Rattle.round_signal.proofs.ReasonLaws.{own-read, own-lack, reason-read, lack-read}
+use borrow.Author.Needs.{needs}
+use Rattle.round_signal.proofs.reason_pass.Statement.{statement}
+use Rattle.round_signal.proofs.reason_pass.Tie as tie
+use Rattle.round_signal.proofs.reason_pass.Reads as reads
+use Rattle.round_signal.proofs.reason_pass.Lts as lts
+use Rattle.floor.proofs.Settings.tile_count.Reads as tile-count-reads
+use Rattle.floor.proofs.Side.neighbour.Reads as neighbour-reads
+use Rattle.round_signal.proofs.ahead_reason.Reads as ahead-reason-reads
+use Rattle.round_signal.proofs.beside.Reads as beside-reads
+use Rattle.round_signal.proofs.own_reason.Reads as own-reason-reads
+
+abbrev Inv-loop : tie.InvT-loop
+Inv-loop s tiles turns lacks all reasons₀ missing₀ i₀ reasons missing i = Reasoned s tiles all turns lacks reasons missing i
+
+abbrev μ-loop : tie.MeasureT-loop
+μ-loop s tiles turns lacks all reasons₀ missing₀ i₀ reasons missing i = all - i
+
+tile-count-requires : tie.Need-tile-count-requires Inv-loop μ-loop
+tile-count-requires c κs = tt
+
+loop-holds : tie.Need-loop-holds Inv-loop μ-loop
+loop-holds c =
+    let s = c .before in
+    let g = s .args in
+    record {
+      below = omega arith;
+      whole = c .tile-count .ensures;
+      ranged = s .pre .0;
+      tiles-length = s .good .1 .0 .1 .0 .1;
+      turns-length = s .good .1 .1 .0 .1 .0 .1;
+      lacks-length = s .good .1 .1 .1 .0 .1 .0 .1;
+      slight = s .pre .1;
+      stood = granted-none 64 (M.reasonBy g.s g.t2 (λ u. getD g.t3 u 0) (λ u. getD g.t4 u 0));
+      lacking = granted-none 64 (M.lackBy g.s g.t2 (λ u. getD g.t3 u 0) (λ u. getD g.t4 u 0));
+    }
+
+mul-tile : tie.Need-mul-tile Inv-loop μ-loop
+mul-tile c = search needs
+
+array-copy-out-tile :
+    tie.Need-array-copy-out-tile Inv-loop μ-loop
+array-copy-out-tile c = search needs
+
+own-reason-requires :
+    tie.Need-own-reason-requires Inv-loop μ-loop
+own-reason-requires c κs = search needs
+
+array-write-reasons :
+    tie.Need-array-write-reasons Inv-loop μ-loop
+array-write-reasons c = search needs
+
+add-i : tie.Need-add-i Inv-loop μ-loop
+add-i c = search needs
+
+loop-less : tie.Need-loop-less Inv-loop μ-loop
+loop-less c = search needs
+
+loop-again : tie.Need-loop-again Inv-loop μ-loop
+loop-again c =
+    let l = c .before .before .before .before .loop in
+    let g = c .before .before .before .before .before .before .args in
+    let turn : ℕ → ℕ = λ u. getD g.t3 u 0 in
+    let lack : ℕ → ℕ = λ u. getD g.t4 u 0 in
+    let here : l .i < 64 = omega (arith, l .inv .ranged .2) in
+    let q = c .before .own-reason in record {
+      below = omega arith;
+      whole = l .inv .whole;
+      ranged = l .inv .ranged;
+      tiles-length = l .inv .tiles-length;
+      turns-length = l .inv .turns-length;
+      lacks-length = l .inv .lacks-length;
+      slight = l .inv .slight;
+      stood = granted-turn 64 (M.reasonBy g.s g.t2 turn lack) (l .reasons) (l .i) (q .result) here (l .inv .stood) (own-read g.s g.t2 turn lack (l .i) (q .ensures) (c .if1 .taken));
+      lacking = granted-skip 64 (M.lackBy g.s g.t2 turn lack) (l .missing) (l .i) (l .inv .lacking) (own-lack g.s g.t2 turn lack (l .i) (q .ensures) (c .if1 .taken));
+    }
+
+neighbour-requires :
+    tie.Need-neighbour-requires Inv-loop μ-loop
+neighbour-requires c κs = let l = c .before .before .before .before .before .loop in (l .inv .ranged .0, l .inv .ranged .1, l .inv .ranged .2, omega (arith, l .inv .whole))
+
+mul-lack : tie.Need-mul-lack Inv-loop μ-loop
+mul-lack c = let l = c .before .before .before .before .before .before .loop in let g = c .before .before .before .before .before .before .before .before .args in omega (arith, near-read g.s (getD g.t2 (l .i) zeroTile .next .code) (l .i) (omega (arith, l .inv .whole)) (l .inv .ranged .2) (c .neighbour .ensures))
+
+array-read-lack : tie.Need-array-read-lack Inv-loop μ-loop
+array-read-lack c = let l = c .before .before .before .before .before .before .loop in let g = c .before .before .before .before .before .before .before .before .args in near-read g.s (getD g.t2 (l .i) zeroTile .next .code) (l .i) (omega (arith, l .inv .whole)) (l .inv .ranged .2) (c .neighbour .ensures)
+
+array-read-turn :
+    tie.Need-array-read-turn Inv-loop μ-loop
+array-read-turn c = let l = c .before .before .before .before .before .before .loop in let g = c .before .before .before .before .before .before .before .before .args in near-read g.s (getD g.t2 (l .i) zeroTile .next .code) (l .i) (omega (arith, l .inv .whole)) (l .inv .ranged .2) (c .neighbour .ensures)
+
+ahead-reason-requires :
+    tie.Need-ahead-reason-requires Inv-loop μ-loop
+ahead-reason-requires c κs = tt
+
+array-write-reasons-2 :
+    tie.Need-array-write-reasons-2 Inv-loop μ-loop
+array-write-reasons-2 c = search needs
+
+beside-requires : tie.Need-beside-requires Inv-loop μ-loop
+beside-requires c κs = c .before .before .before .before .before .before .before .loop .inv .slight (c .before .neighbour .result)
+
+mul-missing : tie.Need-mul-missing Inv-loop μ-loop
+mul-missing c = search needs
+
+array-write-missing :
+    tie.Need-array-write-missing Inv-loop μ-loop
+array-write-missing c = search needs
+
+add-i-2 : tie.Need-add-i-2 Inv-loop μ-loop
+add-i-2 c = search needs
+
+loop-less-2 : tie.Need-loop-less-2 Inv-loop μ-loop
+loop-less-2 c = search needs
+
+loop-again-2 : tie.Need-loop-again-2 Inv-loop μ-loop
+loop-again-2 c =
+    let l = c .before .before .before .before .before .before .before .before .loop in
+    let g = c .before .before .before .before .before .before .before .before .before .before .args in
+    let turn : ℕ → ℕ = λ u. getD g.t3 u 0 in
+    let lack : ℕ → ℕ = λ u. getD g.t4 u 0 in
+    let here : l .i < 64 = omega (arith, l .inv .ranged .2) in
+    let q = c .before .before .before .before .before .own-reason in
+    let z = c .before .before .before .before .if1 .left in
+    let e = c .before .before .neighbour .ensures in
+    let y = c .before .ahead-reason in
+    let r = reason-read g.s g.t2 turn lack (l .i) (q .ensures) z e refl refl (y .ensures) in
+    let m = lack-read g.s g.t2 turn lack (l .i) (q .ensures) z e refl refl (y .ensures) (c .beside .ensures) in record {
+      below = omega arith;
+      whole = l .inv .whole;
+      ranged = l .inv .ranged;
+      tiles-length = l .inv .tiles-length;
+      turns-length = l .inv .turns-length;
+      lacks-length = l .inv .lacks-length;
+      slight = l .inv .slight;
+      stood = granted-turn 64 (M.reasonBy g.s g.t2 turn lack) (l .reasons) (l .i) (y .result) here (l .inv .stood) r;
+      lacking = granted-turn 64 (M.lackBy g.s g.t2 turn lack) (l .missing) (l .i) (c .beside .result) here (l .inv .lacking) m;
+    }
+
+returns : tie.Need-returns Inv-loop μ-loop
+returns c =
+    let l = c .before .loop in
+    let g = c .before .before .before .args in
+    let e : l .i ≡ total g.s = omega (arith, l .inv .below, l .inv .whole) in (
+      granted-end 64 (M.reasonBy g.s g.t2 (λ u. getD g.t3 u 0) (λ u. getD g.t4 u 0)) (l .reasons) (l .i) (total g.s) e (l .inv .stood),
+      granted-end 64 (M.lackBy g.s g.t2 (λ u. getD g.t3 u 0) (λ u. getD g.t4 u 0)) (l .missing) (l .i) (total g.s) e (l .inv .lacking),
+    )
+
+pub reason-pass-spec : {M : Type 1} → statement M
+reason-pass-spec =
+    tie.close
+    (tie.spec
+    Inv-loop
+    μ-loop
+    tile-count-requires
+    loop-holds
+    mul-tile
+    array-copy-out-tile
+    own-reason-requires
+    array-write-reasons
+    add-i
+    loop-less
+    loop-again
+    neighbour-requires
+    mul-lack
+    array-read-lack
+    array-read-turn
+    ahead-reason-requires
+    array-write-reasons-2
+    beside-requires
+    mul-missing
+    array-write-missing
+    add-i-2
+    loop-less-2
+    loop-again-2
+    returns)
