@@ -1,14 +1,13 @@
 use mathlib.Core.Path.{_≡_, sym, ap, _∙_, refl}
 use mathlib.Core.List.{List}
-use Prim.Native.Nat.{ℕ, _+_, _*_, _-_, _≤_, _<_}
+use Prim.Native.Nat.{ℕ, _+_, _*_, _-_, _<_}
 use native.Mathlib.Omega.{arith}
-use lib.ListN.{length, getD}
 use Rattle.image_bytes.specs.Put.{put}
 use Rattle.image_bytes.proofs.PutLaws.{put-none}
 use Rattle.floor.specs.declared.Tile.{Tile}
-use Rattle.floor.specs.Memory.{zeroTile}
-use Rattle.page_call.specs.Page.{cell, cells}
-use Rattle.page_call.proofs.Laws.{upTo, upTo-none, cell-length, turn, on-grid}
+use Rattle.page_call.specs.Page.{cells}
+use Rattle.page_call.proofs.Laws.{upTo-none, cell-length, turn, on-grid}
+use Rattle.page_call.proofs.Loops.{cellAt, CellsPut}
 use borrow.Author.Needs.{needs}
 use Rattle.page_call.proofs.put_cells.Statement.{statement}
 use Rattle.page_call.proofs.put_cells.Tie as tie
@@ -16,39 +15,49 @@ use Rattle.page_call.proofs.put_cells.Reads as reads
 use Rattle.page_call.proofs.put_cells.Lts as lts
 use Rattle.page_call.proofs.put_cell.Reads as put-cell-reads
 
-abbrev here : List Tile → ℕ → ℕ → ℕ → List ℕ
-here tiles h r c = cell (getD tiles (c * h + r) zeroTile)
-
 abbrev Inv-loop : tie.InvT-loop
-Inv-loop s₀ at w h r tiles k₀ s k =
-    (k ≤ w) × (w ≤ 8) × (h ≤ 8) × (r < h) × (length s ≡ length s₀) × (at + 8 * w ≤ length s₀) × (length tiles ≡ 64) × (s ≡ put s₀ at (upTo k (here tiles h r)))
+Inv-loop s₀ at w h r tiles k₀ s k = CellsPut s₀ at w h r tiles s k
 
 abbrev μ-loop : tie.MeasureT-loop
 μ-loop s₀ at w h r tiles k₀ s k = w - k
 
 loop-holds : tie.Need-loop-holds Inv-loop μ-loop
-loop-holds c = let p = c .before .pre in (omega arith, p .0, p .1, p .2, refl, p .3, c .before .good .1 .1 .0 .1 .0 .1, sym (ap (put _ _) (upTo-none _) ∙ put-none _ _))
+loop-holds c =
+    let s = c .before in
+    record {
+      below = omega arith;
+      columns-few = s .pre .0;
+      rows-few = s .pre .1;
+      row = s .pre .2;
+      tiles-length = s .good .1 .1 .0 .1 .0 .1;
+      room = s .pre .3;
+      buffer-length = refl;
+      written = sym (ap (put _ _) (upTo-none _) ∙ put-none _ _);
+    }
+
+on-floor : {s₀ : List ℕ} {at w h r : ℕ} {tiles : List Tile} {s : List ℕ} {k : ℕ} → CellsPut s₀ at w h r tiles s k → k < w → k * h + r < 64
+on-floor i t = on-grid _ _ _ _ t (i .columns-few) (i .row) (i .rows-few)
 
 mul-tile : tie.Need-mul-tile Inv-loop μ-loop
-mul-tile c = let g = c .before .before .before .args in let l = c .before .loop in let i : l .k * g.h + g.r < 64 = on-grid (l .k) g.w g.r g.h (c .loop-test .taken) (l .inv .1) (l .inv .3) (l .inv .2) in record { fits = omega (arith, i) }
+mul-tile c = record { fits = omega (arith, on-floor (c .before .loop .inv) (c .loop-test .taken)) }
 
 add-tile : tie.Need-add-tile Inv-loop μ-loop
-add-tile c = let g = c .before .before .before .args in let l = c .before .loop in let i : l .k * g.h + g.r < 64 = on-grid (l .k) g.w g.r g.h (c .loop-test .taken) (l .inv .1) (l .inv .3) (l .inv .2) in record { fits = omega (arith, i) }
+add-tile c = record { fits = omega (arith, on-floor (c .before .loop .inv) (c .loop-test .taken)) }
 
 mul-tile-2 : tie.Need-mul-tile-2 Inv-loop μ-loop
-mul-tile-2 c = let g = c .before .before .before .args in let l = c .before .loop in let i : l .k * g.h + g.r < 64 = on-grid (l .k) g.w g.r g.h (c .loop-test .taken) (l .inv .1) (l .inv .3) (l .inv .2) in record { fits = omega (arith, i) }
+mul-tile-2 c = record { fits = omega (arith, on-floor (c .before .loop .inv) (c .loop-test .taken)) }
 
 array-copy-out-tile : tie.Need-array-copy-out-tile Inv-loop μ-loop
-array-copy-out-tile c = let g = c .before .before .before .args in let l = c .before .loop in let i : l .k * g.h + g.r < 64 = on-grid (l .k) g.w g.r g.h (c .loop-test .taken) (l .inv .1) (l .inv .3) (l .inv .2) in i
+array-copy-out-tile c = on-floor (c .before .loop .inv) (c .loop-test .taken)
 
 mul-put-cell : tie.Need-mul-put-cell Inv-loop μ-loop
 mul-put-cell c = search needs
 
 add-put-cell : tie.Need-add-put-cell Inv-loop μ-loop
-add-put-cell c = let l = c .before .before .before .loop in omega (arith, l .inv .5, c .before .before .loop-test .taken)
+add-put-cell c = search needs
 
 put-cell-requires : tie.Need-put-cell-requires Inv-loop μ-loop
-put-cell-requires c κs = let l = c .before .before .before .loop in omega (arith, l .inv .4, l .inv .5, c .before .before .loop-test .taken)
+put-cell-requires c κs = omega arith
 
 add-k : tie.Need-add-k Inv-loop μ-loop
 add-k c = search needs
@@ -58,26 +67,26 @@ loop-less c = search needs
 
 loop-again : tie.Need-loop-again Inv-loop μ-loop
 loop-again c =
+    let p = c .before .before .put-cell in
     let l = c .before .before .before .before .before .before .loop in
     let g = c .before .before .before .before .before .before .before .before .args in
-    let t : l .k < g.w = c .before .before .before .before .before .loop-test .taken in
-    let e = c .before .before .put-cell .kept .0 in (
-      omega arith,
-      l .inv .1,
-      l .inv .2,
-      l .inv .3,
-      e ∙ l .inv .4,
-      l .inv .5,
-      l .inv .6,
-      turn (g.s .now) (l .s) _ g.at (g.at + 8 * l .k) 8 (l .k) (here g.t3 g.h g.r) (λ i. cell-length _) (omega arith) (omega (arith, l .inv .5, t)) (l .inv .7) (c .before .before .put-cell .ensures),
-    )
+    record {
+      below = omega arith;
+      columns-few = l .inv .columns-few;
+      rows-few = l .inv .rows-few;
+      row = l .inv .row;
+      tiles-length = l .inv .tiles-length;
+      room = l .inv .room;
+      buffer-length = p .kept .0 ∙ l .inv .buffer-length;
+      written = turn (g.s .now) (l .s) _ g.at (g.at + 8 * l .k) 8 (l .k) (cellAt g.t3 g.h g.r) (λ i. cell-length _) (omega arith) (omega arith) (l .inv .written) (p .ensures);
+    }
 
 same-length : tie.Need-same-length Inv-loop μ-loop
-same-length c = c .before .loop .inv .4
+same-length c = c .before .loop .inv .buffer-length
 
 returns : tie.Need-returns Inv-loop μ-loop
 unfolding cells
-returns c = let l = c .before .loop in let e : l .k ≡ c .before .before .before .args .w = omega (arith, l .inv .0, c .loop-test .left) in rw e at (l .inv .7)
+returns c = let l = c .before .loop in let e : l .k ≡ c .before .before .before .args .w = omega arith in rw e at (l .inv .written)
 
 pub put-cells-spec : {M : Type 1} → statement M
 put-cells-spec =

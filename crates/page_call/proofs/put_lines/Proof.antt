@@ -1,50 +1,56 @@
 use mathlib.Core.Path.{_≡_, refl, sym, ap, _∙_}
-use mathlib.Core.List.{List}
-use Prim.Native.Nat.{ℕ, _+_, _*_, _-_, _≤_, _<_}
+use Prim.Native.Nat.{_+_, _*_, _-_}
 use native.Mathlib.Omega.{arith}
-use lib.ListN.{length, getD}
 use Rattle.image_bytes.specs.Put.{put}
 use Rattle.image_bytes.proofs.PutLaws.{put-none}
-use Rattle.floor.specs.declared.Tile.{Tile}
-use Rattle.floor.specs.Memory.{zeroTile}
 use borrow.Author.Needs.{needs}
-use Rattle.page_call.specs.Page.{line, lines}
-use Rattle.page_call.proofs.Laws.{upTo, upTo-none, line-length, turn, row-room, row-small}
+use Rattle.page_call.specs.Page.{lines}
+use Rattle.page_call.proofs.Laws.{upTo-none, line-length, turn, row-room, row-small}
+use Rattle.page_call.proofs.Loops.{lineAt, LinesPut}
 use Rattle.page_call.proofs.put_lines.Statement.{statement}
 use Rattle.page_call.proofs.put_lines.Tie as tie
 use Rattle.page_call.proofs.put_lines.Reads as reads
 use Rattle.page_call.proofs.put_lines.Lts as lts
 use Rattle.page_call.proofs.put_line.Reads as put-line-reads
 
-abbrev here : List Tile → ℕ → ℕ → ℕ → List ℕ
-here tiles w h k = line (λ t. getD tiles t zeroTile) w h (h - 1 - k)
-
 abbrev Inv-loop : tie.InvT-loop
-Inv-loop s₀ tiles w h k₀ s k = (k ≤ h) × (w ≤ 8) × (h ≤ 8) × (length s ≡ length s₀) × (h * (8 * w + 2) ≤ length s₀) × (s ≡ put s₀ 0 (upTo k (here tiles w h)))
+Inv-loop s₀ tiles w h k₀ s k = LinesPut s₀ tiles w h s k
 
 abbrev μ-loop : tie.MeasureT-loop
 μ-loop s₀ tiles w h k₀ s k = h - k
 
 loop-holds : tie.Need-loop-holds Inv-loop μ-loop
-loop-holds c = let p = c .before .pre in (omega arith, p .0, p .1, refl, p .2, sym (ap (put _ _) (upTo-none _) ∙ put-none _ _))
+loop-holds c =
+    let s = c .before in
+    record {
+      below = omega arith;
+      columns-few = s .pre .0;
+      rows-few = s .pre .1;
+      room = s .pre .2;
+      buffer-length = refl;
+      written = sym (ap (put _ _) (upTo-none _) ∙ put-none _ _);
+    }
 
 mul-put-line : tie.Need-mul-put-line Inv-loop μ-loop
-mul-put-line c = let l = c .before .before .loop in let g = c .before .before .before .before .args in let t : l .k < g.h = c .before .loop-test .taken in record { fits = omega (arith, l .inv .1) }
+mul-put-line c = search needs
 
 add-put-line : tie.Need-add-put-line Inv-loop μ-loop
-add-put-line c = let l = c .before .before .loop in let g = c .before .before .before .before .args in let t : l .k < g.h = c .before .loop-test .taken in record { fits = omega (arith, l .inv .1) }
+add-put-line c = search needs
 
 mul-put-line-2 : tie.Need-mul-put-line-2 Inv-loop μ-loop
-mul-put-line-2 c = let l = c .before .before .loop in let g = c .before .before .before .before .args in let t : l .k < g.h = c .before .loop-test .taken in record { fits = omega (arith, row-small (l .k) g.w g.h t (l .inv .2) (l .inv .1)) }
+mul-put-line-2 c = let l = c .before .before .loop in record { fits = omega (arith, row-small (l .k) _ _ (c .before .loop-test .taken) (l .inv .rows-few) (l .inv .columns-few)) }
 
 sub-put-line : tie.Need-sub-put-line Inv-loop μ-loop
-sub-put-line c = let l = c .before .before .loop in let g = c .before .before .before .before .args in let t : l .k < g.h = c .before .loop-test .taken in omega (arith, t)
+sub-put-line c = search needs
 
 sub-put-line-2 : tie.Need-sub-put-line-2 Inv-loop μ-loop
-sub-put-line-2 c = let l = c .before .before .loop in let g = c .before .before .before .before .args in let t : l .k < g.h = c .before .loop-test .taken in omega (arith, t)
+sub-put-line-2 c = search needs
 
 put-line-requires : tie.Need-put-line-requires Inv-loop μ-loop
-put-line-requires c κs = let l = c .before .before .loop in let g = c .before .before .before .before .args in let t : l .k < g.h = c .before .loop-test .taken in (l .inv .1, l .inv .2, omega (arith, t), omega (arith, row-room (l .k) g.h (8 * g.w + 2) t, l .inv .3, l .inv .4))
+put-line-requires c κs =
+    let l = c .before .before .loop in
+    let g = c .before .before .before .before .args in
+    (l .inv .columns-few, l .inv .rows-few, omega arith, omega (arith, row-room (l .k) g.h (8 * g.w + 2) (c .before .loop-test .taken)))
 
 add-k : tie.Need-add-k Inv-loop μ-loop
 add-k c = search needs
@@ -54,25 +60,26 @@ loop-less c = search needs
 
 loop-again : tie.Need-loop-again Inv-loop μ-loop
 loop-again c =
+    let p = c .before .before .put-line in
     let l = c .before .before .before .before .before .loop in
     let g = c .before .before .before .before .before .before .before .args in
-    let t : l .k < g.h = c .before .before .before .before .loop-test .taken in
-    let e = c .before .before .put-line .kept .0 in
-    let n = 8 * g.w + 2 in (
-      omega arith,
-      l .inv .1,
-      l .inv .2,
-      e ∙ l .inv .3,
-      l .inv .4,
-      turn (g.s .now) (l .s) _ 0 (l .k * (8 * g.w + 2)) (8 * g.w + 2) (l .k) (here g.tiles g.w g.h) (λ i. line-length _ g.w g.h _) (omega arith) (omega (arith, row-room (l .k) g.h (8 * g.w + 2) t, l .inv .4)) (l .inv .5) (c .before .before .put-line .ensures),
-    )
+    let n = 8 * g.w + 2 in
+    let r = row-room (l .k) g.h n (c .before .before .before .before .loop-test .taken) in
+    record {
+      below = omega arith;
+      columns-few = l .inv .columns-few;
+      rows-few = l .inv .rows-few;
+      room = l .inv .room;
+      buffer-length = p .kept .0 ∙ l .inv .buffer-length;
+      written = turn (g.s .now) (l .s) _ 0 (l .k * n) n (l .k) (lineAt g.tiles g.w g.h) (λ i. line-length _ g.w g.h _) (omega arith) (omega (arith, r)) (l .inv .written) (p .ensures);
+    }
 
 same-length : tie.Need-same-length Inv-loop μ-loop
-same-length c = c .before .loop .inv .3
+same-length c = c .before .loop .inv .buffer-length
 
 returns : tie.Need-returns Inv-loop μ-loop
 unfolding lines
-returns c = let l = c .before .loop in let e : l .k ≡ c .before .before .before .args .h = omega (arith, l .inv .0, c .loop-test .left) in rw e at (l .inv .5)
+returns c = let l = c .before .loop in let e : l .k ≡ c .before .before .before .args .h = omega arith in rw e at (l .inv .written)
 
 pub put-lines-spec : {M : Type 1} → statement M
 put-lines-spec =
