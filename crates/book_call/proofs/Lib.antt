@@ -1,2 +1,3 @@
-pub mod Booking
 pub mod Tests
+pub mod Loops
+pub mod Booking

@@ -1,16 +1,17 @@
-use mathlib.Core.Path.{_≡_, refl, sym, ap, _∙_}
-use Prim.Native.Nat.{_+_, _*_, _%_, _-_, _≤_}
+use mathlib.Core.Path.{_≡_, sym, _∙_}
+use Prim.Native.Nat.{_-_}
 use native.Mathlib.Omega.{arith}
-use lib.ListN.{length, getD, set, length-set, length-replicate}
-use Rattle.laws.proofs.Tables.{upto-turn}
+use Rattle.laws.specs.Define.{refusal}
 use Rattle.floor.specs.declared.Floor.{Floor}
 use Rattle.floor.specs.Memory.{view, zeroCanister}
+use Rattle.floor.specs.Calls.{refusalOf, bookTests}
 use Rattle.floor.specs.Anywhere.{anywhereTests}
 use Rattle.floor.proofs.Pack.{well-few, well-measured}
-use Rattle.floor.proofs.Sized.{tiles-length, canisters-length, items-length}
+use Rattle.floor.proofs.Sized.{tiles-length, items-length}
 use Rattle.floor.proofs.Answers.{malformed, formed}
 use Rattle.book_call.proofs.Tests.{book-fits}
-use Rattle.book_call.proofs.Booking.{withPlaces, Put, put-none, put-turn, Read, own-few, book-ready, booked-pack}
+use Rattle.book_call.proofs.Loops.{PlacesRead, read-none, read-turn, all-read, PlacesPut, put-none, put-turn, all-put}
+use Rattle.book_call.proofs.Booking.{own-few, book-ready, booked-pack}
 use Rattle.book_anywhere.proofs.Answer.{anywhere-number, anywhere-booked, anywhere-place, placed-refused, placed-accepted}
 use borrow.Author.Needs.{needs}
 use Rattle.book_anywhere.proofs.anywhere_checked.Statement.{statement}
@@ -23,17 +24,37 @@ use Rattle.book_tile.proofs.with_count.Reads as with-count-reads
 use Rattle.round_members.proofs.insert.Reads as insert-reads
 
 abbrev Inv-loop : tie.InvT-loop
-Inv-loop tile number well changed refused a b t s counters old items₀ k₀ items k = (k ≤ 16) × Read changed tile k items
+Inv-loop tile number well changed refused a b t s counters old items₀ k₀ items k = PlacesRead changed tile items k
 
 abbrev μ-loop : tie.MeasureT-loop
 μ-loop tile number well changed refused a b t s counters old items₀ k₀ items k = 16 - k
 
 abbrev Inv-loop2 : tie.InvT-loop2
-Inv-loop2 tile number well changed₀ refused a b t counters old canister more places j₀ changed j = (j ≤ 16) × (length places ≡ 16) × Put (tile % 64) j places (changed₀ .canisters) (changed .canisters) × (changed ≡ withPlaces changed₀ (changed .canisters))
+Inv-loop2 tile number well changed₀ refused a b t counters old canister more places j₀ changed j = PlacesPut changed₀ tile places changed j
 
 abbrev μ-loop2 : tie.MeasureT-loop2
 μ-loop2 tile number well changed₀ refused a b t counters old canister more places j₀ changed j = 16 - j
 
+-- ---- where the sixteen places are read
+module _ (s : tie.After-loop Inv-loop μ-loop Inv-loop2 μ-loop2) where
+  abbrev start : tie.Start Inv-loop μ-loop Inv-loop2 μ-loop2
+  start = s .before .before .before .before .before .before
+
+  abbrev floor : Floor
+  floor = start .args .floor
+
+  own : PlacesRead floor (start .args .tile) (s .before .loop .items) 16
+  own = all-read (s .before .loop .inv) (omega arith)
+
+-- the number found is the floor's
+number-is : (s : tie.After-find Inv-loop μ-loop Inv-loop2 μ-loop2) → refusalOf (floor (s .before)) (anywhereTests (view (floor (s .before))) (start (s .before) .args .tile) (start (s .before) .args .number)) ≡ s .find .result .refusal
+number-is s = let p = own (s .before) in formed _ _ _ (p .well) (anywhere-number p _ _ (s .find .ensures .0))
+
+-- a booking of the canister found is accepted
+accepted : (s : tie.Then2 Inv-loop μ-loop Inv-loop2 μ-loop2) → refusal (bookTests (view (floor (s .before .before))) (start (s .before .before) .args .tile) (s .before .find .result .canister)) ≡ 0
+accepted s = let n = s .before .find .ensures in anywhere-booked (own (s .before .before)) _ _ (n .0) (s .if2 .taken) _ (n .1 (s .if2 .taken))
+
+-- ---- the code in its order
 cast-t : tie.Need-cast-t Inv-loop μ-loop Inv-loop2 μ-loop2
 cast-t c = search needs
 
@@ -41,11 +62,10 @@ mul-old : tie.Need-mul-old Inv-loop μ-loop Inv-loop2 μ-loop2
 mul-old c = search needs
 
 element-copy-out-old : tie.Need-element-copy-out-old Inv-loop μ-loop Inv-loop2 μ-loop2
-element-copy-out-old c = let g = c .before .before .before .args in
-    omega (arith, tiles-length g.floor _ (c .before .before .before .good .0))
+element-copy-out-old c = let s = c .before .before .before in omega (arith, tiles-length (s .args .floor) _ (s .good .0))
 
 loop-holds : tie.Need-loop-holds Inv-loop μ-loop Inv-loop2 μ-loop2
-loop-holds c = (omega arith, (length-replicate 16 zeroCanister, λ i h. absurd (omega arith)))
+loop-holds c = let s = c .before .before .before .before in read-none (s .args .floor) (s .args .tile) zeroCanister (sym (s .pre) ∙ c .before .before .before .if1 .taken)
 
 mul-items : tie.Need-mul-items Inv-loop μ-loop Inv-loop2 μ-loop2
 mul-items c = search needs
@@ -57,8 +77,7 @@ mul-items-2 : tie.Need-mul-items-2 Inv-loop μ-loop Inv-loop2 μ-loop2
 mul-items-2 c = search needs
 
 element-copy-out-items : tie.Need-element-copy-out-items Inv-loop μ-loop Inv-loop2 μ-loop2
-element-copy-out-items c = let g = c .before .before .before .before .before .before .args in
-    omega (arith, canisters-length g.floor _ (c .before .before .before .before .before .before .good .0))
+element-copy-out-items c = search needs
 
 mul-items-3 : tie.Need-mul-items-3 Inv-loop μ-loop Inv-loop2 μ-loop2
 mul-items-3 c = search needs
@@ -73,35 +92,18 @@ loop-less : tie.Need-loop-less Inv-loop μ-loop Inv-loop2 μ-loop2
 loop-less c = search needs
 
 loop-again : tie.Need-loop-again Inv-loop μ-loop Inv-loop2 μ-loop2
-loop-again c = let g = c .before .before .before .before .before .before .before .args in
-    let l = c .before .before .loop in (
-      omega arith,
-      (
-        length-set (l .items) (l .k) _ ∙ l .inv .1 .0,
-        upto-turn (l .k) (λ j. getD (g.floor .canisters) (16 * (g.tile % 64) + j) zeroCanister) zeroCanister (l .items) _ (omega arith) (l .inv .1 .1) refl,
-      ),
-    )
+loop-again c = let l = c .before .before .loop in read-turn _ _ (l .items) (l .k) (omega arith) (l .inv)
 
 find-requires : tie.Need-find-requires Inv-loop μ-loop Inv-loop2 μ-loop2
-find-requires c κs = let g = c .before .before .before .before .before .before .args in
-    let w = sym (c .before .before .before .before .before .before .pre) ∙ c .before .before .before .before .before .if1 .taken in
-    (well-few g.floor w, omega (arith, well-measured g.floor w .short), omega (arith, well-measured g.floor w .narrow), λ on. own-few g.floor g.tile w on)
+find-requires c κs =
+    let w = own c .well in
+    (well-few (floor c) w, omega (arith, well-measured (floor c) w .short), omega (arith, well-measured (floor c) w .narrow), own-few (floor c) (start c .args .tile) w)
 
 insert-requires : tie.Need-insert-requires Inv-loop μ-loop Inv-loop2 μ-loop2
-insert-requires c κs = let g = c .before .before .before .before .before .before .before .before .before .args in
-    let w = sym (c .before .before .before .before .before .before .before .before .before .pre) ∙ c .before .before .before .before .before .before .before .before .if1 .taken in
-    let l = c .before .before .before .before .loop in
-    let e : l .k ≡ 16 = omega arith in
-    let p = rw e at (l .inv .1) in
-    let n = c .before .before .find in
-    let z = c .before .if2 .taken in
-    let h = anywhere-booked g.floor g.tile w (l .items) p g.number (n .result .refusal) (n .ensures .0) z (n .result .canister) (n .ensures .1 z) in
-    book-ready g.floor g.tile w (n .result .canister) (l .items) p h
+insert-requires c κs = book-ready (own (c .before .before .before)) _ (accepted (c .before))
 
 loop2-holds : tie.Need-loop2-holds Inv-loop μ-loop Inv-loop2 μ-loop2
-loop2-holds c = let g = c .before .before .before .before .before .before .before .before .before .before .before .args in
-    let m = c .before .insert in
-    (omega arith, items-length (m .result) _ (m .ok), put-none (g.tile % 64) (m .result .items) (g.floor .canisters) (canisters-length g.floor _ (c .before .before .before .before .before .before .before .before .before .before .before .good .0)), refl)
+loop2-holds c = let m = c .before .insert in put-none _ _ (m .result .items) (own (c .before .before .before .before .before) .well) (items-length (m .result) _ (m .ok))
 
 mul-changed : tie.Need-mul-changed Inv-loop μ-loop Inv-loop2 μ-loop2
 mul-changed c = search needs
@@ -119,8 +121,7 @@ mul-t47 : tie.Need-mul-t47 Inv-loop μ-loop Inv-loop2 μ-loop2
 mul-t47 c = search needs
 
 element-set-from-changed : tie.Need-element-set-from-changed Inv-loop μ-loop Inv-loop2 μ-loop2
-element-set-from-changed c = let l = c .before .before .loop2 in
-    omega (arith, l .inv .2 .0)
+element-set-from-changed c = search needs
 
 add-j : tie.Need-add-j Inv-loop μ-loop Inv-loop2 μ-loop2
 add-j c = search needs
@@ -129,14 +130,7 @@ loop2-less : tie.Need-loop2-less Inv-loop μ-loop Inv-loop2 μ-loop2
 loop2-less c = search needs
 
 loop2-again : tie.Need-loop2-again Inv-loop μ-loop Inv-loop2 μ-loop2
-loop2-again c = let g = c .before .before .before .before .before .before .before .before .before .before .before .before .before .before .args in
-    let l = c .before .before .loop2 in
-    let m = c .before .before .before .before .insert in (
-      omega arith,
-      l .inv .1,
-      put-turn (g.tile % 64) (l .j) (m .result .items) (g.floor .canisters) (l .changed .canisters) (omega arith) (omega arith) (l .inv .2),
-      ap (λ (x : Floor). withPlaces x (set (l .changed .canisters) (16 * (g.tile % 64) + l .j) (getD (m .result .items) (l .j) zeroCanister))) (l .inv .3),
-    )
+loop2-again c = let l = c .before .before .loop2 in put-turn _ _ _ (l .changed) (l .j) (omega arith) (l .inv)
 
 with-count-requires : tie.Need-with-count-requires Inv-loop μ-loop Inv-loop2 μ-loop2
 with-count-requires c κs = search needs
@@ -145,53 +139,30 @@ mul-t51 : tie.Need-mul-t51 Inv-loop μ-loop Inv-loop2 μ-loop2
 mul-t51 c = search needs
 
 element-set-from-changed-2 : tie.Need-element-set-from-changed-2 Inv-loop μ-loop Inv-loop2 μ-loop2
-element-set-from-changed-2 c = let g = c .before .before .before .before .before .before .before .before .before .before .before .before .before .before .args in
-    let l = c .before .before .loop2 in
-    let t = ap (λ (x : Floor). length (x .tiles)) (l .inv .3) in
-    omega (arith, t, tiles-length g.floor _ (c .before .before .before .before .before .before .before .before .before .before .before .before .before .before .good .0))
+element-set-from-changed-2 c = search needs
 
 with-booking-requires : tie.Need-with-booking-requires Inv-loop μ-loop Inv-loop2 μ-loop2
-with-booking-requires c κs = let g = c .before .before .before .before .before .before .before .before .before .before .before .before .before .before .args in
-    let w = sym (c .before .before .before .before .before .before .before .before .before .before .before .before .before .before .pre) ∙ c .before .before .before .before .before .before .before .before .before .before .before .before .before .if1 .taken in
-    let l = c .before .before .before .before .before .before .before .before .before .loop in
-    let e : l .k ≡ 16 = omega arith in
-    let p = rw e at (l .inv .1) in
-    let n = c .before .before .before .before .before .before .before .find in
-    let z = c .before .before .before .before .before .before .if2 .taken in
-    let h = anywhere-booked g.floor g.tile w (l .items) p g.number (n .result .refusal) (n .ensures .0) z (n .result .canister) (n .ensures .1 z) in
-    book-fits g.floor g.tile (n .result .canister) h w
+with-booking-requires c κs = let s = c .before .before .before .before .before .before in book-fits _ _ _ (accepted s) (own (s .before .before) .well)
 
 returns : tie.Need-returns Inv-loop μ-loop Inv-loop2 μ-loop2
-returns c = let g = c .before .before .before .before .before .before .before .before .before .before .before .before .before .before .before .args in
-    let w = sym (c .before .before .before .before .before .before .before .before .before .before .before .before .before .before .before .pre) ∙ c .before .before .before .before .before .before .before .before .before .before .before .before .before .before .if1 .taken in
-    let l = c .before .before .before .before .before .before .before .before .before .before .loop in
-    let e : l .k ≡ 16 = omega arith in
-    let p = rw e at (l .inv .1) in
-    let n = c .before .before .before .before .before .before .before .before .find in
-    let z = c .before .before .before .before .before .before .before .if2 .taken in
-    let h = anywhere-booked g.floor g.tile w (l .items) p g.number (n .result .refusal) (n .ensures .0) z (n .result .canister) (n .ensures .1 z) in
-    let l2 = c .before .before .before .loop2 in
-    let e2 : l2 .j ≡ 16 = omega arith in
-    let put = rw e2 at (l2 .inv .2) in
+returns c =
+    let l = c .before .before .before .loop2 in
     let m = c .before .before .before .before .before .insert in
-    let x = n .result .canister in
-    let place = anywhere-place g.floor g.tile w (l .items) p g.number (n .result .refusal) (n .ensures .0) z x (n .ensures .1 z) in
-    placed-accepted g.floor _ g.tile g.number (n .result .refusal) x (formed g.floor (anywhereTests (view g.floor) g.tile g.number) (n .result .refusal) w (anywhere-number g.floor g.tile w (l .items) p g.number (n .result .refusal) (n .ensures .0))) z place
-    (booked-pack g.floor g.tile w x (l .items) p h (m .result) (l2 .changed) (c .before .with-count .result) (c .with-booking .result) (m .ensures) put (l2 .inv .3) (c .before .with-count .ensures) (c .with-booking .ensures))
+    let s = c .before .before .before .before .before .before .before in
+    let g = start (s .before .before) .args in
+    let n = s .before .find in
+    let p = own (s .before .before) in
+    let z = s .if2 .taken in
+    placed-accepted g.floor _ g.tile g.number _ (n .result .canister) (number-is (s .before)) z (anywhere-place p g.number _ (n .ensures .0) z _ (n .ensures .1 z))
+    (booked-pack p (n .result .canister) (accepted s) (m .result) (l .changed) _ _ (m .ensures) (all-put (l .inv) (omega arith)) (c .before .with-count .ensures) (c .with-booking .ensures))
 
 returns-2 : tie.Need-returns-2 Inv-loop μ-loop Inv-loop2 μ-loop2
-returns-2 c = let g = c .before .before .before .before .before .before .before .before .args in
-    let w = sym (c .before .before .before .before .before .before .before .before .pre) ∙ c .before .before .before .before .before .before .before .if1 .taken in
-    let l = c .before .before .before .loop in
-    let e : l .k ≡ 16 = omega arith in
-    let p = rw e at (l .inv .1) in
-    let n = c .before .find in
-    placed-refused g.floor g.tile g.number (n .result .refusal) (formed g.floor (anywhereTests (view g.floor) g.tile g.number) (n .result .refusal) w (anywhere-number g.floor g.tile w (l .items) p g.number (n .result .refusal) (n .ensures .0))) (c .if2 .left)
+returns-2 c = let g = start (c .before .before) .args in placed-refused g.floor g.tile g.number _ (number-is (c .before)) (c .if2 .left)
 
 returns-3 : tie.Need-returns-3 Inv-loop μ-loop Inv-loop2 μ-loop2
-returns-3 c = let g = c .before .args in
-    let w = sym (c .before .pre) ∙ c .if1 .left in
-    placed-refused g.floor g.tile g.number 30 (malformed g.floor (anywhereTests (view g.floor) g.tile g.number) w) (omega arith)
+returns-3 c =
+    let g = c .before .args in
+    placed-refused g.floor g.tile g.number 30 (malformed g.floor (anywhereTests (view g.floor) g.tile g.number) (sym (c .before .pre) ∙ c .if1 .left)) (omega arith)
 
 pub anywhere-checked-spec : {M : Type 1} → statement M
 anywhere-checked-spec =
