@@ -3,3 +3,4 @@ pub mod Kept
 pub mod Widths
 pub mod Singly
 pub mod Samples
+pub mod Loops

@@ -1,11 +1,9 @@
 use mathlib.Core.Path.{_≡_, refl, sym, ap, _∙_, subst}
-use mathlib.Core.List.{List, _++_}
-use Prim.Native.Nat.{ℕ, _-_, _≤_, _<_}
+use mathlib.Core.List.{_++_}
+use Prim.Native.Nat.{ℕ, _-_, _<_}
 use native.Mathlib.Omega.{arith}
 use native.Mathlib.Numerals.{add-one}
 use lib.ListN.{length, set, getD, take, drop}
-use Rattle.floor.specs.Well.{wellFormed}
-use Rattle.floor.specs.declared.Floor.{Floor}
 use Rattle.floor.specs.declared.Answer.{Answer}
 use Rattle.book_list.specs.declared.Booking.{Booking}
 use Rattle.book_list.specs.declared.Begun.{Begun}
@@ -14,6 +12,7 @@ use Rattle.book_list.specs.Listing.{floorSingly, entriesSingly}
 use Rattle.book_list.specs.Parts.{entryOf, turnsOf, placesAnswer}
 use Rattle.book_list.proofs.Upto.{floorUpto, listUpto, list-step, floor-step, upto-floor, upto-list, turns-few}
 use Rattle.book_list.proofs.Kept.{begun-well}
+use Rattle.book_list.proofs.Loops.{EntriesBooked}
 use borrow.Author.Needs.{needs}
 use Rattle.book_list.proofs.book_places.Statement.{statement}
 use Rattle.book_list.proofs.book_places.Tie as tie
@@ -27,7 +26,7 @@ abbrev zb : Booking
 zb = record { tile = 0; canister = record { number = 0; a = 0; b = 0 }; answer = 0 }
 
 abbrev Inv-loop : tie.InvT-loop
-Inv-loop n turns well now₀ places₀ i₀ now places i = (i ≤ turns) × (turns ≤ 64) × (length places₀ ≡ 64) × (places ≡ listUpto i now₀ places₀) × (now ≡ floorUpto i now₀ places₀) × (i < turns → well ≡ wellFormed now)
+Inv-loop n turns well now₀ places₀ i₀ now places i = EntriesBooked now₀ places₀ turns well now places i
 
 abbrev μ-loop : tie.MeasureT-loop
 μ-loop n turns well now₀ places₀ i₀ now places i = turns - i
@@ -39,8 +38,14 @@ loop-holds : tie.Need-loop-holds Inv-loop μ-loop
 loop-holds c =
     let g = c .before .args in
     let e = c .begin-list .ensures in
-    let t : c .begin-list .result .turns ≤ 64 = rw e (turns-few g.n) in
-    (omega arith, t, search needs, refl, refl, λ h. ap (λ (b : Begun). b .well) e ∙ begun-well g.floor g.n 0 (subst (λ (b : Begun). 0 < b .turns) e h))
+    record {
+      below = omega arith;
+      few = rw e (turns-few g.n);
+      list-length = search needs;
+      answered = refl;
+      floored = refl;
+      known = λ h. ap (λ (b : Begun). b .well) e ∙ begun-well g.floor g.n 0 (subst (λ (b : Begun). 0 < b .turns) e h);
+    }
 
 mul-b : tie.Need-mul-b Inv-loop μ-loop
 mul-b c = search needs
@@ -49,7 +54,7 @@ array-copy-out-b : tie.Need-array-copy-out-b Inv-loop μ-loop
 array-copy-out-b c = omega arith
 
 book-entry-requires : tie.Need-book-entry-requires Inv-loop μ-loop
-book-entry-requires c κs = c .before .before .loop .inv .5 (omega arith)
+book-entry-requires c κs = c .before .before .loop .inv .known (omega arith)
 
 mul-places : tie.Need-mul-places Inv-loop μ-loop
 mul-places c = search needs
@@ -68,18 +73,17 @@ loop-again c =
     let l = c .before .before .before .before .before .loop in
     let g = c .before .before .before .before .before .before .before .args in
     let r = c .before .before .book-entry in
-    let small : l .i < length (g.list) = omega (arith, l .inv .2) in
-    let p : getD (l .places) (l .i) zb ≡ getD (listUpto (l .i) g.floor g.list) (l .i) zb = ap (λ (ws : List Booking). getD ws (l .i) zb) (l .inv .3) in
+    let small : l .i < length (g.list) = omega arith in
     let e : r .result ≡ entryOf (floorUpto (l .i) g.floor g.list) (getD (listUpto (l .i) g.floor g.list) (l .i) zb) =
-    r .ensures .0 ∙ ap (λ (z : Floor). entryOf z (getD (l .places) (l .i) zb)) (l .inv .4) ∙ ap (λ (b : Booking). entryOf (floorUpto (l .i) g.floor g.list) b) p in (
-      omega arith,
-      l .inv .1,
-      l .inv .2,
-      ap (λ (ws : List Booking). set ws (l .i) (r .result .booking)) (l .inv .3) ∙ ap (λ (d : Done). set (listUpto (l .i) g.floor g.list) (l .i) (d .booking)) e
-          ∙ list-step (l .i) g.floor g.list zb small ∙ ap (λ (k : ℕ). listUpto k g.floor g.list) (sym (add-one (l .i))),
-      ap (λ (d : Done). d .floor) e ∙ floor-step (l .i) g.floor g.list zb small ∙ ap (λ (k : ℕ). floorUpto k g.floor g.list) (sym (add-one (l .i))),
-      λ h. l .inv .5 (omega arith) ∙ sym (r .ensures .1),
-    )
+    r .ensures .0 ∙ (λ j. entryOf (l .inv .floored j) (getD (l .inv .answered j) (l .i) zb)) in
+    record {
+      below = omega arith;
+      few = l .inv .few;
+      list-length = l .inv .list-length;
+      answered = (λ j. set (l .inv .answered j) (l .i) (e j .booking)) ∙ list-step (l .i) g.floor g.list zb small ∙ ap (λ (k : ℕ). listUpto k g.floor g.list) (sym (add-one (l .i)));
+      floored = ap (λ (d : Done). d .floor) e ∙ floor-step (l .i) g.floor g.list zb small ∙ ap (λ (k : ℕ). floorUpto k g.floor g.list) (sym (add-one (l .i)));
+      known = λ h. l .inv .known (omega arith) ∙ sym (r .ensures .1);
+    }
 
 answer-of-requires : tie.Need-answer-of-requires Inv-loop μ-loop
 answer-of-requires c κs = search needs
@@ -92,8 +96,8 @@ returns c =
     let b = c .before .before .before .begin-list in
     let z : l .i ≡ b .result .turns = omega arith in
     let k : l .i ≡ turnsOf g.n = z ∙ ap (λ (x : Begun). x .turns) (b .ensures) in
-    let pf : l .now ≡ floorSingly g.floor (take (turnsOf g.n) g.list) = l .inv .4 ∙ ap (λ (j : ℕ). floorUpto j g.floor g.list) k ∙ upto-floor (turnsOf g.n) g.floor g.list in
-    let pl : l .places ≡ entriesSingly g.floor (take (turnsOf g.n) g.list) ++ drop (turnsOf g.n) g.list = l .inv .3 ∙ ap (λ (j : ℕ). listUpto j g.floor g.list) k ∙ upto-list (turnsOf g.n) g.floor g.list in
+    let pf : l .now ≡ floorSingly g.floor (take (turnsOf g.n) g.list) = l .inv .floored ∙ ap (λ (j : ℕ). floorUpto j g.floor g.list) k ∙ upto-floor (turnsOf g.n) g.floor g.list in
+    let pl : l .places ≡ entriesSingly g.floor (take (turnsOf g.n) g.list) ++ drop (turnsOf g.n) g.list = l .inv .answered ∙ ap (λ (j : ℕ). listUpto j g.floor g.list) k ∙ upto-list (turnsOf g.n) g.floor g.list in
     let pr = ap (λ (a : Answer). a .refusal) (c .answer-of .ensures) in
     λ i. record { floor = pf i; list = pl i; refusal = pr i }
 

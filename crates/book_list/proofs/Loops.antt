@@ -1,0 +1,18 @@
+-- What holds at the head of the loop of `book_places`: the entries booked so far, and the floor after them.
+use mathlib.Core.Path.{_≡_}
+use mathlib.Core.Bool.{Bool}
+use mathlib.Core.List.{List}
+use Prim.Native.Nat.{ℕ, _≤_, _<_}
+use lib.ListN.{length}
+use Rattle.floor.specs.Well.{wellFormed}
+use Rattle.floor.specs.declared.Floor.{Floor}
+use Rattle.book_list.specs.declared.Booking.{Booking}
+use Rattle.book_list.proofs.Upto.{floorUpto, listUpto}
+
+pub record EntriesBooked (f : Floor) (list : List Booking) (turns : ℕ) (well : Bool) (now : Floor) (places : List Booking) (i : ℕ) : Type 0 where
+  pub below : i ≤ turns
+  pub few : turns ≤ 64
+  pub list-length : length list ≡ 64
+  pub answered : places ≡ listUpto i f list
+  pub floored : now ≡ floorUpto i f list
+  pub known : i < turns → well ≡ wellFormed now
