@@ -1,10 +1,10 @@
 use mathlib.Core.Path.{_≡_, refl, sym}
-use Prim.Native.Nat.{_-_, _≤_, _<_}
+use Prim.Native.Nat.{_-_}
 use native.Mathlib.Omega.{arith}
-use lib.ListN.{length, take, length-set}
-use Rattle.image_bytes.specs.Put.{put}
+use lib.ListN.{length-set}
 use Rattle.image_bytes.proofs.PutLaws.{put-none}
 use Rattle.page.proofs.Told.{front-turn}
+use Rattle.page.proofs.Loops.{BytesPut}
 use borrow.Author.Needs.{needs}
 use Rattle.page.proofs.put_front.Statement.{statement}
 use Rattle.page.proofs.put_front.Tie as tie
@@ -12,13 +12,20 @@ use Rattle.page.proofs.put_front.Reads as reads
 use Rattle.page.proofs.put_front.Lts as lts
 
 abbrev Inv-loop : tie.InvT-loop
-Inv-loop text₀ n line k₀ text k = (k ≤ n) × (n ≤ 11) × (length line ≡ 11) × (11 ≤ length text₀) × (length text ≡ length text₀) × (text ≡ put text₀ 0 (take k line))
+Inv-loop text₀ n line k₀ text k = BytesPut text₀ line n text k
 
 abbrev μ-loop : tie.MeasureT-loop
 μ-loop text₀ n line k₀ text k = n - k
 
 loop-holds : tie.Need-loop-holds Inv-loop μ-loop
-loop-holds c = let p = c .pre in (omega arith, p .0, c .good .1 .0 .1 .0 .1, p .1, refl, sym (put-none _ 0))
+loop-holds c = record {
+  below = omega arith;
+  few = c .pre .0;
+  line-length = c .good .1 .0 .1 .0 .1;
+  room = c .pre .1;
+  text-length = refl;
+  written = sym (put-none _ 0);
+}
 
 array-read-text : tie.Need-array-read-text Inv-loop μ-loop
 array-read-text c = search needs
@@ -36,20 +43,20 @@ loop-again : tie.Need-loop-again Inv-loop μ-loop
 loop-again c =
     let l = c .before .loop in
     let g = c .before .before .args in
-    let t : l .k < g.n = c .loop-test .taken in (
-      omega arith,
-      l .inv .1,
-      l .inv .2,
-      l .inv .3,
-      rw length-set (l .inv .4),
-      front-turn (g.text .now) (l .text) g.t2 (l .k) (omega (arith, t, l .inv .1, l .inv .2)) (omega (arith, l .inv .2, l .inv .3)) (l .inv .4) (l .inv .5),
-    )
+    record {
+      below = omega arith;
+      few = l .inv .few;
+      line-length = l .inv .line-length;
+      room = l .inv .room;
+      text-length = rw length-set (l .inv .text-length);
+      written = front-turn (g.text .now) (l .text) g.t2 (l .k) (omega arith) (omega arith) (l .inv .text-length) (l .inv .written);
+    }
 
 same-length : tie.Need-same-length Inv-loop μ-loop
-same-length c = c .before .loop .inv .4
+same-length c = c .before .loop .inv .text-length
 
 returns : tie.Need-returns Inv-loop μ-loop
-returns c = let l = c .before .loop in let e : l .k ≡ c .before .before .args .n = omega (arith, l .inv .0, c .loop-test .left) in rw e at (l .inv .5)
+returns c = let l = c .before .loop in let e : l .k ≡ c .before .before .args .n = omega arith in rw e at (l .inv .written)
 
 pub put-front-spec : {M : Type 1} → statement M
 put-front-spec =
