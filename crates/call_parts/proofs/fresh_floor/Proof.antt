@@ -1,14 +1,14 @@
-use Rattle.floor.specs.Settings.{total}
 use mathlib.Core.Path.{_≡_, _∙_}
-use Prim.Native.Nat.{_-_, _≤_}
+use Prim.Native.Nat.{_-_}
 use native.Mathlib.Omega.{arith}
-use lib.ListN.{length, length-set}
-use Rattle.laws.specs.Filled.{Upto, From}
+use lib.ListN.{length-set}
 use Rattle.laws.proofs.Tables.{upto-turn, rest-turn}
+use Rattle.floor.specs.Settings.{total}
 use Rattle.floor.specs.Memory.{zeroTile, head}
 use Rattle.floor.specs.Calls.{freshTile}
 use Rattle.floor.proofs.Sized.{tiles-length}
 use Rattle.call_parts.proofs.Packed.{zero-tiles, fresh-few, fresh-pack}
+use Rattle.call_parts.proofs.Loops.{Freshened}
 use borrow.Author.Needs.{needs}
 use Rattle.call_parts.proofs.fresh_floor.Statement.{statement}
 use Rattle.call_parts.proofs.fresh_floor.Tie as tie
@@ -19,7 +19,7 @@ use Rattle.floor.proofs.zero_floor.Reads as zero-floor-reads
 use Rattle.floor.proofs.Settings.tile_count.Reads as tile-count-reads
 
 abbrev Inv-loop : tie.InvT-loop
-Inv-loop s all next tiles₀ t₀ tiles t = (t ≤ all) × (all ≤ 64) × (length tiles ≡ 64) × Upto t (λ k. head (freshTile s k)) zeroTile tiles × From t (λ k. zeroTile) zeroTile tiles
+Inv-loop s all next tiles₀ t₀ tiles t = Freshened s all tiles t
 
 abbrev μ-loop : tie.MeasureT-loop
 μ-loop s all next tiles₀ t₀ tiles t = all - t
@@ -31,9 +31,16 @@ zero-floor-requires : tie.Need-zero-floor-requires Inv-loop μ-loop
 zero-floor-requires c κs = search needs
 
 loop-holds : tie.Need-loop-holds Inv-loop μ-loop
-loop-holds c = let z = c .before .zero-floor in
-    let few = fresh-few (c .before .before .before .args .s) (c .before .before .before .pre) in
-    (omega arith, omega (arith, few, c .before .before .tile-count .ensures), tiles-length (z .result) _ (z .ok), λ i h. absurd (omega arith), λ i h. zero-tiles (z .result) (z .ensures) i)
+loop-holds c =
+    let z = c .before .zero-floor in
+    let s = c .before .before .before in
+    record {
+      below = omega arith;
+      few = omega (arith, fresh-few (s .args .s) (s .pre));
+      tiles-length = tiles-length (z .result) _ (z .ok);
+      fresh = λ i h. absurd (omega arith);
+      rest = λ i h. zero-tiles (z .result) (z .ensures) i;
+    }
 
 fresh-tile-requires : tie.Need-fresh-tile-requires Inv-loop μ-loop
 fresh-tile-requires c κs = search needs
@@ -51,21 +58,24 @@ loop-less : tie.Need-loop-less Inv-loop μ-loop
 loop-less c = search needs
 
 loop-again : tie.Need-loop-again Inv-loop μ-loop
-loop-again c = let l = c .before .before .loop in
-    let g = c .before .before .before .before .before .before .args in (
-      omega arith,
-      l .inv .1,
-      length-set (l .tiles) (l .t) _ ∙ l .inv .2,
-      upto-turn (l .t) (λ k. head (freshTile g.s k)) zeroTile (l .tiles) _ (omega arith) (l .inv .3) (c .fresh-tile .ensures),
-      rest-turn (l .t) (λ k. zeroTile) zeroTile (l .tiles) _ (l .inv .4),
-    )
+loop-again c =
+    let l = c .before .before .loop in
+    let g = c .before .before .before .before .before .before .args in
+    record {
+      below = omega arith;
+      few = l .inv .few;
+      tiles-length = length-set (l .tiles) (l .t) _ ∙ l .inv .tiles-length;
+      fresh = upto-turn (l .t) (λ k. head (freshTile g.s k)) zeroTile (l .tiles) _ (omega arith) (l .inv .fresh) (c .fresh-tile .ensures);
+      rest = rest-turn (l .t) (λ k. zeroTile) zeroTile (l .tiles) _ (l .inv .rest);
+    }
 
 returns : tie.Need-returns Inv-loop μ-loop
-returns c = let l = c .before .loop in
+returns c =
+    let l = c .before .loop in
     let g = c .before .before .before .before .before .args in
     let z = c .before .before .before .zero-floor in
-    let n : l .t ≡ total g.s = omega (arith, c .before .before .before .before .tile-count .ensures, l .inv .0) in
-    fresh-pack g.s (z .result) (l .tiles) (z .ensures) (l .inv .2) (rw n at (l .inv .3)) (rw n at (l .inv .4))
+    let n : l .t ≡ total g.s = omega arith in
+    fresh-pack g.s (z .result) (l .tiles) (z .ensures) (l .inv .tiles-length) (rw n at (l .inv .fresh)) (rw n at (l .inv .rest))
 
 pub fresh-floor-spec : {M : Type 1} → statement M
 fresh-floor-spec =

@@ -1,13 +1,13 @@
-use mathlib.Core.Path.{_≡_, refl, _∙_}
-use Prim.Native.Nat.{_+_, _*_, _-_, _≤_}
+use mathlib.Core.Path.{refl, _∙_}
+use Prim.Native.Nat.{_+_, _*_, _-_}
 use native.Mathlib.Omega.{arith}
-use lib.ListN.{length, getD, length-set, length-replicate}
-use Rattle.laws.specs.Filled.{Upto}
+use lib.ListN.{getD, length-set, length-replicate}
 use Rattle.laws.proofs.Tables.{upto-turn, filled}
 use Rattle.floor.specs.Model.{membersOf}
 use Rattle.floor.specs.Memory.{zeroCanister, view}
 use Rattle.floor.proofs.Sized.{canisters-length}
 use Rattle.floor.proofs.Pack.{below-64, place-view}
+use Rattle.call_parts.proofs.Loops.{Copied}
 use borrow.Author.Needs.{needs}
 use Rattle.call_parts.proofs.tile_members.Statement.{statement}
 use Rattle.call_parts.proofs.tile_members.Tie as tie
@@ -15,13 +15,21 @@ use Rattle.call_parts.proofs.tile_members.Reads as reads
 use Rattle.call_parts.proofs.tile_members.Lts as lts
 
 abbrev Inv-loop : tie.InvT-loop
-Inv-loop tile floor t items₀ k₀ items k = (k ≤ 16) × (length items ≡ 16) × Upto k (λ j. getD (floor .canisters) (16 * tile + j) zeroCanister) zeroCanister items
+Inv-loop tile floor t items₀ k₀ items k = Copied (floor .canisters) tile items k
 
 abbrev μ-loop : tie.MeasureT-loop
 μ-loop tile floor t items₀ k₀ items k = 16 - k
 
 loop-holds : tie.Need-loop-holds Inv-loop μ-loop
-loop-holds c = (omega arith, length-replicate 16 zeroCanister, λ i h. absurd (omega arith))
+loop-holds c =
+    let g = c .args in
+    record {
+      below = omega arith;
+      here = below-64 g.t1 g.tile (c .pre .0) (c .pre .1);
+      canisters-length = canisters-length g.t1 _ (c .good .0);
+      items-length = length-replicate 16 zeroCanister;
+      copied = λ i h. absurd (omega arith);
+    }
 
 mul-items : tie.Need-mul-items Inv-loop μ-loop
 mul-items c = search needs
@@ -33,9 +41,7 @@ mul-items-2 : tie.Need-mul-items-2 Inv-loop μ-loop
 mul-items-2 c = search needs
 
 element-copy-out-items : tie.Need-element-copy-out-items Inv-loop μ-loop
-element-copy-out-items c = let g = c .before .before .args in
-    let p = c .before .before .pre in
-    omega (arith, below-64 g.t1 g.tile (p .0) (p .1), canisters-length g.t1 _ (c .before .before .good .0))
+element-copy-out-items c = search needs
 
 mul-items-3 : tie.Need-mul-items-3 Inv-loop μ-loop
 mul-items-3 c = search needs
@@ -50,19 +56,24 @@ loop-less : tie.Need-loop-less Inv-loop μ-loop
 loop-less c = search needs
 
 loop-again : tie.Need-loop-again Inv-loop μ-loop
-loop-again c = let l = c .before .before .loop in
-    let g = c .before .before .before .args in (
-      omega arith,
-      length-set (l .items) (l .k) _ ∙ l .inv .1,
-      upto-turn (l .k) (λ j. getD (g.t1 .canisters) (16 * g.tile + j) zeroCanister) zeroCanister (l .items) _ (omega arith) (l .inv .2) refl,
-    )
+loop-again c =
+    let l = c .before .before .loop in
+    let g = c .before .before .before .args in
+    record {
+      below = omega arith;
+      here = l .inv .here;
+      canisters-length = l .inv .canisters-length;
+      items-length = length-set (l .items) (l .k) _ ∙ l .inv .items-length;
+      copied = upto-turn (l .k) (λ j. getD (g.t1 .canisters) (16 * g.tile + j) zeroCanister) zeroCanister (l .items) _ (omega arith) (l .inv .copied) refl;
+    }
 
 returns : tie.Need-returns Inv-loop μ-loop
-returns c = let l = c .before .loop in
-    let g = c .before .before .args in
-    let p = c .before .before .pre in
-    filled 16 (λ k. getD (membersOf (view g.t1) g.tile) k zeroCanister) zeroCanister (l .items) (l .inv .1)
-    (λ i h. l .inv .2 i (omega arith) ∙ place-view g.t1 g.tile (p .0) (p .1) i h)
+returns c =
+    let l = c .before .loop in
+    let s = c .before .before in
+    let g = s .args in
+    filled 16 (λ k. getD (membersOf (view g.t1) g.tile) k zeroCanister) zeroCanister (l .items) (l .inv .items-length)
+    (λ i h. l .inv .copied i (omega arith) ∙ place-view g.t1 g.tile (s .pre .0) (s .pre .1) i h)
 
 pub tile-members-spec : {M : Type 1} → statement M
 tile-members-spec =
