@@ -1,9 +1,10 @@
 use mathlib.Core.Path.{_≡_, _∙_}
-use Prim.Native.Nat.{suc, _-_, _≤_}
+use Prim.Native.Nat.{suc, _-_}
 use native.Mathlib.Omega.{arith}
 use lib.ListN.{take}
 use Rattle.floor.specs.Settings.{spacing, span}
-use Rattle.book_search.proofs.Search.{Bare, bare-none, bare-on, place-a, place-b, place-none}
+use Rattle.book_search.proofs.Search.{bare-none, bare-on, place-a, place-b, place-none}
+use Rattle.book_search.proofs.Loops.{RowsSearched}
 use borrow.Author.Needs.{needs}
 use Rattle.book_search.proofs.find_place.Statement.{statement}
 use Rattle.book_search.proofs.find_place.Tie as tie
@@ -13,7 +14,7 @@ use Rattle.book_search.proofs.lowest_a.Reads as lowest-a-reads
 use Rattle.book_search.proofs.next_b.Reads as next-b-reads
 
 abbrev Inv-loop : tie.InvT-loop
-Inv-loop s items n far b₀ b = (b ≤ suc (span s)) × Bare (spacing s) (suc (span s)) (take n items) b
+Inv-loop s items n far b₀ b = RowsSearched s items n b
 
 abbrev μ-loop : tie.MeasureT-loop
 μ-loop s items n far b₀ b = suc (span s) - b
@@ -22,8 +23,7 @@ sub-span : tie.Need-sub-span Inv-loop μ-loop
 sub-span c = search needs
 
 loop-holds : tie.Need-loop-holds Inv-loop μ-loop
-loop-holds c = let g = c .before .args in
-    (omega arith, bare-none (spacing g.s) (suc (span g.s)) (take g.n g.items))
+loop-holds c = let g = c .before .args in record { below = omega arith; bare = bare-none (spacing g.s) (suc (span g.s)) (take g.n g.items) }
 
 lowest-a-requires : tie.Need-lowest-a-requires Inv-loop μ-loop
 lowest-a-requires c κs = search needs
@@ -32,7 +32,7 @@ returns : tie.Need-returns Inv-loop μ-loop
 returns c = let l = c .before .before .before .loop in
     let g = c .before .before .before .before .before .args in
     let e = c .before .lowest-a .ensures in
-    let b = place-b g.s (take g.n g.items) (l .b) (l .inv .1) (omega arith) (omega (arith, e)) in
+    let b = place-b g.s (take g.n g.items) (l .b) (l .inv .bare) (omega arith) (omega (arith, e)) in
     (b, λ _. place-a g.s (take g.n g.items) _ (l .b) e b)
 
 next-b-requires : tie.Need-next-b-requires Inv-loop μ-loop
@@ -46,13 +46,13 @@ loop-again c = let l = c .before .before .before .before .loop in
     let g = c .before .before .before .before .before .before .args in
     let e = c .before .before .lowest-a .ensures in
     let n = c .next-b .ensures in
-    (n .1, bare-on (spacing g.s) (suc (span g.s)) (take g.n g.items) (l .b) _ (omega (arith, e)) (n .2) (l .inv .1))
+    record { below = n .1; bare = bare-on (spacing g.s) (suc (span g.s)) (take g.n g.items) (l .b) _ (omega (arith, e)) (n .2) (l .inv .bare) }
 
 returns-2 : tie.Need-returns-2 Inv-loop μ-loop
 returns-2 c = let l = c .before .loop in
     let g = c .before .before .before .args in
     let e : l .b ≡ suc (span g.s) = omega arith in
-    (e ∙ place-none g.s (take g.n g.items) (rw e at (l .inv .1)), λ h. absurd (omega arith))
+    (e ∙ place-none g.s (take g.n g.items) (rw e at (l .inv .bare)), λ h. absurd (omega arith))
 
 pub find-place-spec : {M : Type 1} → statement M
 find-place-spec =

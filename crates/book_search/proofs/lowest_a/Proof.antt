@@ -1,15 +1,12 @@
 use mathlib.Core.Path.{_≡_, sym, _∙_}
-use mathlib.Core.Bool.{true}
-use Prim.Native.Nat.{suc, _+_, _-_, _*_, _≤_}
+use Prim.Native.Nat.{suc, _+_, _-_, _*_}
 use native.Mathlib.Omega.{arith}
 use native.Mathlib.Numerals.{add-one}
-use lib.ListN.{length, getD, take}
-use Rattle.laws.specs.Define.{allOf}
+use lib.ListN.{getD, take}
 use Rattle.floor.specs.Settings.{spacing, span}
 use Rattle.floor.specs.Memory.{zeroCanister}
-use Rattle.floor.specs.Well.{apart}
-use Rattle.floor.proofs.Lowest.{at}
-use Rattle.book_search.proofs.Search.{Passed, passed-none, beyond, row-found, row-none, row-start, row-step, row-jump, farther}
+use Rattle.book_search.proofs.Search.{passed-none, beyond, row-found, row-none, row-start, row-step, row-jump, farther}
+use Rattle.book_search.proofs.Loops.{RowSearched}
 use borrow.Author.Needs.{needs}
 use Rattle.book_search.proofs.lowest_a.Statement.{statement}
 use Rattle.book_search.proofs.lowest_a.Tie as tie
@@ -19,7 +16,7 @@ use Rattle.check_places.proofs.stands_apart.Reads as stands-apart-reads
 use Rattle.floor.proofs.Settings.spacing.Reads as spacing-reads
 
 abbrev Inv-loop : tie.InvT-loop
-Inv-loop s n b items d far a₀ k₀ a k = (k ≤ n) × (n ≤ 16) × (length items ≡ 16) × (far ≤ 60000) × (a ≤ far) × (d ≡ spacing s) × Passed (spacing s) (take n items) b a × (true ≡ allOf (apart (spacing s) (at 0 a b)) (take k items))
+Inv-loop s n b items d far a₀ k₀ a k = RowSearched s items n b d far a k
 
 abbrev μ-loop : tie.MeasureT-loop
 μ-loop s n b items d far a₀ k₀ a k = (far - a) * 17 + (n - k)
@@ -31,9 +28,19 @@ sub-span : tie.Need-sub-span Inv-loop μ-loop
 sub-span c = search needs
 
 loop-holds : tie.Need-loop-holds Inv-loop μ-loop
-loop-holds c = let g = c .before .before .args in
-    let p = c .before .before .pre in
-    (omega arith, p .0, c .before .before .good .1 .0 .1 .0 .1, omega arith, omega arith, c .before .spacing .ensures, passed-none (spacing g.s) (take g.n g.t2) g.b, row-start (spacing g.s) 0 g.b g.t2)
+loop-holds c =
+    let s = c .before .before in
+    let g = s .args in
+    record {
+      below = omega arith;
+      few = s .pre .0;
+      items-length = s .good .1 .0 .1 .0 .1;
+      narrow = omega arith;
+      within = omega arith;
+      spaced = c .before .spacing .ensures;
+      passed = passed-none (spacing g.s) (take g.n g.t2) g.b;
+      clear-upto = row-start (spacing g.s) 0 g.b g.t2;
+    }
 
 mul-c : tie.Need-mul-c Inv-loop μ-loop
 mul-c c = search needs
@@ -60,7 +67,16 @@ loop-again : tie.Need-loop-again Inv-loop μ-loop
 loop-again c = let l = c .before .before .before .before .before .loop in
     let g = c .before .before .before .before .before .before .before .before .args in
     let i = l .inv in
-    (omega arith, i .1, i .2, i .3, i .4, i .5, i .6, row-step (spacing g.s) (l .a) g.b g.t2 (l .k) (omega arith) (i .7) (c .before .before .stands-apart .ensures) (c .if1 .taken))
+    record {
+      below = omega arith;
+      few = i .few;
+      items-length = i .items-length;
+      narrow = i .narrow;
+      within = i .within;
+      spaced = i .spaced;
+      passed = i .passed;
+      clear-upto = row-step (spacing g.s) (l .a) g.b g.t2 (l .k) (omega arith) (i .clear-upto) (c .before .before .stands-apart .ensures) (c .if1 .taken);
+    }
 
 cast-if2 : tie.Need-cast-if2 Inv-loop μ-loop
 cast-if2 c = search needs
@@ -71,8 +87,7 @@ add-result c = search needs
 returns : tie.Need-returns Inv-loop μ-loop
 returns c = let l = c .before .before .before .before .before .before .loop in
     let g = c .before .before .before .before .before .before .before .before .before .args in
-    let i = l .inv in
-    let p = row-jump (spacing g.s) g.n g.t2 g.b (l .a) (l .k) (omega arith) (omega arith) (c .before .before .before .stands-apart .ensures) (c .before .if1 .left) (i .6) in
+    let p = row-jump (spacing g.s) g.n g.t2 g.b (l .a) (l .k) (omega arith) (omega arith) (c .before .before .before .stands-apart .ensures) (c .before .if1 .left) (l .inv .passed) in
     add-one (span g.s) ∙ row-none (spacing g.s) (suc (span g.s)) (take g.n g.t2) g.b (λ y h. p y (omega arith))
 
 cast-a : tie.Need-cast-a Inv-loop μ-loop
@@ -82,21 +97,29 @@ loop-less-2 : tie.Need-loop-less-2 Inv-loop μ-loop
 loop-less-2 c = let l = c .before .before .before .before .before .before .loop in
     let g = c .before .before .before .before .before .before .before .before .before .args in
     let more = beyond (spacing g.s) (getD g.t2 (l .k) zeroCanister) (l .a) g.b (sym (c .before .before .before .stands-apart .ensures) ∙ c .before .if1 .left) in
-    farther (omega (arith, l .inv .5, more)) (omega arith) (omega arith) (l .inv .1)
+    farther (omega (arith, more)) (omega arith) (omega arith) (l .inv .few)
 
 loop-again-2 : tie.Need-loop-again-2 Inv-loop μ-loop
 loop-again-2 c = let l = c .before .before .before .before .before .before .loop in
     let g = c .before .before .before .before .before .before .before .before .before .args in
     let i = l .inv in
-    let p = row-jump (spacing g.s) g.n g.t2 g.b (l .a) (l .k) (omega arith) (omega arith) (c .before .before .before .stands-apart .ensures) (c .before .if1 .left) (i .6) in
-    (omega arith, i .1, i .2, i .3, omega arith, i .5, rw (i .5) p, row-start (spacing g.s) _ g.b g.t2)
+    let p = row-jump (spacing g.s) g.n g.t2 g.b (l .a) (l .k) (omega arith) (omega arith) (c .before .before .before .stands-apart .ensures) (c .before .if1 .left) (i .passed) in
+    record {
+      below = omega arith;
+      few = i .few;
+      items-length = i .items-length;
+      narrow = i .narrow;
+      within = omega arith;
+      spaced = i .spaced;
+      passed = rw (i .spaced) p;
+      clear-upto = row-start (spacing g.s) _ g.b g.t2;
+    }
 
 returns-2 : tie.Need-returns-2 Inv-loop μ-loop
 returns-2 c = let l = c .before .loop in
     let g = c .before .before .before .before .args in
-    let i = l .inv in
     let e : l .k ≡ g.n = omega arith in
-    row-found (spacing g.s) (suc (span g.s)) (take g.n g.t2) g.b (l .a) (omega arith) (i .6) (rw e at (i .7))
+    row-found (spacing g.s) (suc (span g.s)) (take g.n g.t2) g.b (l .a) (omega arith) (l .inv .passed) (rw e at (l .inv .clear-upto))
 
 pub lowest-a-spec : {M : Type 1} → statement M
 lowest-a-spec =

@@ -1,13 +1,13 @@
 use mathlib.Core.Path.{_≡_}
-use Prim.Native.Nat.{_+_, _-_, _≤_, _<_}
+use Prim.Native.Nat.{_+_, _-_}
 use native.Mathlib.Omega.{arith}
 use lib.Dec.{ltb}
-use lib.ListN.{length, getD, take}
+use lib.ListN.{getD}
 use borrow.Author.Tests.{ltb-true}
 use Rattle.laws.proofs.Tests.{and-left, and-right}
 use Rattle.floor.specs.Memory.{zeroCanister}
-use Rattle.laws.specs.Every.{All}
-use Rattle.book_search.proofs.Search.{Ahead, ahead-lower, ahead-stay}
+use Rattle.book_search.proofs.Search.{ahead-lower, ahead-stay}
+use Rattle.book_search.proofs.Loops.{NextSearched}
 use borrow.Author.Needs.{needs}
 use Rattle.book_search.proofs.next_b.Statement.{statement}
 use Rattle.book_search.proofs.next_b.Tie as tie
@@ -16,7 +16,7 @@ use Rattle.book_search.proofs.next_b.Lts as lts
 use Rattle.floor.proofs.Settings.spacing.Reads as spacing-reads
 
 abbrev Inv-loop : tie.InvT-loop
-Inv-loop n b items d low next₀ k₀ next k = (k ≤ n) × (n ≤ 16) × (length items ≡ 16) × (b < next) × (next ≤ next₀) × All (Ahead d b next) (take k items)
+Inv-loop n b items d low next₀ k₀ next k = NextSearched items n b d next₀ next k
 
 abbrev μ-loop : tie.MeasureT-loop
 μ-loop n b items d low next₀ k₀ next k = n - k
@@ -34,8 +34,16 @@ add-next : tie.Need-add-next Inv-loop μ-loop
 add-next c = search needs
 
 loop-holds : tie.Need-loop-holds Inv-loop μ-loop
-loop-holds c = let p = c .before .before .pre in
-    (omega arith, p .0, c .before .before .good .1 .0 .1 .0 .1, omega arith, omega arith, tt)
+loop-holds c =
+    let s = c .before .before in
+    record {
+      below = omega arith;
+      few = s .pre .0;
+      items-length = s .good .1 .0 .1 .0 .1;
+      beyond = omega arith;
+      within = omega arith;
+      ahead = tt;
+    }
 
 mul-c : tie.Need-mul-c Inv-loop μ-loop
 mul-c c = search needs
@@ -63,7 +71,14 @@ loop-again c = let l = c .before .before .before .before .loop in
     let x = getD g.t2 (l .k) zeroCanister .b + d in
     let low = ltb-true g.b x (and-left (ltb g.b x) (ltb x (l .next)) (c .if1 .taken)) in
     let less = ltb-true x (l .next) (and-right (ltb g.b x) (ltb x (l .next)) (c .if1 .taken)) in
-    (omega arith, i .1, i .2, low, omega arith, ahead-lower d g.b (l .next) g.t2 (l .k) (omega arith) less (i .5))
+    record {
+      below = omega arith;
+      few = i .few;
+      items-length = i .items-length;
+      beyond = low;
+      within = omega arith;
+      ahead = ahead-lower d g.b (l .next) g.t2 (l .k) (omega arith) less (i .ahead);
+    }
 
 add-k-2 : tie.Need-add-k-2 Inv-loop μ-loop
 add-k-2 c = search needs
@@ -75,7 +90,14 @@ loop-again-2 : tie.Need-loop-again-2 Inv-loop μ-loop
 loop-again-2 c = let l = c .before .before .before .before .loop in
     let g = c .before .before .before .before .before .before .before .args in
     let i = l .inv in
-    (omega arith, i .1, i .2, i .3, i .4, ahead-stay (c .before .before .before .before .before .before .spacing .result) g.b (l .next) g.t2 (l .k) (omega arith) (c .if1 .left) (i .5))
+    record {
+      below = omega arith;
+      few = i .few;
+      items-length = i .items-length;
+      beyond = i .beyond;
+      within = i .within;
+      ahead = ahead-stay (c .before .before .before .before .before .before .spacing .result) g.b (l .next) g.t2 (l .k) (omega arith) (c .if1 .left) (i .ahead);
+    }
 
 cast-result : tie.Need-cast-result Inv-loop μ-loop
 cast-result c = search needs
@@ -85,7 +107,7 @@ returns c = let l = c .before .loop in
     let g = c .before .before .before .before .args in
     let i = l .inv in
     let e : l .k ≡ g.n = omega arith in
-    (i .3, omega (arith, i .4), rw (e, c .before .before .before .spacing .ensures) at (i .5))
+    (i .beyond, omega arith, rw (e, c .before .before .before .spacing .ensures) at (i .ahead))
 
 pub next-b-spec : {M : Type 1} → statement M
 next-b-spec =
