@@ -1,12 +1,13 @@
-use mathlib.Core.Path.{_≡_, sym, _∙_}
+use mathlib.Core.Path.{sym, _∙_}
 use mathlib.Core.Bool.{_&&_}
-use Prim.Native.Nat.{ℕ, _-_, _≤_, _<_}
+use Prim.Native.Nat.{ℕ, _-_}
 use native.Mathlib.Omega.{arith}
-use lib.ListN.{length, take, getD}
+use lib.ListN.{take, getD}
 use Rattle.laws.specs.Define.{allOf, pairsOf}
 use Rattle.laws.proofs.Tables.{pairs-zero, pairs-more, with-zero, with-step, ended}
 use Rattle.floor.specs.Memory.{zeroCanister}
 use Rattle.floor.specs.Well.{inOrder}
+use Rattle.check_places.proofs.Loops.{Paired, PairedWith}
 use borrow.Author.Needs.{needs}
 use Rattle.check_places.proofs.pairs_ok.Statement.{statement}
 use Rattle.check_places.proofs.pairs_ok.Tie as tie
@@ -15,19 +16,24 @@ use Rattle.check_places.proofs.pairs_ok.Lts as lts
 use Rattle.check_places.proofs.in_order.Reads as in-order-reads
 
 abbrev Inv-loop2 : tie.InvT-loop2
-Inv-loop2 s n items ok₀ j y i₀ ok i = (i ≤ j) × (j < n) × (n ≤ 16) × (length items ≡ 16) × (ok ≡ (pairsOf (inOrder s) (take j items) && allOf (λ x. inOrder s x y) (take i items)))
+Inv-loop2 s n items ok₀ j y i₀ ok i = PairedWith s n items j y ok i
 
 abbrev μ-loop2 : tie.MeasureT-loop2
 μ-loop2 s n items ok₀ j y i₀ ok i = j - i
 
 abbrev Inv-loop : tie.InvT-loop
-Inv-loop s n items ok₀ j₀ ok j = (j ≤ n) × (n ≤ 16) × (length items ≡ 16) × (ok ≡ pairsOf (inOrder s) (take j items))
+Inv-loop s n items ok₀ j₀ ok j = Paired s n items ok j
 
 abbrev μ-loop : tie.MeasureT-loop
 μ-loop s n items ok₀ j₀ ok j = n - j
 
 loop-holds : tie.Need-loop-holds Inv-loop2 μ-loop2 Inv-loop μ-loop
-loop-holds c = (omega arith, c .pre, c .good .1 .0 .1 .0 .1, sym (pairs-zero (inOrder (c .args .s)) (c .args .t2)))
+loop-holds c = record {
+  below = omega arith;
+  few = c .pre;
+  items-length = c .good .1 .0 .1 .0 .1;
+  ordered = sym (pairs-zero (inOrder (c .args .s)) (c .args .t2));
+}
 
 mul-y : tie.Need-mul-y Inv-loop2 μ-loop2 Inv-loop μ-loop
 mul-y c = search needs
@@ -39,7 +45,13 @@ loop2-holds : tie.Need-loop2-holds Inv-loop2 μ-loop2 Inv-loop μ-loop
 loop2-holds c =
     let l = c .before .before .loop in
     let g = c .before .before .before .args in
-    (omega arith, omega arith, l .inv .1, l .inv .2, with-zero (λ x. inOrder g.s x (getD g.t2 (l .j) zeroCanister)) g.t2 (l .inv .3))
+    record {
+      below = omega arith;
+      here = omega arith;
+      few = l .inv .few;
+      items-length = l .inv .items-length;
+      ordered = with-zero (λ x. inOrder g.s x (getD g.t2 (l .j) zeroCanister)) g.t2 (l .inv .ordered);
+    }
 
 mul-in-order : tie.Need-mul-in-order Inv-loop2 μ-loop2 Inv-loop μ-loop
 mul-in-order c = search needs
@@ -61,7 +73,13 @@ loop2-again c =
     let l = c .before .before .before .loop2 in
     let o = c .before .before .before .before .before .before .loop in
     let g = c .before .before .before .before .before .before .before .args in
-    (omega arith, l .inv .1, l .inv .2, l .inv .3, with-step (pairsOf (inOrder g.s) (take (o .j) g.t2)) (λ x. inOrder g.s x (getD g.t2 (o .j) zeroCanister)) g.t2 (l .i) zeroCanister (omega arith) (l .inv .4) (c .in-order .ensures))
+    record {
+      below = omega arith;
+      here = l .inv .here;
+      few = l .inv .few;
+      items-length = l .inv .items-length;
+      ordered = with-step (pairsOf (inOrder g.s) (take (o .j) g.t2)) (λ x. inOrder g.s x (getD g.t2 (o .j) zeroCanister)) g.t2 (l .i) zeroCanister (omega arith) (l .inv .ordered) (c .in-order .ensures);
+    }
 
 add-j : tie.Need-add-j Inv-loop2 μ-loop2 Inv-loop μ-loop
 add-j c = search needs
@@ -74,14 +92,19 @@ loop-again c =
     let l = c .before .loop2 in
     let o = c .before .before .before .before .loop in
     let g = c .before .before .before .before .before .args in
-    let e = ended (λ (i : ℕ). pairsOf (inOrder g.s) (take (o .j) g.t2) && allOf (λ x. inOrder g.s x (getD g.t2 (o .j) zeroCanister)) (take i g.t2)) (omega arith) (l .inv .0) (l .inv .4) in
-    (omega arith, l .inv .2, l .inv .3, e ∙ sym (pairs-more (inOrder g.s) g.t2 (o .j) zeroCanister (omega arith)))
+    let e = ended (λ (i : ℕ). pairsOf (inOrder g.s) (take (o .j) g.t2) && allOf (λ x. inOrder g.s x (getD g.t2 (o .j) zeroCanister)) (take i g.t2)) (omega arith) (l .inv .below) (l .inv .ordered) in
+    record {
+      below = omega arith;
+      few = l .inv .few;
+      items-length = l .inv .items-length;
+      ordered = e ∙ sym (pairs-more (inOrder g.s) g.t2 (o .j) zeroCanister (omega arith));
+    }
 
 returns : tie.Need-returns Inv-loop2 μ-loop2 Inv-loop μ-loop
 returns c =
     let l = c .before .loop in
     let g = c .before .before .args in
-    ended (λ (k : ℕ). pairsOf (inOrder g.s) (take k g.t2)) (omega arith) (l .inv .0) (l .inv .3)
+    ended (λ (k : ℕ). pairsOf (inOrder g.s) (take k g.t2)) (omega arith) (l .inv .below) (l .inv .ordered)
 
 pub pairs-ok-spec : {M : Type 1} → statement M
 pairs-ok-spec =

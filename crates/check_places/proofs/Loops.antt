@@ -1,0 +1,23 @@
+-- What holds at the heads of the loops of `pairs_ok`: over the members; over those before each.
+use mathlib.Core.Path.{_≡_}
+use mathlib.Core.Bool.{Bool, _&&_}
+use mathlib.Core.List.{List}
+use Prim.Native.Nat.{ℕ, _≤_, _<_}
+use lib.ListN.{length, take}
+use Rattle.laws.specs.Define.{allOf, pairsOf}
+use Rattle.floor.specs.declared.Canister.{Canister}
+use Rattle.floor.specs.declared.Settings.{Settings}
+use Rattle.floor.specs.Well.{inOrder}
+
+pub record Paired (s : Settings) (n : ℕ) (items : List Canister) (ok : Bool) (j : ℕ) : Type 0 where
+  pub below : j ≤ n
+  pub few : n ≤ 16
+  pub items-length : length items ≡ 16
+  pub ordered : ok ≡ pairsOf (inOrder s) (take j items)
+
+pub record PairedWith (s : Settings) (n : ℕ) (items : List Canister) (j : ℕ) (y : Canister) (ok : Bool) (i : ℕ) : Type 0 where
+  pub below : i ≤ j
+  pub here : j < n
+  pub few : n ≤ 16
+  pub items-length : length items ≡ 16
+  pub ordered : ok ≡ (pairsOf (inOrder s) (take j items) && allOf (λ x. inOrder s x y) (take i items))
