@@ -1,9 +1,10 @@
 use mathlib.Core.Path.{_≡_, sym, ap, _∙_}
-use Prim.Native.Nat.{_+_, _-_, _≤_, _<_}
+use Prim.Native.Nat.{_+_, _-_, _<_}
 use native.Mathlib.Omega.{arith}
 use borrow.Author.Tests.{not-true, not-false}
 use Rattle.floor.specs.Well.{nameAt, placeTest}
 use Rattle.check_layouts.proofs.Tests.{last-name, place-tested, Passed, passed-turn, passed-all, one-fails}
+use Rattle.check_layouts.proofs.Loops.{PlacesPassed}
 use borrow.Author.Needs.{needs}
 use Rattle.check_layouts.proofs.layouts_ok.Statement.{statement}
 use Rattle.check_layouts.proofs.layouts_ok.Tie as tie
@@ -12,15 +13,17 @@ use Rattle.check_layouts.proofs.layouts_ok.Lts as lts
 use Rattle.check_layouts.proofs.place_ok.Reads as place-ok-reads
 
 abbrev Inv-loop : tie.InvT-loop
-Inv-loop s layouts above₀ j₀ above j = (j ≤ 8) × (above ≡ nameAt layouts (8 - j)) × Passed (placeTest s layouts) (8 - j)
+Inv-loop s layouts above₀ j₀ above j = PlacesPassed s layouts above j
 
 abbrev μ-loop : tie.MeasureT-loop
 μ-loop s layouts above₀ j₀ above j = 8 - j
 
 loop-holds : tie.Need-loop-holds Inv-loop μ-loop
-loop-holds c =
-    let S = c in
-    (omega arith, last-name (S .args .t2) (S .good .1 .0 .1 .0 .1), λ i a b. absurd (omega arith))
+loop-holds c = record {
+  below = omega arith;
+  named = last-name (c .args .t2) (c .good .1 .0 .1 .0 .1);
+  passed = λ i a b. absurd (omega arith);
+}
 
 sub-k : tie.Need-sub-k Inv-loop μ-loop
 sub-k c = search needs
@@ -39,7 +42,7 @@ returns c =
     let S = c .before .before .before .before .before in
     let l = c .before .before .before .before .loop in
     let on : l .j < 8 = omega arith in
-    let e = place-tested (S .args .s) (S .args .t2) (7 - l .j) (8 - l .j) (l .above) (omega arith) (l .inv .1) in
+    let e = place-tested (S .args .s) (S .args .t2) (7 - l .j) (8 - l .j) (l .above) (omega arith) (l .inv .named) in
     one-fails (placeTest (S .args .s) (S .args .t2)) (7 - l .j) (omega arith) (sym e ∙ sym (c .before .place-ok .ensures) ∙ not-true _ (c .if1 .taken))
 
 add-j : tie.Need-add-j Inv-loop μ-loop
@@ -53,16 +56,20 @@ loop-again c =
     let S = c .before .before .before .before .before in
     let l = c .before .before .before .before .loop in
     let on : l .j < 8 = omega arith in
-    let e = place-tested (S .args .s) (S .args .t2) (7 - l .j) (8 - l .j) (l .above) (omega arith) (l .inv .1) in
+    let e = place-tested (S .args .s) (S .args .t2) (7 - l .j) (8 - l .j) (l .above) (omega arith) (l .inv .named) in
     let next : 7 - l .j ≡ 8 - (l .j + 1) = omega arith in
-    let more : Passed (placeTest (S .args .s) (S .args .t2)) (7 - l .j) = passed-turn (placeTest (S .args .s) (S .args .t2)) (7 - l .j) (omega arith) (l .inv .2) (sym e ∙ sym (c .before .place-ok .ensures) ∙ not-false _ (c .if1 .left)) in
-    (omega arith, ap (nameAt (S .args .t2)) next, λ i a b. more i (omega arith) b)
+    let more : Passed (placeTest (S .args .s) (S .args .t2)) (7 - l .j) = passed-turn (placeTest (S .args .s) (S .args .t2)) (7 - l .j) (omega arith) (l .inv .passed) (sym e ∙ sym (c .before .place-ok .ensures) ∙ not-false _ (c .if1 .left)) in
+    record {
+      below = omega arith;
+      named = ap (nameAt (S .args .t2)) next;
+      passed = λ i a b. more i (omega arith) b;
+    }
 
 returns-2 : tie.Need-returns-2 Inv-loop μ-loop
 returns-2 c =
     let S = c .before .before in
     let l = c .before .loop in
-    passed-all (placeTest (S .args .s) (S .args .t2)) (8 - l .j) (omega arith) (l .inv .2)
+    passed-all (placeTest (S .args .s) (S .args .t2)) (8 - l .j) (omega arith) (l .inv .passed)
 
 pub layouts-ok-spec : {M : Type 1} → statement M
 layouts-ok-spec =
