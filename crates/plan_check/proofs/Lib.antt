@@ -1,3 +1,4 @@
 pub mod Entries
 pub mod Tables
 pub mod Sized
+pub mod Loops

@@ -3,3 +3,4 @@ pub mod Lowest
 pub mod Finding
 pub mod Changed
 pub mod Listed
+pub mod Loops

@@ -1,11 +1,12 @@
-use mathlib.Core.Path.{_≡_, refl, sym, _∙_}
+use mathlib.Core.Path.{refl, sym, _∙_}
 use mathlib.Core.Bool.{not, _&&_}
-use Prim.Native.Nat.{ℕ, _-_, _≤_, _<_}
+use Prim.Native.Nat.{ℕ, _-_}
 use native.Mathlib.Omega.{arith}
 use lib.Dec.{eqb}
-use lib.ListN.{length, take, getD}
+use lib.ListN.{take, getD}
 use Rattle.laws.specs.Define.{allOf, pairsOf}
 use Rattle.laws.proofs.Tables.{pairs-zero, pairs-more, with-zero, with-step, ended}
+use Rattle.plan_check.proofs.Loops.{Apart, ApartFrom}
 use borrow.Author.Needs.{needs}
 use Rattle.plan_check.proofs.all_differ.Statement.{statement}
 use Rattle.plan_check.proofs.all_differ.Tie as tie
@@ -13,83 +14,92 @@ use Rattle.plan_check.proofs.all_differ.Reads as reads
 use Rattle.plan_check.proofs.all_differ.Lts as lts
 
 abbrev Inv-loop2 : tie.InvT-loop2
-Inv-loop2 n items ok₀ j y i₀ ok i = (i ≤ j) × (j < n) × (n ≤ 64) × (length items ≡ 64) × (ok ≡ (pairsOf (λ x y. not (eqb x y)) (take j items) && allOf (λ x. not (eqb x y)) (take i items)))
+Inv-loop2 n items ok₀ j y i₀ ok i = ApartFrom n items j y ok i
 
 abbrev μ-loop2 : tie.MeasureT-loop2
 μ-loop2 n items ok₀ j y i₀ ok i = j - i
 
 abbrev Inv-loop : tie.InvT-loop
-Inv-loop n items ok₀ j₀ ok j = (j ≤ n) × (n ≤ 64) × (length items ≡ 64) × (ok ≡ pairsOf (λ x y. not (eqb x y)) (take j items))
+Inv-loop n items ok₀ j₀ ok j = Apart n items ok j
 
 abbrev μ-loop : tie.MeasureT-loop
 μ-loop n items ok₀ j₀ ok j = n - j
 
--- src/lib.rt:119:5
 loop-holds : tie.Need-loop-holds Inv-loop2 μ-loop2 Inv-loop μ-loop
-loop-holds c = (omega arith, c .pre, c .good .0 .1 .0 .1, sym (pairs-zero (λ x y. not (eqb x y)) (c .args .t1)))
+loop-holds c = record {
+  below = omega arith;
+  few = c .pre;
+  items-length = c .good .0 .1 .0 .1;
+  apart = sym (pairs-zero (λ x y. not (eqb x y)) (c .args .t1));
+}
 
--- src/lib.rt:120:17
 mul-y : tie.Need-mul-y Inv-loop2 μ-loop2 Inv-loop μ-loop
 mul-y c = search needs
 
--- src/lib.rt:120:17
 array-read-y : tie.Need-array-read-y Inv-loop2 μ-loop2 Inv-loop μ-loop
 array-read-y c = search needs
 
--- src/lib.rt:121:9
 loop2-holds : tie.Need-loop2-holds Inv-loop2 μ-loop2 Inv-loop μ-loop
 loop2-holds c =
     let l = c .before .loop in
     let g = c .before .before .args in
-    (omega arith, omega arith, l .inv .1, l .inv .2, with-zero (λ x. not (eqb x (getD g.t1 (l .j) 0))) g.t1 (l .inv .3))
+    record {
+      below = omega arith;
+      here = omega arith;
+      few = l .inv .few;
+      items-length = l .inv .items-length;
+      apart = with-zero (λ x. not (eqb x (getD g.t1 (l .j) 0))) g.t1 (l .inv .apart);
+    }
 
--- src/lib.rt:122:21
 mul-x : tie.Need-mul-x Inv-loop2 μ-loop2 Inv-loop μ-loop
 mul-x c = search needs
 
--- src/lib.rt:122:21
 array-read-x : tie.Need-array-read-x Inv-loop2 μ-loop2 Inv-loop μ-loop
 array-read-x c = search needs
 
--- src/lib.rt:121:13
 add-i : tie.Need-add-i Inv-loop2 μ-loop2 Inv-loop μ-loop
 add-i c = search needs
 
--- src/lib.rt:121:9
 loop2-less : tie.Need-loop2-less Inv-loop2 μ-loop2 Inv-loop μ-loop
 loop2-less c = search needs
 
--- src/lib.rt:121:9
 loop2-again : tie.Need-loop2-again Inv-loop2 μ-loop2 Inv-loop μ-loop
 loop2-again c =
     let l = c .before .loop2 in
     let o = c .before .before .before .loop in
     let g = c .before .before .before .before .args in
-    (omega arith, l .inv .1, l .inv .2, l .inv .3, with-step (pairsOf (λ x y. not (eqb x y)) (take (o .j) g.t1)) (λ x. not (eqb x (getD g.t1 (o .j) 0))) g.t1 (l .i) 0 (omega arith) (l .inv .4) refl)
+    record {
+      below = omega arith;
+      here = l .inv .here;
+      few = l .inv .few;
+      items-length = l .inv .items-length;
+      apart = with-step (pairsOf (λ x y. not (eqb x y)) (take (o .j) g.t1)) (λ x. not (eqb x (getD g.t1 (o .j) 0))) g.t1 (l .i) 0 (omega arith) (l .inv .apart) refl;
+    }
 
--- src/lib.rt:119:9
 add-j : tie.Need-add-j Inv-loop2 μ-loop2 Inv-loop μ-loop
 add-j c = search needs
 
--- src/lib.rt:119:5
 loop-less : tie.Need-loop-less Inv-loop2 μ-loop2 Inv-loop μ-loop
 loop-less c = search needs
 
--- src/lib.rt:119:5
 loop-again : tie.Need-loop-again Inv-loop2 μ-loop2 Inv-loop μ-loop
 loop-again c =
     let l = c .before .loop2 in
     let o = c .before .before .before .loop in
     let g = c .before .before .before .before .args in
-    let e = ended (λ (i : ℕ). pairsOf (λ x y. not (eqb x y)) (take (o .j) g.t1) && allOf (λ x. not (eqb x (getD g.t1 (o .j) 0))) (take i g.t1)) (omega arith) (l .inv .0) (l .inv .4) in
-    (omega arith, l .inv .2, l .inv .3, e ∙ sym (pairs-more (λ x y. not (eqb x y)) g.t1 (o .j) 0 (omega arith)))
+    let e = ended (λ (i : ℕ). pairsOf (λ x y. not (eqb x y)) (take (o .j) g.t1) && allOf (λ x. not (eqb x (getD g.t1 (o .j) 0))) (take i g.t1)) (omega arith) (l .inv .below) (l .inv .apart) in
+    record {
+      below = omega arith;
+      few = l .inv .few;
+      items-length = l .inv .items-length;
+      apart = e ∙ sym (pairs-more (λ x y. not (eqb x y)) g.t1 (o .j) 0 (omega arith));
+    }
 
--- src/lib.rt:114:1
 returns : tie.Need-returns Inv-loop2 μ-loop2 Inv-loop μ-loop
 returns c =
     let l = c .before .loop in
     let g = c .before .before .args in
-    ended (λ (k : ℕ). pairsOf (λ x y. not (eqb x y)) (take k g.t1)) (omega arith) (l .inv .0) (l .inv .3)
+    ended (λ (k : ℕ). pairsOf (λ x y. not (eqb x y)) (take k g.t1)) (omega arith) (l .inv .below) (l .inv .apart)
 
 pub all-differ-spec : {M : Type 1} → statement M
 all-differ-spec =

@@ -1,11 +1,11 @@
-use mathlib.Core.Path.{_≡_}
-use Prim.Native.Nat.{ℕ, zero, _-_, _≤_}
+use Prim.Native.Nat.{ℕ, zero, _-_}
 use native.Mathlib.Omega.{arith}
-use lib.ListN.{length, take, replicate, length-set, length-replicate}
+use lib.ListN.{take, replicate, length-set, length-replicate}
 use Rattle.laws.proofs.Tables.{ended}
 use Rattle.plan.specs.Entries.{held}
 use Rattle.plan_check.proofs.Sized.{entries-length}
 use Rattle.plan_check.proofs.Tables.{held-none, held-turn}
+use Rattle.plan_check.proofs.Loops.{Gathered}
 use borrow.Author.Needs.{needs}
 use Rattle.plan_check.proofs.booked_numbers.Statement.{statement}
 use Rattle.plan_check.proofs.booked_numbers.Tie as tie
@@ -14,7 +14,7 @@ use Rattle.plan_check.proofs.booked_numbers.Lts as lts
 use Rattle.plan_check.proofs.counted.Reads as counted-reads
 
 abbrev Inv-loop : tie.InvT-loop
-Inv-loop plan n items₀ m₀ k₀ items m k = (k ≤ n) × (n ≤ 64) × (length (plan .entries) ≡ 64) × (length items ≡ 64) × (m ≤ k) × (take m items ≡ held (take k (plan .entries)))
+Inv-loop plan n items₀ m₀ k₀ items m k = Gathered plan n items m k
 
 abbrev μ-loop : tie.MeasureT-loop
 μ-loop plan n items₀ m₀ k₀ items m k = n - k
@@ -24,8 +24,14 @@ cast-n c = search needs
 
 loop-holds : tie.Need-loop-holds Inv-loop μ-loop
 loop-holds c =
-    let S = c in
-    (omega arith, S .pre, entries-length (S .args .t1) _ (S .good .0), length-replicate 64 zero, omega arith, held-none (S .args .t1 .entries) (replicate 64 zero))
+    record {
+      below = omega arith;
+      few = c .pre;
+      entries-length = entries-length (c .args .t1) _ (c .good .0);
+      items-length = length-replicate 64 zero;
+      no-more = omega arith;
+      gathered = held-none (c .args .t1 .entries) (replicate 64 zero);
+    }
 
 mul-e : tie.Need-mul-e Inv-loop μ-loop
 mul-e c = search needs
@@ -52,14 +58,21 @@ loop-again : tie.Need-loop-again Inv-loop μ-loop
 loop-again c =
     let l = c .before .before .before .loop in
     let es = c .before .before .before .before .args .t1 .entries in
-    let t = held-turn es (l .k) (l .m) (c .counted .result) (l .items) (omega arith) (omega arith) (c .counted .ensures) (l .inv .5) in
-    (omega arith, l .inv .1, l .inv .2, simp length-set (l .inv .3), omega (arith, t .0), t .1)
+    let t = held-turn es (l .k) (l .m) (c .counted .result) (l .items) (omega arith) (omega arith) (c .counted .ensures) (l .inv .gathered) in
+    record {
+      below = omega arith;
+      few = l .inv .few;
+      entries-length = l .inv .entries-length;
+      items-length = simp length-set (l .inv .items-length);
+      no-more = omega (arith, t .0);
+      gathered = t .1;
+    }
 
 returns : tie.Need-returns Inv-loop μ-loop
 returns c =
     let l = c .before .loop in
     let es = c .before .before .args .t1 .entries in
-    (omega arith, ended (λ (k : ℕ). held (take k es)) (omega arith) (l .inv .0) (l .inv .5))
+    (omega arith, ended (λ (k : ℕ). held (take k es)) (omega arith) (l .inv .below) (l .inv .gathered))
 
 pub booked-numbers-spec : {M : Type 1} → statement M
 booked-numbers-spec =

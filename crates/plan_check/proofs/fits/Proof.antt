@@ -1,15 +1,14 @@
-use mathlib.Core.Path.{_≡_, sym}
-use mathlib.Core.Bool.{false}
-use Prim.Native.Nat.{ℕ, _-_, _≤_}
+use mathlib.Core.Path.{sym}
+use Prim.Native.Nat.{ℕ, _-_}
 use native.Mathlib.Omega.{arith}
-use lib.ListN.{length, take}
+use lib.ListN.{take}
 use Rattle.laws.specs.Define.{allOf}
-use Rattle.laws.specs.Filled.{Upto}
 use Rattle.laws.proofs.Tables.{all-zero, all-step, ended}
 use Rattle.plan.specs.Entries.{used, present, entryFits, planFits}
 use Rattle.plan_check.proofs.Sized.{entries-length, present-length}
 use Rattle.plan_check.proofs.Entries.{fits-code}
 use Rattle.plan_check.proofs.Tables.{zeroEntry, entryAt}
+use Rattle.plan_check.proofs.Loops.{Tested}
 use borrow.Author.Needs.{needs}
 use Rattle.plan_check.proofs.fits.Statement.{statement}
 use Rattle.plan_check.proofs.fits.Tie as tie
@@ -19,7 +18,7 @@ use Rattle.plan_check.proofs.entry_fits.Reads as entry-fits-reads
 use Rattle.plan_check.proofs.labels_in.Reads as labels-in-reads
 
 abbrev Inv-loop : tie.InvT-loop
-Inv-loop plan labels table n ok₀ k₀ ok k = (k ≤ n) × (n ≤ 64) × (length (plan .entries) ≡ 64) × (length table ≡ 256) × Upto 256 (present (used plan)) false table × (ok ≡ allOf (entryFits (used plan)) (take k (plan .entries)))
+Inv-loop plan labels table n ok₀ k₀ ok k = Tested plan (present (used plan)) (entryFits (used plan)) table n ok k
 
 abbrev μ-loop : tie.MeasureT-loop
 μ-loop plan labels table n ok₀ k₀ ok k = n - k
@@ -34,7 +33,14 @@ loop-holds : tie.Need-loop-holds Inv-loop μ-loop
 loop-holds c =
     let S = c .before .before in
     let T = c .before .labels-in in
-    (omega arith, S .pre, entries-length (S .args .t1) _ (S .good .0), present-length (T .result) _ (T .ok), T .ensures .0, sym (all-zero (entryFits (used (S .args .t1))) (S .args .t1 .entries)))
+    record {
+      below = omega arith;
+      few = S .pre;
+      entries-length = entries-length (S .args .t1) _ (S .good .0);
+      table-length = present-length (T .result) _ (T .ok);
+      tabled = T .ensures .0;
+      tested = sym (all-zero (entryFits (used (S .args .t1))) (S .args .t1 .entries));
+    }
 
 mul-e : tie.Need-mul-e Inv-loop μ-loop
 mul-e c = search needs
@@ -68,15 +74,22 @@ loop-again c =
     let l = c .before .before .before .before .before .loop in
     let p = c .before .before .before .before .before .before .before .before .args .t1 in
     let x = entryAt (p .entries) (l .k) in
-    let one = fits-code (used p) x (l .inv .4 (x .first) (omega arith)) (l .inv .4 (x .second) (omega arith)) (c .entry-fits .ensures) in
-    (omega arith, l .inv .1, l .inv .2, l .inv .3, l .inv .4, all-step (entryFits (used p)) (p .entries) (l .k) zeroEntry (omega arith) (l .inv .5) one)
+    let one = fits-code (used p) x (l .inv .tabled (x .first) (omega arith)) (l .inv .tabled (x .second) (omega arith)) (c .entry-fits .ensures) in
+    record {
+      below = omega arith;
+      few = l .inv .few;
+      entries-length = l .inv .entries-length;
+      table-length = l .inv .table-length;
+      tabled = l .inv .tabled;
+      tested = all-step (entryFits (used p)) (p .entries) (l .k) zeroEntry (omega arith) (l .inv .tested) one;
+    }
 
 returns : tie.Need-returns Inv-loop μ-loop
 unfolding planFits
 returns c =
     let l = c .before .before .loop in
     let p = c .before .before .before .before .before .args .t1 in
-    let e = ended (λ (k : ℕ). allOf (entryFits (used p)) (take k (p .entries))) (omega arith) (l .inv .0) (l .inv .5) in
+    let e = ended (λ (k : ℕ). allOf (entryFits (used p)) (take k (p .entries))) (omega arith) (l .inv .below) (l .inv .tested) in
     rw (e, c .before .before .before .before .labels-in .ensures .1)
 
 pub fits-spec : {M : Type 1} → statement M

@@ -1,15 +1,14 @@
-use mathlib.Core.Path.{_≡_, sym}
-use mathlib.Core.Bool.{false}
-use Prim.Native.Nat.{ℕ, _-_, _≤_}
+use mathlib.Core.Path.{sym}
+use Prim.Native.Nat.{ℕ, _-_}
 use native.Mathlib.Omega.{arith}
-use lib.ListN.{length, take}
+use lib.ListN.{take}
 use Rattle.laws.specs.Define.{allOf}
-use Rattle.laws.specs.Filled.{Upto}
 use Rattle.laws.proofs.Tables.{all-zero, all-step, ended}
 use Rattle.plan.specs.Entries.{used, done, inOrder}
 use Rattle.plan_check.proofs.Sized.{entries-length}
 use Rattle.plan_check.proofs.Entries.{order-code}
 use Rattle.plan_check.proofs.Tables.{zeroEntry, entryAt}
+use Rattle.plan_check.proofs.Loops.{Tested}
 use borrow.Author.Needs.{needs}
 use Rattle.plan_check.proofs.in_order.Statement.{statement}
 use Rattle.plan_check.proofs.in_order.Tie as tie
@@ -20,7 +19,7 @@ use Rattle.plan_check.proofs.done_table.Reads as done-table-reads
 use Rattle.plan_check.proofs.waits.Reads as waits-reads
 
 abbrev Inv-loop : tie.InvT-loop
-Inv-loop plan table n ok₀ k₀ ok k = (k ≤ n) × (n ≤ 64) × (length (plan .entries) ≡ 64) × (length table ≡ 256) × Upto 256 (done (used plan)) false table × (ok ≡ allOf (inOrder (used plan)) (take k (plan .entries)))
+Inv-loop plan table n ok₀ k₀ ok k = Tested plan (done (used plan)) (inOrder (used plan)) table n ok k
 
 abbrev μ-loop : tie.MeasureT-loop
 μ-loop plan table n ok₀ k₀ ok k = n - k
@@ -35,7 +34,14 @@ loop-holds : tie.Need-loop-holds Inv-loop μ-loop
 loop-holds c =
     let S = c .before in
     let T = c .done-table in
-    (omega arith, S .pre, entries-length (S .args .t1) _ (S .good .0), T .ok .1 .0 .1, T .ensures, sym (all-zero (inOrder (used (S .args .t1))) (S .args .t1 .entries)))
+    record {
+      below = omega arith;
+      few = S .pre;
+      entries-length = entries-length (S .args .t1) _ (S .good .0);
+      table-length = T .ok .1 .0 .1;
+      tabled = T .ensures;
+      tested = sym (all-zero (inOrder (used (S .args .t1))) (S .args .t1 .entries));
+    }
 
 mul-e : tie.Need-mul-e Inv-loop μ-loop
 mul-e c = search needs
@@ -72,14 +78,21 @@ loop-again c =
     let l = c .before .before .before .before .before .before .loop in
     let p = c .before .before .before .before .before .before .before .before .args .t1 in
     let x = entryAt (p .entries) (l .k) in
-    let one = order-code (used p) x (c .waits .ensures) (l .inv .4 (x .first) (omega arith)) (l .inv .4 (x .second) (omega arith)) (c .before .both .ensures) in
-    (omega arith, l .inv .1, l .inv .2, l .inv .3, l .inv .4, all-step (inOrder (used p)) (p .entries) (l .k) zeroEntry (omega arith) (l .inv .5) one)
+    let one = order-code (used p) x (c .waits .ensures) (l .inv .tabled (x .first) (omega arith)) (l .inv .tabled (x .second) (omega arith)) (c .before .both .ensures) in
+    record {
+      below = omega arith;
+      few = l .inv .few;
+      entries-length = l .inv .entries-length;
+      table-length = l .inv .table-length;
+      tabled = l .inv .tabled;
+      tested = all-step (inOrder (used p)) (p .entries) (l .k) zeroEntry (omega arith) (l .inv .tested) one;
+    }
 
 returns : tie.Need-returns Inv-loop μ-loop
 returns c =
     let l = c .before .loop in
     let p = c .before .before .before .args .t1 in
-    ended (λ (k : ℕ). allOf (inOrder (used p)) (take k (p .entries))) (omega arith) (l .inv .0) (l .inv .5)
+    ended (λ (k : ℕ). allOf (inOrder (used p)) (take k (p .entries))) (omega arith) (l .inv .below) (l .inv .tested)
 
 pub in-order-spec : {M : Type 1} → statement M
 in-order-spec =

@@ -1,15 +1,14 @@
 use mathlib.Core.Path.{_≡_}
-use mathlib.Core.Bool.{false}
-use Prim.Native.Nat.{_+_, _-_, _≤_}
+use Prim.Native.Nat.{_+_, _-_}
 use native.Mathlib.Omega.{arith}
 use lib.ListN.{length}
 use lib.Seq.{getD-take, length-take-le}
-use Rattle.laws.specs.Filled.{Upto}
-use Rattle.plan.specs.Entries.{used, done, readyLabel}
+use Rattle.plan.specs.Entries.{used, readyLabel}
 use Rattle.plan_check.proofs.Sized.{entries-length}
 use Rattle.plan_check.proofs.Entries.{ready-code}
 use Rattle.plan_check.proofs.Tables.{zeroEntry, entryAt}
-use Rattle.plan_parts.proofs.Finding.{Found, found-none, found-turn}
+use Rattle.plan_parts.proofs.Finding.{found-none, found-turn}
+use Rattle.plan_parts.proofs.Loops.{LabelSought}
 use borrow.Author.Needs.{needs}
 use Rattle.plan_parts.proofs.asked_for.Statement.{statement}
 use Rattle.plan_parts.proofs.asked_for.Tie as tie
@@ -21,7 +20,7 @@ use Rattle.plan_check.proofs.waits.Reads as waits-reads
 use Rattle.plan_parts.proofs.tile_if.Reads as tile-if-reads
 
 abbrev Inv-loop : tie.InvT-loop
-Inv-loop label plan table n tile₀ ready₀ j₀ tile ready j = (j ≤ n) × (n ≤ 64) × (length (plan .entries) ≡ 64) × (length table ≡ 256) × Upto 256 (done (used plan)) false table × Found (used plan) label (n - j) tile ready
+Inv-loop label plan table n tile₀ ready₀ j₀ tile ready j = LabelSought label plan table n tile ready j
 
 abbrev μ-loop : tie.MeasureT-loop
 μ-loop label plan table n tile₀ ready₀ j₀ tile ready j = n - j
@@ -39,7 +38,14 @@ loop-holds c =
     let T = c .done-table in
     let few = entries-length p _ (S .good .0) in
     let n : length (used p) ≡ p .count = length-take-le (p .count) (p .entries) (omega (arith, S .pre)) in
-    (omega arith, S .pre, few, T .ok .1 .0 .1, T .ensures, found-none (used p) (S .args .label) (p .count - 0) (omega arith))
+    record {
+      below = omega arith;
+      few = S .pre;
+      entries-length = few;
+      table-length = T .ok .1 .0 .1;
+      tabled = T .ensures;
+      found = found-none (used p) (S .args .label) (p .count - 0) (omega arith);
+    }
 
 sub-k : tie.Need-sub-k Inv-loop μ-loop
 sub-k c = search needs
@@ -86,15 +92,23 @@ loop-less c = search needs
 loop-again : tie.Need-loop-again Inv-loop μ-loop
 loop-again c =
     let l = c .before .before .before .before .before .before .before .before .loop in
-    let p = c .before .before .before .before .before .before .before .before .before .before .args .t1 in
+    let g = c .before .before .before .before .before .before .before .before .before .before .args in
+    let p = g.t1 in
     let k = p .count - 1 - l .j in
     let x = entryAt (p .entries) k in
     let n : length (used p) ≡ p .count = length-take-le (p .count) (p .entries) (omega arith) in
     let same : entryAt (used p) k ≡ x = getD-take (p .count) (p .entries) k zeroEntry (omega arith) in
     let next : p .count - (l .j + 1) ≡ k = omega arith in
-    let one = ready-code (used p) x (c .before .before .waits .ensures) (l .inv .4 (x .first) (omega arith)) (l .inv .4 (x .second) (omega arith)) (c .before .before .before .both .ensures) in
-    let t = found-turn (used p) (c .before .before .before .before .before .before .before .before .before .before .args .label) k (p .count - l .j) x (omega arith) (omega arith) same (l .inv .5) (c .tile-if .ensures) one in
-    (omega arith, l .inv .1, l .inv .2, l .inv .3, l .inv .4, rw next t)
+    let one = ready-code (used p) x (c .before .before .waits .ensures) (l .inv .tabled (x .first) (omega arith)) (l .inv .tabled (x .second) (omega arith)) (c .before .before .before .both .ensures) in
+    let t = found-turn (used p) g.label k (p .count - l .j) x (omega arith) (omega arith) same (l .inv .found) (c .tile-if .ensures) one in
+    record {
+      below = omega arith;
+      few = l .inv .few;
+      entries-length = l .inv .entries-length;
+      table-length = l .inv .table-length;
+      tabled = l .inv .tabled;
+      found = rw next t;
+    }
 
 returns : tie.Need-returns Inv-loop μ-loop
 unfolding readyLabel
@@ -102,7 +116,7 @@ returns c =
     let l = c .before .loop in
     let p = c .before .before .before .args .t1 in
     let e : p .count - l .j ≡ 0 = omega arith in
-    let f = rw e at (l .inv .5) in
+    let f = rw e at (l .inv .found) in
     λ i. record { tile = f .0 i; ready = f .1 i }
 
 pub asked-for-spec : {M : Type 1} → statement M

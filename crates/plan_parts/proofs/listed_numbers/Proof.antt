@@ -1,10 +1,11 @@
-use mathlib.Core.Path.{_≡_, _∙_}
-use Prim.Native.Nat.{ℕ, zero, _*_, _-_, _≤_}
+use mathlib.Core.Path.{_∙_}
+use Prim.Native.Nat.{ℕ, zero, _-_}
 use native.Mathlib.Omega.{arith}
-use lib.ListN.{length, take, getD, replicate, length-replicate}
+use lib.ListN.{replicate, length-replicate}
 use Rattle.laws.proofs.Tables.{ended}
 use Rattle.plan_parts.proofs.Sized.{deliveries-length}
-use Rattle.plan_parts.proofs.Listed.{zeroDelivery, listedUpto, listed-none, listed-turn, listed-all, four-each}
+use Rattle.plan_parts.proofs.Listed.{listedUpto, listed-none, listed-turn, listed-all, four-each}
+use Rattle.plan_parts.proofs.Loops.{NumbersListed}
 use borrow.Author.Needs.{needs}
 use Rattle.plan_parts.proofs.listed_numbers.Statement.{statement}
 use Rattle.plan_parts.proofs.listed_numbers.Tie as tie
@@ -13,7 +14,7 @@ use Rattle.plan_parts.proofs.listed_numbers.Lts as lts
 use Rattle.plan_parts.proofs.with_listed.Reads as with-listed-reads
 
 abbrev Inv-loop : tie.InvT-loop
-Inv-loop given items₀ m₀ h₀ items m h = (h ≤ 4) × (length (given .deliveries) ≡ 4) × (m ≤ 4 * h) × (length items ≡ 16) × (take m items ≡ listedUpto h (given .deliveries)) × ((k : ℕ) → getD (given .deliveries) k zeroDelivery .count ≤ 4)
+Inv-loop given items₀ m₀ h₀ items m h = NumbersListed given items m h
 
 abbrev μ-loop : tie.MeasureT-loop
 μ-loop given items₀ m₀ h₀ items m h = 4 - h
@@ -21,7 +22,14 @@ abbrev μ-loop : tie.MeasureT-loop
 loop-holds : tie.Need-loop-holds Inv-loop μ-loop
 loop-holds c =
     let r = c .args .t1 in
-    (omega arith, deliveries-length r _ (c .good .0), omega arith, length-replicate 16 zero, listed-none (r .deliveries) (replicate 16 zero), four-each (r .deliveries) (c .pre))
+    record {
+      below = omega arith;
+      deliveries-length = deliveries-length r _ (c .good .0);
+      no-more = omega arith;
+      items-length = length-replicate 16 zero;
+      listed = listed-none (r .deliveries) (replicate 16 zero);
+      four = four-each (r .deliveries) (c .pre);
+    }
 
 mul-d : tie.Need-mul-d Inv-loop μ-loop
 mul-d c = search needs
@@ -32,7 +40,7 @@ element-copy-out-d c = search needs
 with-listed-requires : tie.Need-with-listed-requires Inv-loop μ-loop
 with-listed-requires c κs =
     let l = c .before .before .loop in
-    (omega arith, l .inv .5 (l .h))
+    (omega arith, l .inv .four (l .h))
 
 cast-m : tie.Need-cast-m Inv-loop μ-loop
 cast-m c = search needs
@@ -40,7 +48,7 @@ cast-m c = search needs
 add-m : tie.Need-add-m Inv-loop μ-loop
 add-m c =
     let l = c .before .before .before .before .loop in
-    let few = l .inv .5 (l .h) in
+    let few = l .inv .four (l .h) in
     record { fits = omega arith }
 
 add-h : tie.Need-add-h Inv-loop μ-loop
@@ -54,14 +62,21 @@ loop-again c =
     let l = c .before .before .before .before .loop in
     let ds = c .before .before .before .before .before .args .t1 .deliveries in
     let v = c .before .with-listed in
-    let few = l .inv .5 (l .h) in
-    (omega arith, l .inv .1, omega arith, v .ok .1 .0 .1, listed-turn ds (l .h) (l .items) (v .result) (l .m) (omega arith) (l .inv .4) (v .ensures), l .inv .5)
+    let few = l .inv .four (l .h) in
+    record {
+      below = omega arith;
+      deliveries-length = l .inv .deliveries-length;
+      no-more = omega arith;
+      items-length = v .ok .1 .0 .1;
+      listed = listed-turn ds (l .h) (l .items) (v .result) (l .m) (omega arith) (l .inv .listed) (v .ensures);
+      four = l .inv .four;
+    }
 
 returns : tie.Need-returns Inv-loop μ-loop
 returns c =
     let l = c .before .loop in
     let r = c .before .before .args .t1 in
-    (omega arith, ended (λ (k : ℕ). listedUpto k (r .deliveries)) (omega arith) (l .inv .0) (l .inv .4) ∙ listed-all r (l .inv .1))
+    (omega arith, ended (λ (k : ℕ). listedUpto k (r .deliveries)) (omega arith) (l .inv .below) (l .inv .listed) ∙ listed-all r (l .inv .deliveries-length))
 
 pub listed-numbers-spec : {M : Type 1} → statement M
 listed-numbers-spec =

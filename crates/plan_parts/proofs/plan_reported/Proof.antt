@@ -1,9 +1,9 @@
-use mathlib.Core.Path.{_≡_, refl, sym, ap}
+use mathlib.Core.Path.{refl, sym, ap}
 use mathlib.Core.List.{List}
-use Prim.Native.Nat.{ℕ, _-_, _≤_, _<_}
+use Prim.Native.Nat.{ℕ, _-_}
 use native.Mathlib.Omega.{arith}
 use lib.Dec.{eqb}
-use lib.ListN.{length, take, getD, length-set}
+use lib.ListN.{take, getD, length-set}
 use Rattle.laws.specs.Define.{anyOf}
 use Rattle.laws.proofs.Tables.{ended}
 use Rattle.plan.specs.declared.Entry.{Entry}
@@ -12,6 +12,7 @@ use Rattle.plan_check.proofs.Sized.{entries-length}
 use Rattle.plan_check.proofs.Tables.{zeroEntry, any-more}
 use Rattle.plan_parts.proofs.Changed.{mapUpto, map-turn, reported-code}
 use Rattle.plan_parts.proofs.Listed.{any-none}
+use Rattle.plan_parts.proofs.Loops.{EntriesChanged, NumberSought}
 use borrow.Author.Needs.{needs}
 use Rattle.plan_parts.proofs.plan_reported.Statement.{statement}
 use Rattle.plan_parts.proofs.plan_reported.Tie as tie
@@ -20,13 +21,13 @@ use Rattle.plan_parts.proofs.plan_reported.Lts as lts
 use Rattle.plan_parts.proofs.entry_reported.Reads as entry-reported-reads
 
 abbrev Inv-loop2 : tie.InvT-loop2
-Inv-loop2 plan m items n entries k e number found₀ i₀ found i = (i ≤ m) × (m ≤ 16) × (length items ≡ 16) × (k < n) × (found ≡ anyOf (eqb number) (take i items))
+Inv-loop2 plan m items n entries k e number found₀ i₀ found i = NumberSought m items n k number found i
 
 abbrev μ-loop2 : tie.MeasureT-loop2
 μ-loop2 plan m items n entries k e number found₀ i₀ found i = m - i
 
 abbrev Inv-loop : tie.InvT-loop
-Inv-loop plan m items n entries₀ k₀ entries k = (k ≤ n) × (n ≤ 64) × (length (plan .entries) ≡ 64) × (length entries ≡ 64) × (entries ≡ mapUpto k (reported (take m items)) (plan .entries)) × (m ≤ 16) × (length items ≡ 16)
+Inv-loop plan m items n entries₀ k₀ entries k = EntriesChanged plan (reported (take m items)) n entries k
 
 abbrev μ-loop : tie.MeasureT-loop
 μ-loop plan m items n entries₀ k₀ entries k = n - k
@@ -38,7 +39,13 @@ loop-holds : tie.Need-loop-holds Inv-loop2 μ-loop2 Inv-loop μ-loop
 loop-holds c =
     let S = c .before .before in
     let few = entries-length (S .args .plan) _ (S .good .0) in
-    (omega arith, S .pre .0, few, few, refl, S .pre .1, S .good .1 .0 .1 .0 .1)
+    record {
+      below = omega arith;
+      few = S .pre .0;
+      entries-length = few;
+      now-length = few;
+      changed = refl;
+    }
 
 mul-e : tie.Need-mul-e Inv-loop2 μ-loop2 Inv-loop μ-loop
 mul-e c = search needs
@@ -49,8 +56,14 @@ array-copy-out-e c = search needs
 loop2-holds : tie.Need-loop2-holds Inv-loop2 μ-loop2 Inv-loop μ-loop
 loop2-holds c =
     let l = c .before .before .loop in
-    let g = c .before .before .before .before .before .args in
-    (omega arith, l .inv .5, l .inv .6, omega arith, any-none (eqb (getD (l .entries) (l .k) zeroEntry .number)) g.t2)
+    let S = c .before .before .before .before .before in
+    record {
+      below = omega arith;
+      no-more = S .pre .1;
+      items-length = S .good .1 .0 .1 .0 .1;
+      here = omega arith;
+      sought = any-none (eqb (getD (l .entries) (l .k) zeroEntry .number)) (S .args .t2);
+    }
 
 mul-x : tie.Need-mul-x Inv-loop2 μ-loop2 Inv-loop μ-loop
 mul-x c = search needs
@@ -69,7 +82,13 @@ loop2-again c =
     let i = c .before .loop2 in
     let l = c .before .before .before .before .loop in
     let g = c .before .before .before .before .before .before .before .args in
-    (omega arith, i .inv .1, i .inv .2, i .inv .3, rw (i .inv .4) (sym (any-more (eqb (getD (l .entries) (l .k) zeroEntry .number)) g.t2 (i .i) 0 (omega arith))))
+    record {
+      below = omega arith;
+      no-more = i .inv .no-more;
+      items-length = i .inv .items-length;
+      here = i .inv .here;
+      sought = rw (i .inv .sought) (sym (any-more (eqb (getD (l .entries) (l .k) zeroEntry .number)) g.t2 (i .i) 0 (omega arith)));
+    }
 
 entry-reported-requires : tie.Need-entry-reported-requires Inv-loop2 μ-loop2 Inv-loop μ-loop
 entry-reported-requires c κs = search needs
@@ -92,15 +111,21 @@ loop-again c =
     let l = c .before .before .before .before .before .loop in
     let g = c .before .before .before .before .before .before .before .before .args in
     let x = getD (l .entries) (l .k) zeroEntry in
-    let all = ended (λ (k : ℕ). anyOf (eqb (x .number)) (take k g.t2)) (omega arith) (i .inv .0) (i .inv .4) in
+    let all = ended (λ (k : ℕ). anyOf (eqb (x .number)) (take k g.t2)) (omega arith) (i .inv .below) (i .inv .sought) in
     let v = c .entry-reported in
-    (omega arith, l .inv .1, l .inv .2, simp length-set (l .inv .3), map-turn (l .k) (reported (take g.m g.t2)) (g.plan .entries) (l .entries) zeroEntry (v .result) (omega arith) (l .inv .4) (reported-code (take g.m g.t2) x all (v .ensures)), l .inv .5, l .inv .6)
+    record {
+      below = omega arith;
+      few = l .inv .few;
+      entries-length = l .inv .entries-length;
+      now-length = simp length-set (l .inv .now-length);
+      changed = map-turn (l .k) (reported (take g.m g.t2)) (g.plan .entries) (l .entries) zeroEntry (v .result) (omega arith) (l .inv .changed) (reported-code (take g.m g.t2) x all (v .ensures));
+    }
 
 returns : tie.Need-returns Inv-loop2 μ-loop2 Inv-loop μ-loop
 returns c =
     let l = c .before .loop in
     let g = c .before .before .before .before .args in
-    ap (λ (es : List Entry). record { entries = es; count = g.plan .count }) (ended (λ (k : ℕ). mapUpto k (reported (take g.m g.t2)) (g.plan .entries)) (omega arith) (l .inv .0) (l .inv .4))
+    ap (λ (es : List Entry). record { entries = es; count = g.plan .count }) (ended (λ (k : ℕ). mapUpto k (reported (take g.m g.t2)) (g.plan .entries)) (omega arith) (l .inv .below) (l .inv .changed))
 
 pub plan-reported-spec : {M : Type 1} → statement M
 plan-reported-spec =
