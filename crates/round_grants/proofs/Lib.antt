@@ -1,1 +1,2 @@
 pub mod SignalLaws
+pub mod Loops

@@ -1,2 +1,3 @@
 pub mod Delivered
 pub mod Ways
+pub mod Loops

@@ -1,3 +1,4 @@
 pub mod Passes
 pub mod RouteLaws
 pub mod RouteFloor
+pub mod Loops

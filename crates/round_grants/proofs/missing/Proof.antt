@@ -1,12 +1,13 @@
-use Prim.Native.Nat.{ℕ, _≤_, _-_}
-use mathlib.Core.Path.{_≡_, _∙_}
+use Prim.Native.Nat.{ℕ, _-_}
+use mathlib.Core.Path.{_∙_}
 use native.Mathlib.Omega.{arith}
-use lib.ListN.{length, take}
+use lib.ListN.{take}
 use Rattle.laws.proofs.Tables.{ended}
 use Rattle.round_grants.proofs.SignalLaws.{missing-zero, missing-step}
 use Rattle.floor.specs.Memory.{zeroCanister}
 use Rattle.floor.specs.Signal as G
 use Rattle.floor.proofs.Sized.{items-length}
+use Rattle.round_grants.proofs.Loops.{LackFound}
 use borrow.Author.Needs.{needs}
 use Rattle.round_grants.proofs.missing.Statement.{statement}
 use Rattle.round_grants.proofs.missing.Tie as tie
@@ -16,7 +17,7 @@ use Rattle.round_grants.proofs.lack.Reads as lack-reads
 use Rattle.round_grants.proofs.worse.Reads as worse-reads
 
 abbrev Inv-loop : tie.InvT-loop
-Inv-loop s side n items worst₀ k₀ worst k = (k ≤ n) × (n ≤ 16) × (length items ≡ 16) × (worst ≡ G.missing s (side .code) (take k items))
+Inv-loop s side n items worst₀ k₀ worst k = LackFound s (side .code) n items worst k
 
 abbrev μ-loop : tie.MeasureT-loop
 μ-loop s side n items worst₀ k₀ worst k = n - k
@@ -25,7 +26,14 @@ cast-n : tie.Need-cast-n Inv-loop μ-loop
 cast-n c = search needs
 
 loop-holds : tie.Need-loop-holds Inv-loop μ-loop
-loop-holds c = let s = c .before .before in (omega arith, s .pre, items-length (s .args .members) _ (s .good .1 .1 .0), missing-zero (s .args .s) (s .args .side .code) (s .args .members .items))
+loop-holds c =
+    let s = c .before .before in
+    record {
+      below = omega arith;
+      few = s .pre;
+      items-length = items-length (s .args .members) _ (s .good .1 .1 .0);
+      found = missing-zero (s .args .s) (s .args .side .code) (s .args .members .items);
+    }
 
 mul-lack : tie.Need-mul-lack Inv-loop μ-loop
 mul-lack c = search needs
@@ -49,13 +57,18 @@ loop-again : tie.Need-loop-again Inv-loop μ-loop
 loop-again c =
     let l = c .before .before .before .before .loop in
     let g = c .before .before .before .before .before .before .before .args in
-    (omega arith, l .inv .1, l .inv .2, c .worse .ensures ∙ missing-step g.s (g.side .code) (g.members .items) (l .k) zeroCanister (omega arith) (l .inv .3) (c .before .lack .ensures))
+    record {
+      below = omega arith;
+      few = l .inv .few;
+      items-length = l .inv .items-length;
+      found = c .worse .ensures ∙ missing-step g.s (g.side .code) (g.members .items) (l .k) zeroCanister (omega arith) (l .inv .found) (c .before .lack .ensures);
+    }
 
 returns : tie.Need-returns Inv-loop μ-loop
 returns c =
     let l = c .before .loop in
     let g = c .before .before .before .before .args in
-    ended (λ (k : ℕ). G.missing g.s (g.side .code) (take k (g.members .items))) (omega arith) (l .inv .0) (l .inv .3)
+    ended (λ (k : ℕ). G.missing g.s (g.side .code) (take k (g.members .items))) (omega arith) (l .inv .below) (l .inv .found)
 
 pub missing-spec : {M : Type 1} → statement M
 missing-spec =

@@ -1,11 +1,11 @@
-use Prim.Native.Nat.{ℕ, _≤_, _-_}
+use Prim.Native.Nat.{ℕ, _-_}
 use mathlib.Core.Path.{_≡_, refl, ap, _∙_}
 use native.Mathlib.Omega.{arith}
-use lib.ListN.{length, length-set}
-use Rattle.laws.specs.Filled.{Upto}
+use lib.ListN.{length-set}
 use Rattle.floor.specs.Settings.{total}
 use Rattle.round_route.specs.Routed.{within, distanceIn}
 use Rattle.round_route.proofs.Passes.{within-none, within-turn}
+use Rattle.round_route.proofs.Loops.{DistancesFilled}
 use borrow.Author.Needs.{needs}
 use Rattle.round_route.proofs.distances.Statement.{statement}
 use Rattle.round_route.proofs.distances.Tie as tie
@@ -14,7 +14,7 @@ use Rattle.round_route.proofs.distances.Lts as lts
 use Rattle.floor.proofs.Settings.tile_count.Reads as tile-count-reads
 
 abbrev Inv-loop : tie.InvT-loop
-Inv-loop tiles all d₀ t₀ d t = (t ≤ all) × (all ≤ 64) × (length tiles ≡ 64) × (length d ≡ 65) × Upto 65 (within t (distanceIn tiles) 255) 0 d
+Inv-loop tiles all d₀ t₀ d t = DistancesFilled tiles all d t
 
 abbrev μ-loop : tie.MeasureT-loop
 μ-loop tiles all d₀ t₀ d t = all - t
@@ -23,7 +23,15 @@ tile-count-requires : tie.Need-tile-count-requires Inv-loop μ-loop
 tile-count-requires c κs = tt
 
 loop-holds : tie.Need-loop-holds Inv-loop μ-loop
-loop-holds c = let s = c .before in (omega arith, rw (c .tile-count .ensures) (s .pre), s .good .1 .0 .1 .0 .1, refl, within-none (distanceIn (s .args .t2)) 255 65)
+loop-holds c =
+    let s = c .before in
+    record {
+      below = omega arith;
+      few = rw (c .tile-count .ensures) (s .pre);
+      tiles-length = s .good .1 .0 .1 .0 .1;
+      distances-length = refl;
+      filled = within-none (distanceIn (s .args .t2)) 255 65;
+    }
 
 mul-tile : tie.Need-mul-tile Inv-loop μ-loop
 mul-tile c = search needs
@@ -44,14 +52,20 @@ loop-again : tie.Need-loop-again Inv-loop μ-loop
 loop-again c =
     let l = c .before .before .loop in
     let g = c .before .before .before .before .args in
-    (omega arith, l .inv .1, l .inv .2, simp length-set (l .inv .3), within-turn (distanceIn g.t2) 255 (l .d) 65 (l .t) _ (omega arith) refl (l .inv .4))
+    record {
+      below = omega arith;
+      few = l .inv .few;
+      tiles-length = l .inv .tiles-length;
+      distances-length = simp length-set (l .inv .distances-length);
+      filled = within-turn (distanceIn g.t2) 255 (l .d) 65 (l .t) _ (omega arith) refl (l .inv .filled);
+    }
 
 returns : tie.Need-returns Inv-loop μ-loop
 returns c =
     let l = c .before .loop in
     let g = c .before .before .before .args in
     let e : l .t ≡ total g.s = omega arith in
-    λ i h. l .inv .4 i h ∙ ap (λ (n : ℕ). within n (distanceIn g.t2) 255 i) e
+    λ i h. l .inv .filled i h ∙ ap (λ (n : ℕ). within n (distanceIn g.t2) 255 i) e
 
 pub distances-spec : {M : Type 1} → statement M
 distances-spec =

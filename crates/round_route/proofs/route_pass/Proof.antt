@@ -1,11 +1,10 @@
-use Prim.Native.Nat.{_≤_, _<_, _-_}
-use mathlib.Core.Path.{_≡_}
+use Prim.Native.Nat.{_<_, _-_}
 use native.Mathlib.Omega.{arith}
-use lib.ListN.{length}
 use Rattle.floor.specs.Settings.{total}
-use Rattle.round_route.specs.Routed.{distanceIn, routedAt, Redone}
+use Rattle.round_route.specs.Routed.{distanceIn, routedAt}
 use Rattle.round_route.proofs.Passes.{shows-near, near-read, redone-none, redone-turn, redone-end}
 use Rattle.round_route.proofs.RouteLaws.{routed-read}
+use Rattle.round_route.proofs.Loops.{TilesRouted}
 use borrow.Author.Needs.{needs}
 use Rattle.round_route.proofs.route_pass.Statement.{statement}
 use Rattle.round_route.proofs.route_pass.Tie as tie
@@ -17,7 +16,7 @@ use Rattle.round_route.proofs.distances.Reads as distances-reads
 use Rattle.round_route.proofs.route_tile.Reads as route-tile-reads
 
 abbrev Inv-loop : tie.InvT-loop
-Inv-loop s tiles all d out₀ t₀ out t = (t ≤ all) × (all ≤ 64) × (length tiles ≡ 64) × Redone t (routedAt s tiles) tiles out
+Inv-loop s tiles all d out₀ t₀ out t = TilesRouted s tiles all out t
 
 abbrev μ-loop : tie.MeasureT-loop
 μ-loop s tiles all d out₀ t₀ out t = all - t
@@ -29,7 +28,15 @@ distances-requires : tie.Need-distances-requires Inv-loop μ-loop
 distances-requires c κs = c .before .pre .2
 
 loop-holds : tie.Need-loop-holds Inv-loop μ-loop
-loop-holds c = let s = c .before .before in let n = s .good .1 .0 .1 .0 .1 in (omega arith, rw (c .before .tile-count .ensures) (s .pre .2), n, redone-none (routedAt (s .args .s) (s .args .t2)) (s .args .t2) n)
+loop-holds c =
+    let s = c .before .before in
+    let n = s .good .1 .0 .1 .0 .1 in
+    record {
+      below = omega arith;
+      few = rw (c .before .tile-count .ensures) (s .pre .2);
+      tiles-length = n;
+      routed = redone-none (routedAt (s .args .s) (s .args .t2)) (s .args .t2) n;
+    }
 
 neighbour-requires : tie.Need-neighbour-requires Inv-loop μ-loop
 neighbour-requires c κs = let s = c .before .before .before .before in (s .pre .0, s .pre .1, s .pre .2, omega arith)
@@ -90,13 +97,18 @@ loop-again c =
     let e = shows-near g.s old 255 (d .result) 4 (l .t) on (s .pre .2) (d .ensures) (c .before .before .neighbour4 .ensures) in
     let r = c .route-tile in
     let v = routed-read g.s g.t2 (l .t) (r .ensures) w so n e in
-    (omega arith, l .inv .1, l .inv .2, redone-turn (routedAt g.s g.t2) g.t2 (l .out) (l .t) (r .result) (omega arith) (l .inv .3) v)
+    record {
+      below = omega arith;
+      few = l .inv .few;
+      tiles-length = l .inv .tiles-length;
+      routed = redone-turn (routedAt g.s g.t2) g.t2 (l .out) (l .t) (r .result) (omega arith) (l .inv .routed) v;
+    }
 
 returns : tie.Need-returns Inv-loop μ-loop
 returns c =
     let l = c .before .loop in
     let g = c .before .before .before .before .args in
-    redone-end (routedAt g.s g.t2) g.t2 (l .out) (l .t) (total g.s) (omega arith) (l .inv .3)
+    redone-end (routedAt g.s g.t2) g.t2 (l .out) (l .t) (total g.s) (omega arith) (l .inv .routed)
 
 pub route-pass-spec : {M : Type 1} → statement M
 route-pass-spec =
