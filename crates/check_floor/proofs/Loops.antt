@@ -15,6 +15,8 @@ use Rattle.check_floor.specs.Tile.{headTest, placesTest}
 use Rattle.check_floor.proofs.WellCode.{testOf, tested-empty, tested-used}
 use Rattle.check_floor.proofs.Blocks.{block-length}
 use Rattle.check_floor.proofs.Keys.{Keyed, block-copied}
+use Rattle.floor.specs.declared.Tile.{Tile}
+use Rattle.check_floor.specs.Code.{counted}
 
 -- tile t without its canisters
 abbrev pub headed : Floor → ℕ → Bool
@@ -57,3 +59,10 @@ pub record ListedTo (f : Floor) (keys : List ℕ) (u : ℕ) : Type 0 where
   pub below : u ≤ 64
   pub keys-length : length keys ≡ 1024
   pub keyed : Keyed f (16 * u) keys
+
+-- the counts of the tiles below k
+pub record AllCounted (tiles : List Tile) (sum k : ℕ) : Type 0 where
+  pub below : k ≤ 64
+  pub tiles-length : length tiles ≡ 64
+  pub small : sum ≤ 255 * k
+  pub totalled : sum ≡ counted tiles k

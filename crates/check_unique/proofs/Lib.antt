@@ -3,3 +3,4 @@ pub mod Order
 pub mod Merging
 pub mod Passing
 pub mod Marks
+pub mod Loops

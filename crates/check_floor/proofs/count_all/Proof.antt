@@ -1,10 +1,10 @@
-use mathlib.Core.Path.{_≡_, refl}
-use Prim.Native.Nat.{_-_, _*_, _≤_}
+use mathlib.Core.Path.{refl}
+use Prim.Native.Nat.{_-_}
 use native.Mathlib.Omega.{arith}
-use lib.ListN.{length}
 use Rattle.laws.proofs.Tables.{ended}
 use Rattle.check_floor.specs.Code.{counted}
 use Rattle.check_floor.proofs.Counts.{counted-more}
+use Rattle.check_floor.proofs.Loops.{AllCounted}
 use borrow.Author.Needs.{needs}
 use Rattle.check_floor.proofs.count_all.Statement.{statement}
 use Rattle.check_floor.proofs.count_all.Tie as tie
@@ -12,14 +12,19 @@ use Rattle.check_floor.proofs.count_all.Reads as reads
 use Rattle.check_floor.proofs.count_all.Lts as lts
 
 abbrev Inv-loop : tie.InvT-loop
-Inv-loop tiles sum₀ k₀ sum k = (k ≤ 64) × (length tiles ≡ 64) × (sum ≤ 255 * k) × (sum ≡ counted tiles k)
+Inv-loop tiles sum₀ k₀ sum k = AllCounted tiles sum k
 
 abbrev μ-loop : tie.MeasureT-loop
 μ-loop tiles sum₀ k₀ sum k = 64 - k
 
 loop-holds : tie.Need-loop-holds Inv-loop μ-loop
 unfolding counted
-loop-holds c = (omega arith, c .good .0 .1 .0 .1, omega arith, refl)
+loop-holds c = record {
+  below = omega arith;
+  tiles-length = c .good .0 .1 .0 .1;
+  small = omega arith;
+  totalled = refl;
+}
 
 mul-h : tie.Need-mul-h Inv-loop μ-loop
 mul-h c = search needs
@@ -43,13 +48,18 @@ loop-again : tie.Need-loop-again Inv-loop μ-loop
 loop-again c =
     let l = c .before .before .before .loop in
     let g = c .before .before .before .before .args in
-    (omega arith, l .inv .1, omega arith, omega (arith, counted-more g.t1 (l .k), l .inv .3))
+    record {
+      below = omega arith;
+      tiles-length = l .inv .tiles-length;
+      small = omega arith;
+      totalled = omega (arith, counted-more g.t1 (l .k), l .inv .totalled);
+    }
 
 returns : tie.Need-returns Inv-loop μ-loop
 returns c =
     let l = c .before .loop in
     let g = c .before .before .args in
-    ended (counted g.t1) (omega arith) (l .inv .0) (l .inv .3)
+    ended (counted g.t1) (omega arith) (l .inv .below) (l .inv .totalled)
 
 pub count-all-spec : {M : Type 1} → statement M
 count-all-spec =

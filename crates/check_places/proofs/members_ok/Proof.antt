@@ -1,11 +1,12 @@
-use mathlib.Core.Path.{_≡_, sym}
-use Prim.Native.Nat.{ℕ, _-_, _≤_}
+use mathlib.Core.Path.{sym}
+use Prim.Native.Nat.{ℕ, _-_}
 use native.Mathlib.Omega.{arith}
-use lib.ListN.{length, take}
+use lib.ListN.{take}
 use Rattle.laws.specs.Define.{allOf}
 use Rattle.laws.proofs.Tables.{all-zero, all-step, ended}
 use Rattle.floor.specs.Memory.{zeroCanister}
 use Rattle.check_places.specs.Place.{memberSound}
+use Rattle.check_places.proofs.Loops.{MembersTested}
 use borrow.Author.Needs.{needs}
 use Rattle.check_places.proofs.members_ok.Statement.{statement}
 use Rattle.check_places.proofs.members_ok.Tie as tie
@@ -14,7 +15,7 @@ use Rattle.check_places.proofs.members_ok.Lts as lts
 use Rattle.check_places.proofs.member_ok.Reads as member-ok-reads
 
 abbrev Inv-loop : tie.InvT-loop
-Inv-loop s last n items ok₀ k₀ ok k = (k ≤ n) × (n ≤ 16) × (length items ≡ 16) × (ok ≡ allOf (memberSound s last) (take k items))
+Inv-loop s last n items ok₀ k₀ ok k = MembersTested s last n items ok k
 
 abbrev μ-loop : tie.MeasureT-loop
 μ-loop s last n items ok₀ k₀ ok k = n - k
@@ -22,7 +23,12 @@ abbrev μ-loop : tie.MeasureT-loop
 loop-holds : tie.Need-loop-holds Inv-loop μ-loop
 loop-holds c =
     let g = c .args in
-    (omega arith, c .pre .0, c .good .1 .1 .0 .1 .0 .1, sym (all-zero (memberSound g.s g.last) g.t3))
+    record {
+      below = omega arith;
+      few = c .pre .0;
+      items-length = c .good .1 .1 .0 .1 .0 .1;
+      tested = sym (all-zero (memberSound g.s g.last) g.t3);
+    }
 
 mul-member-ok : tie.Need-mul-member-ok Inv-loop μ-loop
 mul-member-ok c = search needs
@@ -43,13 +49,18 @@ loop-again : tie.Need-loop-again Inv-loop μ-loop
 loop-again c =
     let l = c .before .before .before .loop in
     let g = c .before .before .before .before .args in
-    (omega arith, l .inv .1, l .inv .2, all-step (memberSound g.s g.last) g.t3 (l .k) zeroCanister (omega arith) (l .inv .3) (c .member-ok .ensures))
+    record {
+      below = omega arith;
+      few = l .inv .few;
+      items-length = l .inv .items-length;
+      tested = all-step (memberSound g.s g.last) g.t3 (l .k) zeroCanister (omega arith) (l .inv .tested) (c .member-ok .ensures);
+    }
 
 returns : tie.Need-returns Inv-loop μ-loop
 returns c =
     let l = c .before .loop in
     let g = c .before .before .args in
-    ended (λ (k : ℕ). allOf (memberSound g.s g.last) (take k g.t3)) (omega arith) (l .inv .0) (l .inv .3)
+    ended (λ (k : ℕ). allOf (memberSound g.s g.last) (take k g.t3)) (omega arith) (l .inv .below) (l .inv .tested)
 
 pub members-ok-spec : {M : Type 1} → statement M
 members-ok-spec =

@@ -1,11 +1,11 @@
-use mathlib.Core.Path.{_≡_, sym, ap, _∙_}
-use Prim.Native.Nat.{_-_, _≤_}
+use mathlib.Core.Path.{sym, ap, _∙_}
+use Prim.Native.Nat.{_-_}
 use native.Mathlib.Omega.{arith}
-use lib.ListN.{length, take}
 use lib.Seq.{take-all}
 use Rattle.laws.specs.Define.{allOf}
 use Rattle.laws.proofs.Tables.{all-zero, all-step}
 use Rattle.floor.specs.Memory.{zeroCanister, isZeroCanister}
+use Rattle.check_places.proofs.Loops.{PlacesTested}
 use borrow.Author.Needs.{needs}
 use Rattle.check_places.proofs.none_in.Statement.{statement}
 use Rattle.check_places.proofs.none_in.Tie as tie
@@ -14,13 +14,17 @@ use Rattle.check_places.proofs.none_in.Lts as lts
 use Rattle.check_places.proofs.is_zero_canister.Reads as is-zero-canister-reads
 
 abbrev Inv-loop : tie.InvT-loop
-Inv-loop items ok₀ k₀ ok k = (k ≤ 16) × (length items ≡ 16) × (ok ≡ allOf isZeroCanister (take k items))
+Inv-loop items ok₀ k₀ ok k = PlacesTested items ok k
 
 abbrev μ-loop : tie.MeasureT-loop
 μ-loop items ok₀ k₀ ok k = 16 - k
 
 loop-holds : tie.Need-loop-holds Inv-loop μ-loop
-loop-holds c = (omega arith, c .good .0 .1 .0 .1, sym (all-zero isZeroCanister (c .args .t1)))
+loop-holds c = record {
+  below = omega arith;
+  items-length = c .good .0 .1 .0 .1;
+  tested = sym (all-zero isZeroCanister (c .args .t1));
+}
 
 mul-is-zero-canister : tie.Need-mul-is-zero-canister Inv-loop μ-loop
 mul-is-zero-canister c = search needs
@@ -41,13 +45,17 @@ loop-again : tie.Need-loop-again Inv-loop μ-loop
 loop-again c =
     let l = c .before .before .before .loop in
     let g = c .before .before .before .before .args in
-    (omega arith, l .inv .1, all-step isZeroCanister g.t1 (l .k) zeroCanister (omega arith) (l .inv .2) (c .is-zero-canister .ensures))
+    record {
+      below = omega arith;
+      items-length = l .inv .items-length;
+      tested = all-step isZeroCanister g.t1 (l .k) zeroCanister (omega arith) (l .inv .tested) (c .is-zero-canister .ensures);
+    }
 
 returns : tie.Need-returns Inv-loop μ-loop
 returns c =
     let l = c .before .loop in
     let g = c .before .before .args in
-    l .inv .2 ∙ ap (allOf isZeroCanister) (take-all (l .k) g.t1 (omega arith))
+    l .inv .tested ∙ ap (allOf isZeroCanister) (take-all (l .k) g.t1 (omega arith))
 
 pub none-in-spec : {M : Type 1} → statement M
 none-in-spec =

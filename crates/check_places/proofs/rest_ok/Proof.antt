@@ -1,11 +1,12 @@
-use mathlib.Core.Path.{_≡_, sym, ap, _∙_}
-use Prim.Native.Nat.{ℕ, _+_, _-_, _≤_, _<_}
+use mathlib.Core.Path.{sym, ap, _∙_}
+use Prim.Native.Nat.{ℕ, _-_, _≤_, _<_}
 use native.Mathlib.Omega.{arith}
-use lib.ListN.{length, take, drop, length-drop}
+use lib.ListN.{length, drop, length-drop}
 use lib.Seq.{getD-drop, take-all}
 use Rattle.laws.specs.Define.{allOf}
 use Rattle.laws.proofs.Tables.{all-zero, all-step}
 use Rattle.floor.specs.Memory.{zeroCanister, isZeroCanister}
+use Rattle.check_places.proofs.Loops.{RestTested}
 use borrow.Author.Needs.{needs}
 use Rattle.check_places.proofs.rest_ok.Statement.{statement}
 use Rattle.check_places.proofs.rest_ok.Tie as tie
@@ -15,7 +16,7 @@ use Rattle.check_places.proofs.none_in.Reads as none-in-reads
 use Rattle.check_places.proofs.is_zero_canister.Reads as is-zero-canister-reads
 
 abbrev Inv-loop : tie.InvT-loop
-Inv-loop n items left ok₀ k₀ ok k = (k ≤ left) × (n + left ≡ 16) × (length items ≡ 16) × (ok ≡ allOf isZeroCanister (take k (drop n items)))
+Inv-loop n items left ok₀ k₀ ok k = RestTested n items left ok k
 
 abbrev μ-loop : tie.MeasureT-loop
 μ-loop n items left ok₀ k₀ ok k = left - k
@@ -34,7 +35,12 @@ sub-left c = search needs
 loop-holds : tie.Need-loop-holds Inv-loop μ-loop
 loop-holds c =
     let g = c .before .args in
-    (omega arith, omega (arith, c .before .pre), c .before .good .0 .1 .0 .1, sym (all-zero isZeroCanister (drop g.n g.t1)))
+    record {
+      below = omega arith;
+      whole = omega (arith, c .before .pre);
+      items-length = c .before .good .0 .1 .0 .1;
+      tested = sym (all-zero isZeroCanister (drop g.n g.t1));
+    }
 
 add-is-zero-canister : tie.Need-add-is-zero-canister Inv-loop μ-loop
 add-is-zero-canister c = search needs
@@ -59,14 +65,19 @@ loop-again c =
     let l = c .before .before .before .loop in
     let g = c .before .before .before .before .before .args in
     let h : l .k < length (drop g.n g.t1) = rw length-drop (omega arith) in
-    (omega arith, l .inv .1, l .inv .2, all-step isZeroCanister (drop g.n g.t1) (l .k) zeroCanister h (l .inv .3) (c .is-zero-canister .ensures ∙ sym (ap isZeroCanister (getD-drop g.n g.t1 (l .k) zeroCanister))))
+    record {
+      below = omega arith;
+      whole = l .inv .whole;
+      items-length = l .inv .items-length;
+      tested = all-step isZeroCanister (drop g.n g.t1) (l .k) zeroCanister h (l .inv .tested) (c .is-zero-canister .ensures ∙ sym (ap isZeroCanister (getD-drop g.n g.t1 (l .k) zeroCanister)));
+    }
 
 returns-2 : tie.Need-returns-2 Inv-loop μ-loop
 returns-2 c =
     let l = c .before .loop in
     let g = c .before .before .before .args in
     let h : length (drop g.n g.t1) ≤ l .k = rw length-drop (omega arith) in
-    l .inv .3 ∙ ap (allOf isZeroCanister) (take-all (l .k) (drop g.n g.t1) h)
+    l .inv .tested ∙ ap (allOf isZeroCanister) (take-all (l .k) (drop g.n g.t1) h)
 
 pub rest-ok-spec : {M : Type 1} → statement M
 rest-ok-spec =
