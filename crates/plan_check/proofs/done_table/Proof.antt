@@ -1,12 +1,11 @@
 use mathlib.Core.Path.{_≡_, refl}
-use mathlib.Core.Bool.{true, false}
-use Prim.Native.Nat.{_-_, _≤_}
+use mathlib.Core.Bool.{true}
+use Prim.Native.Nat.{_-_}
 use native.Mathlib.Omega.{arith}
-use lib.ListN.{length, take, length-set, length-replicate}
-use Rattle.laws.specs.Filled.{Upto}
-use Rattle.plan.specs.Entries.{done}
+use lib.ListN.{length-set, length-replicate}
 use Rattle.plan_check.proofs.Sized.{entries-length}
 use Rattle.plan_check.proofs.Tables.{done-none, done-turn}
+use Rattle.plan_check.proofs.Loops.{DoneTabled}
 use borrow.Author.Needs.{needs}
 use Rattle.plan_check.proofs.done_table.Statement.{statement}
 use Rattle.plan_check.proofs.done_table.Tie as tie
@@ -15,7 +14,7 @@ use Rattle.plan_check.proofs.done_table.Lts as lts
 use Rattle.plan_check.proofs.was_delivered.Reads as was-delivered-reads
 
 abbrev Inv-loop : tie.InvT-loop
-Inv-loop plan n table₀ k₀ table k = (k ≤ n) × (n ≤ 64) × (length (plan .entries) ≡ 64) × (length table ≡ 256) × Upto 256 (done (take k (plan .entries))) false table
+Inv-loop plan n table₀ k₀ table k = DoneTabled plan n table k
 
 abbrev μ-loop : tie.MeasureT-loop
 μ-loop plan n table₀ k₀ table k = n - k
@@ -25,8 +24,13 @@ cast-n c = search needs
 
 loop-holds : tie.Need-loop-holds Inv-loop μ-loop
 loop-holds c =
-    let S = c in
-    (omega arith, S .pre, entries-length (S .args .t1) _ (S .good .0), length-replicate 256 true, done-none (S .args .t1 .entries) 256)
+    record {
+      below = omega arith;
+      few = c .pre;
+      entries-length = entries-length (c .args .t1) _ (c .good .0);
+      table-length = length-replicate 256 true;
+      tabled = done-none (c .args .t1 .entries) 256;
+    }
 
 mul-e : tie.Need-mul-e Inv-loop μ-loop
 mul-e c = search needs
@@ -56,14 +60,20 @@ loop-again : tie.Need-loop-again Inv-loop μ-loop
 loop-again c =
     let l = c .before .before .before .before .loop in
     let es = c .before .before .before .before .before .args .t1 .entries in
-    (omega arith, l .inv .1, l .inv .2, simp length-set (l .inv .3), done-turn es (l .k) (l .table) (omega arith) (l .inv .3) (omega arith) refl (c .was-delivered .ensures) (l .inv .4))
+    record {
+      below = omega arith;
+      few = l .inv .few;
+      entries-length = l .inv .entries-length;
+      table-length = simp length-set (l .inv .table-length);
+      tabled = done-turn es (l .k) (l .table) (omega arith) (l .inv .table-length) (omega arith) refl (c .was-delivered .ensures) (l .inv .tabled);
+    }
 
 returns : tie.Need-returns Inv-loop μ-loop
 returns c =
     let l = c .before .loop in
     let es = c .before .before .args .t1 .entries in
     let e : l .k ≡ c .before .before .args .t1 .count = omega arith in
-    rw e at (l .inv .4)
+    rw e at (l .inv .tabled)
 
 pub done-table-spec : {M : Type 1} → statement M
 done-table-spec =

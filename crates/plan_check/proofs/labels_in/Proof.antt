@@ -1,14 +1,13 @@
 use mathlib.Core.Path.{_≡_, refl}
 use mathlib.Core.Bool.{false}
-use Prim.Native.Nat.{ℕ, _-_, _≤_}
+use Prim.Native.Nat.{ℕ, _-_}
 use native.Mathlib.Omega.{arith}
-use lib.ListN.{length, take, length-set, length-replicate}
+use lib.ListN.{take, length-set, length-replicate}
 use Rattle.laws.specs.Define.{pairsOf}
-use Rattle.laws.specs.Filled.{Upto}
 use Rattle.laws.proofs.Tables.{ended}
-use Rattle.plan.specs.Entries.{present}
 use Rattle.plan_check.proofs.Sized.{entries-length}
 use Rattle.plan_check.proofs.Tables.{unlike, unlike-none, unlike-turn, present-none, present-turn}
+use Rattle.plan_check.proofs.Loops.{LabelsTabled}
 use borrow.Author.Needs.{needs}
 use Rattle.plan_check.proofs.labels_in.Statement.{statement}
 use Rattle.plan_check.proofs.labels_in.Tie as tie
@@ -16,7 +15,7 @@ use Rattle.plan_check.proofs.labels_in.Reads as reads
 use Rattle.plan_check.proofs.labels_in.Lts as lts
 
 abbrev Inv-loop : tie.InvT-loop
-Inv-loop plan n table₀ ok₀ k₀ table ok k = (k ≤ n) × (n ≤ 64) × (length (plan .entries) ≡ 64) × (length table ≡ 256) × Upto 256 (present (take k (plan .entries))) false table × (ok ≡ pairsOf unlike (take k (plan .entries)))
+Inv-loop plan n table₀ ok₀ k₀ table ok k = LabelsTabled plan n table ok k
 
 abbrev μ-loop : tie.MeasureT-loop
 μ-loop plan n table₀ ok₀ k₀ table ok k = n - k
@@ -26,8 +25,14 @@ cast-n c = search needs
 
 loop-holds : tie.Need-loop-holds Inv-loop μ-loop
 loop-holds c =
-    let S = c in
-    (omega arith, S .pre, entries-length (S .args .t1) _ (S .good .0), length-replicate 256 false, present-none (S .args .t1 .entries) 256, unlike-none (S .args .t1 .entries))
+    record {
+      below = omega arith;
+      few = c .pre;
+      entries-length = entries-length (c .args .t1) _ (c .good .0);
+      table-length = length-replicate 256 false;
+      tabled = present-none (c .args .t1 .entries) 256;
+      differ = unlike-none (c .args .t1 .entries);
+    }
 
 mul-e : tie.Need-mul-e Inv-loop μ-loop
 mul-e c = search needs
@@ -54,14 +59,21 @@ loop-again : tie.Need-loop-again Inv-loop μ-loop
 loop-again c =
     let l = c .before .before .before .loop in
     let es = c .before .before .before .before .args .t1 .entries in
-    (omega arith, l .inv .1, l .inv .2, simp length-set (l .inv .3), present-turn es (l .k) (l .table) (omega arith) (l .inv .3) (omega arith) (l .inv .4), unlike-turn es (l .k) (l .table) (omega arith) (omega arith) (l .inv .4) refl (l .inv .5))
+    record {
+      below = omega arith;
+      few = l .inv .few;
+      entries-length = l .inv .entries-length;
+      table-length = simp length-set (l .inv .table-length);
+      tabled = present-turn es (l .k) (l .table) (omega arith) (l .inv .table-length) (omega arith) (l .inv .tabled);
+      differ = unlike-turn es (l .k) (l .table) (omega arith) (omega arith) (l .inv .tabled) refl (l .inv .differ);
+    }
 
 returns : tie.Need-returns Inv-loop μ-loop
 returns c =
     let l = c .before .loop in
     let es = c .before .before .args .t1 .entries in
     let e : l .k ≡ c .before .before .args .t1 .count = omega arith in
-    (rw e at (l .inv .4), ended (λ (k : ℕ). pairsOf unlike (take k es)) (omega arith) (l .inv .0) (l .inv .5))
+    (rw e at (l .inv .tabled), ended (λ (k : ℕ). pairsOf unlike (take k es)) (omega arith) (l .inv .below) (l .inv .differ))
 
 pub labels-in-spec : {M : Type 1} → statement M
 labels-in-spec =

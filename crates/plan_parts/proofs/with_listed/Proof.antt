@@ -1,10 +1,10 @@
 use mathlib.Core.Path.{_≡_}
-use mathlib.Core.List.{_++_}
-use Prim.Native.Nat.{_+_, _-_, _≤_}
+use Prim.Native.Nat.{_-_}
 use native.Mathlib.Omega.{arith}
-use lib.ListN.{length, take, length-set}
+use lib.ListN.{take, length-set}
 use Rattle.plan_parts.proofs.Sized.{numbers-length}
 use Rattle.plan_parts.proofs.Listed.{put-none, put-turn}
+use Rattle.plan_parts.proofs.Loops.{NumbersAdded}
 use borrow.Author.Needs.{needs}
 use Rattle.plan_parts.proofs.with_listed.Statement.{statement}
 use Rattle.plan_parts.proofs.with_listed.Tie as tie
@@ -12,7 +12,7 @@ use Rattle.plan_parts.proofs.with_listed.Reads as reads
 use Rattle.plan_parts.proofs.with_listed.Lts as lts
 
 abbrev Inv-loop : tie.InvT-loop
-Inv-loop m own n out₀ i₀ out i = (i ≤ n) × (n ≤ 4) × (m ≤ 12) × (length own ≡ 4) × (length out ≡ 16) × (take (m + i) out ≡ take m out₀ ++ take i own)
+Inv-loop m own n out₀ i₀ out i = NumbersAdded m own n out₀ out i
 
 abbrev μ-loop : tie.MeasureT-loop
 μ-loop m own n out₀ i₀ out i = n - i
@@ -23,7 +23,14 @@ cast-n c = search needs
 loop-holds : tie.Need-loop-holds Inv-loop μ-loop
 loop-holds c =
     let S = c .before .before in
-    (omega arith, S .pre .1, S .pre .0, numbers-length (S .args .d) _ (S .good .1 .1 .0), S .good .0 .1 .0 .1, put-none (S .args .items) (S .args .d .numbers) (S .args .m))
+    record {
+      below = omega arith;
+      few = S .pre .1;
+      no-more = S .pre .0;
+      own-length = numbers-length (S .args .d) _ (S .good .1 .1 .0);
+      out-length = S .good .0 .1 .0 .1;
+      added = put-none (S .args .items) (S .args .d .numbers) (S .args .m);
+    }
 
 mul-out : tie.Need-mul-out Inv-loop μ-loop
 mul-out c = search needs
@@ -50,14 +57,21 @@ loop-again : tie.Need-loop-again Inv-loop μ-loop
 loop-again c =
     let l = c .before .loop in
     let g = c .before .before .before .before .args in
-    (omega arith, l .inv .1, l .inv .2, l .inv .3, simp length-set (l .inv .4), put-turn (l .out) (g.d .numbers) g.m (l .i) (take g.m g.items) (omega arith) (omega arith) (l .inv .5))
+    record {
+      below = omega arith;
+      few = l .inv .few;
+      no-more = l .inv .no-more;
+      own-length = l .inv .own-length;
+      out-length = simp length-set (l .inv .out-length);
+      added = put-turn (l .out) (g.d .numbers) g.m (l .i) (take g.m g.items) (omega arith) (omega arith) (l .inv .added);
+    }
 
 returns : tie.Need-returns Inv-loop μ-loop
 returns c =
     let l = c .before .loop in
     let g = c .before .before .before .before .args in
     let e : l .i ≡ g.d .count = omega arith in
-    rw e at (l .inv .5)
+    rw e at (l .inv .added)
 
 pub with-listed-spec : {M : Type 1} → statement M
 with-listed-spec =
