@@ -1,11 +1,11 @@
 use mathlib.Core.Path.{_≡_, refl}
-use Prim.Native.Nat.{_+_, _-_, _*_, _≤_}
+use Prim.Native.Nat.{_+_, _-_, _*_}
 use native.Mathlib.Omega.{arith}
-use lib.ListN.{length, drop, length-set}
-use Rattle.laws.specs.Filled.{Upto, From}
+use lib.ListN.{drop, length-set}
 use Rattle.laws.proofs.Tables.{upto-turn, rest-turn, zeros-at}
 use Rattle.image_bytes.specs.Bytes.{le}
 use Rattle.image_record_read.proofs.Values.{counters-code}
+use Rattle.image_record_read.proofs.Loops.{CountersRead}
 use borrow.Author.Needs.{needs}
 use Rattle.image_record_read.proofs.counters_at.Statement.{statement}
 use Rattle.image_record_read.proofs.counters_at.Tie as tie
@@ -14,7 +14,7 @@ use Rattle.image_record_read.proofs.counters_at.Lts as lts
 use Rattle.image_bytes.proofs.u32_at.Reads as u32-at-reads
 
 abbrev Inv-loop : tie.InvT-loop
-Inv-loop s at h last booked n delivered₀ k₀ delivered k = (k ≤ h) × (h ≤ 4) × (n ≡ h) × (at + 8 + 4 * h ≤ length s) × (length delivered ≡ 4) × Upto k (λ j. le 4 (drop (at + 8 + 4 * j) s)) 0 delivered × From k (λ _. 0) 0 delivered
+Inv-loop s at h last booked n delivered₀ k₀ delivered k = CountersRead s at h n delivered k
 
 abbrev μ-loop : tie.MeasureT-loop
 μ-loop s at h last booked n delivered₀ k₀ delivered k = n - k
@@ -29,7 +29,17 @@ u32-at-requires-2 : tie.Need-u32-at-requires-2 Inv-loop μ-loop
 u32-at-requires-2 c κs = search needs
 
 loop-holds : tie.Need-loop-holds Inv-loop μ-loop
-loop-holds c = let S = c .before .before .before in (omega arith, S .pre .1, refl, S .pre .0, refl, λ i h. absurd (omega arith), λ i h. zeros-at 4 i)
+loop-holds c =
+    let S = c .before .before .before in
+    record {
+      below = omega arith;
+      few = S .pre .1;
+      whole = refl;
+      inside = S .pre .0;
+      delivered-length = refl;
+      read = λ i h. absurd (omega arith);
+      zeros = λ i h. zeros-at 4 i;
+    }
 
 add-u32-at-2 : tie.Need-add-u32-at-2 Inv-loop μ-loop
 add-u32-at-2 c = search needs
@@ -59,14 +69,22 @@ loop-again : tie.Need-loop-again Inv-loop μ-loop
 loop-again c =
     let l = c .before .before .loop in
     let g = c .before .before .before .before .before .before .args in
-    (omega arith, l .inv .1, l .inv .2, l .inv .3, simp length-set (l .inv .4), upto-turn (l .k) (λ j. le 4 (drop (g.at + 8 + 4 * j) (g.s .now))) 0 (l .delivered) _ (omega arith) (l .inv .5) (c .u32-at3 .ensures), rest-turn (l .k) (λ _. 0) 0 (l .delivered) _ (l .inv .6))
+    record {
+      below = omega arith;
+      few = l .inv .few;
+      whole = l .inv .whole;
+      inside = l .inv .inside;
+      delivered-length = simp length-set (l .inv .delivered-length);
+      read = upto-turn (l .k) (λ j. le 4 (drop (g.at + 8 + 4 * j) (g.s .now))) 0 (l .delivered) _ (omega arith) (l .inv .read) (c .u32-at3 .ensures);
+      zeros = rest-turn (l .k) (λ _. 0) 0 (l .delivered) _ (l .inv .zeros);
+    }
 
 returns : tie.Need-returns Inv-loop μ-loop
 returns c =
     let l = c .before .loop in
     let g = c .before .before .before .before .before .args in
     let e : l .k ≡ g.h = omega (arith, c .loop-test .left) in
-    rw (counters-code (g.s .now) g.at g.h (l .delivered) (l .inv .4) (λ k h. l .inv .5 k (omega arith)) (λ k h. l .inv .6 k (omega arith)), c .before .before .before .u32-at .ensures, c .before .before .u32-at2 .ensures)
+    rw (counters-code (g.s .now) g.at g.h (l .delivered) (l .inv .delivered-length) (λ k h. l .inv .read k (omega arith)) (λ k h. l .inv .zeros k (omega arith)), c .before .before .before .u32-at .ensures, c .before .before .u32-at2 .ensures)
 
 pub counters-at-spec : {M : Type 1} → statement M
 counters-at-spec =

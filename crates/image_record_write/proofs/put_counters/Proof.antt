@@ -1,14 +1,14 @@
 use mathlib.Core.Path.{_≡_, refl, sym, _∙_}
 use mathlib.Core.List.{_++_}
-use Prim.Native.Nat.{_+_, _*_, _-_, _≤_}
+use Prim.Native.Nat.{_+_, _*_, _-_}
 use native.Mathlib.Omega.{arith}
-use lib.ListN.{length}
 use Rattle.laws.specs.Define.{tab}
 use Rattle.image_bytes.specs.Bytes.{bytes, bytesOf}
 use Rattle.image_bytes.specs.Put.{put}
 use Rattle.image_bytes.proofs.PutLaws.{put-none, put-two}
 use Rattle.floor.proofs.Sized.{delivered-length}
 use Rattle.image_record_write.proofs.RecordBytes.{countBytes, count-length, count-turn, top-length, counters-record}
+use Rattle.image_record_write.proofs.Loops.{CountsPut}
 use borrow.Author.Needs.{needs}
 use Rattle.image_record_write.proofs.put_counters.Statement.{statement}
 use Rattle.image_record_write.proofs.put_counters.Tie as tie
@@ -18,7 +18,7 @@ use Rattle.image_record_write.proofs.put_top.Reads as put-top-reads
 use Rattle.image_bytes.proofs.put_u32.Reads as put-u32-reads
 
 abbrev Inv-loop : tie.InvT-loop
-Inv-loop s₀ at h d n k₀ s k = (k ≤ n) × (n ≡ h) × (n ≤ 4) × (at + 12 + 4 * n ≤ length s₀) × (length s ≡ length s₀) × (length d ≡ 4) × (s ≡ put s₀ (at + 12) (countBytes k d))
+Inv-loop s₀ at h d n k₀ s k = CountsPut s₀ at h d n s k
 
 abbrev μ-loop : tie.MeasureT-loop
 μ-loop s₀ at h d n k₀ s k = n - k
@@ -38,7 +38,15 @@ loop-holds c =
     let p = c .before .before .before .put-top in
     let S = c .before .before .before .before .before .before in
     let g = S .args in
-    (omega arith, refl, S .pre .1, omega (arith, S .pre .0, p .kept .0), refl, delivered-length g.x _ (S .good .1 .1 .0), sym (put-none (p .last .0) (g.at + 12)))
+    record {
+      below = omega arith;
+      whole = refl;
+      few = S .pre .1;
+      room = omega (arith, S .pre .0, p .kept .0);
+      buffer-length = refl;
+      counts-length = delivered-length g.x _ (S .good .1 .1 .0);
+      written = sym (put-none (p .last .0) (g.at + 12));
+    }
 
 add-put-u32 : tie.Need-add-put-u32 Inv-loop μ-loop
 add-put-u32 c = search needs
@@ -69,7 +77,15 @@ loop-again c =
     let l = c .before .before .before .before .before .loop in
     let g = c .before .before .before .before .before .before .before .before .before .before .before .before .args in
     let k = c .before .before .put-u32 .kept .0 in
-    (omega arith, l .inv .1, l .inv .2, l .inv .3, k ∙ l .inv .4, l .inv .5, count-turn (c .before .before .before .before .before .before .before .before .before .put-top .last .0) (l .s) _ (g.at + 12) (l .k) (g.x .delivered) (omega arith) (l .inv .6) (c .before .before .put-u32 .ensures))
+    record {
+      below = omega arith;
+      whole = l .inv .whole;
+      few = l .inv .few;
+      room = l .inv .room;
+      buffer-length = k ∙ l .inv .buffer-length;
+      counts-length = l .inv .counts-length;
+      written = count-turn (c .before .before .before .before .before .before .before .before .before .put-top .last .0) (l .s) _ (g.at + 12) (l .k) (g.x .delivered) (omega arith) (l .inv .written) (c .before .before .put-u32 .ensures);
+    }
 
 same-length : tie.Need-same-length Inv-loop μ-loop
 same-length c = search needs
@@ -81,7 +97,7 @@ returns c =
     let g = S .args in
     let p = c .before .before .before .before .before .put-top .last .0 in
     let e : l .k ≡ g.h = omega (arith, c .loop-test .left) in
-    let i : l .s ≡ put p (g.at + 12) (countBytes g.h (g.x .delivered)) = rw e at (l .inv .6) in
+    let i : l .s ≡ put p (g.at + 12) (countBytes g.h (g.x .delivered)) = rw e at (l .inv .written) in
     let f = top-length (8 + 4 * g.h) (g.x .last) (g.x .booked) in
     let n = count-length g.h (g.x .delivered) in
     rw (← counters-record g.h g.x)

@@ -1,11 +1,9 @@
 use mathlib.Core.Path.{_≡_, refl, sym, _∙_}
-use Prim.Native.Nat.{_+_, _-_, _≤_}
+use Prim.Native.Nat.{_-_}
 use native.Mathlib.Omega.{arith}
-use lib.ListN.{length, take}
-use Rattle.image_bytes.specs.Put.{put}
 use Rattle.image_bytes.proofs.PutLaws.{put-none}
-use Rattle.floor.specs.Layouts.{letters}
 use Rattle.image_record_write.proofs.RecordBytes.{name-turn, name-all}
+use Rattle.image_record_write.proofs.Loops.{NamePut}
 use borrow.Author.Needs.{needs}
 use Rattle.image_record_write.proofs.put_name.Statement.{statement}
 use Rattle.image_record_write.proofs.put_name.Tie as tie
@@ -14,7 +12,7 @@ use Rattle.image_record_write.proofs.put_name.Lts as lts
 use Rattle.image_bytes.proofs.put_byte.Reads as put-byte-reads
 
 abbrev Inv-loop : tie.InvT-loop
-Inv-loop s₀ at x k₀ s k = (k ≤ 8) × (at + 8 ≤ length s₀) × (length s ≡ length s₀) × (s ≡ put s₀ at (take k (letters 8 x)))
+Inv-loop s₀ at x k₀ s k = NamePut s₀ at x s k
 
 abbrev μ-loop : tie.MeasureT-loop
 μ-loop s₀ at x k₀ s k = 8 - k
@@ -22,7 +20,12 @@ abbrev μ-loop : tie.MeasureT-loop
 loop-holds : tie.Need-loop-holds Inv-loop μ-loop
 loop-holds c =
     let g = c .before .args in
-    (omega arith, omega arith, refl, sym (put-none (g.s .now) g.at))
+    record {
+      below = omega arith;
+      room = omega arith;
+      buffer-length = refl;
+      written = sym (put-none (g.s .now) g.at);
+    }
 
 mul-rest : tie.Need-mul-rest Inv-loop μ-loop
 mul-rest c = search needs
@@ -59,7 +62,12 @@ loop-again c =
     let l = c .before .before .before .before .before .loop in
     let g = c .before .before .before .before .before .before .before .args in
     let k = c .before .before .put-byte .kept .0 in
-    (omega arith, l .inv .1, k ∙ l .inv .2, name-turn (g.s .now) (l .s) _ g.at (l .k) g.x (omega arith) (l .inv .1) (l .inv .3) (c .before .before .put-byte .ensures))
+    record {
+      below = omega arith;
+      room = l .inv .room;
+      buffer-length = k ∙ l .inv .buffer-length;
+      written = name-turn (g.s .now) (l .s) _ g.at (l .k) g.x (omega arith) (l .inv .room) (l .inv .written) (c .before .before .put-byte .ensures);
+    }
 
 same-length : tie.Need-same-length Inv-loop μ-loop
 same-length c = search needs
@@ -69,7 +77,7 @@ returns c =
     let l = c .before .loop in
     let g = c .before .before .before .args in
     let e : l .k ≡ 8 = omega arith in
-    rw (← name-all g.x) (rw e at (l .inv .3))
+    rw (← name-all g.x) (rw e at (l .inv .written))
 
 pub put-name-spec : {M : Type 1} → statement M
 put-name-spec =
