@@ -1,11 +1,11 @@
 use mathlib.Core.Path.{_≡_, _∙_}
 use mathlib.Core.Bool.{Bool, true, false, cond}
-use Prim.Native.Nat.{ℕ, _+_, _*_, _-_, _≤_, _<_}
+use Prim.Native.Nat.{ℕ, _*_, _-_, _≤_}
 use native.Mathlib.Omega.{arith}
 use lib.Dec.{ltb}
-use lib.ListN.{length}
-use Rattle.image_write.specs.Upto.{countAt}
-use Rattle.image_write.proofs.ImageBytes.{counts-few, encode-heads, heads-more, heads-none, headsSize, hoppers-are, hoppers-four, first-is}
+use Rattle.image.specs.Image.{hopperCount}
+use Rattle.image_write.proofs.ImageBytes.{counts-few, encode-heads, heads-more, heads-none, hoppers-are, hoppers-four, first-is}
+use Rattle.image_write.proofs.Loops.{TilesMeasured}
 use Rattle.floor.proofs.Pack.{well-few, well-lengths}
 use borrow.Author.Needs.{needs}
 use Rattle.image_write.proofs.image_length.Statement.{statement}
@@ -17,16 +17,29 @@ use Rattle.sets.proofs.size.Reads as size-reads
 use Rattle.image_write.proofs.first_length.Reads as first-length-reads
 use Rattle.image_write.proofs.laid_out.Reads as laid-out-reads
 
-first-small : (r : ℕ) (b : Bool) → r ≡ cond b 32 24 → r ≤ 32
-first-small r true e = omega arith
-first-small r false e = omega arith
-
 abbrev Inv-loop : tie.InvT-loop
-Inv-loop tiles c h first laid n₀ t₀ n t =
-    (t ≤ c) × (c ≤ 64) × (length tiles ≡ 64) × (n ≡ first + 16 + 4 * h + 20 * laid + headsSize tiles t) × (n ≤ 224 + 138 * t) × ((u : ℕ) → u < c → countAt tiles u ≤ 16)
+Inv-loop tiles c h first laid n₀ t₀ n t = TilesMeasured tiles c h first laid n t
 
 abbrev μ-loop : tie.MeasureT-loop
 μ-loop tiles c h first laid n₀ t₀ n t = c - t
+
+-- after the last of the calls: how many hoppers there are, and what each part is at most
+hoppers : (c : tie.After-laid-out Inv-loop μ-loop) → c .before .before .before .size .result ≡ hopperCount (c .before .before .before .before .before .before .before .args .f .settings)
+hoppers c =
+    let S = c .before .before .before .before .before .before .before in
+    let s = c .before .before .before .size in
+    hoppers-are (S .args .f) (S .pre) (s .result) (s .ensures)
+
+bounds : (c : tie.After-laid-out Inv-loop μ-loop) → (c .before .before .before .size .result ≤ 4) × (c .before .before .first-length .result ≤ 32) × (c .laid-out .result ≤ 8)
+bounds c =
+    let S = c .before .before .before .before .before .before .before in
+    let h = c .before .before .before .size .result in
+    let first = c .before .before .first-length in
+    (hoppers-four (S .args .f) (S .pre) h (hoppers c), first-small (first .result) (ltb 1 h) (first .ensures), c .laid-out .ensures .1)
+  where
+    first-small : (r : ℕ) (b : Bool) → r ≡ cond b 32 24 → r ≤ 32
+    first-small r true e = omega arith
+    first-small r false e = omega arith
 
 tile-count-requires : tie.Need-tile-count-requires Inv-loop μ-loop
 tile-count-requires c κs = tt
@@ -41,112 +54,44 @@ laid-out-requires : tie.Need-laid-out-requires Inv-loop μ-loop
 laid-out-requires c κs = search needs
 
 cast-n : tie.Need-cast-n Inv-loop μ-loop
-cast-n c =
-    let S = c .before .before .before .before .before .before .before in
-    let f = S .args .f in
-    let w = S .pre in
-    let h = c .before .before .before .size .result in
-    let he = hoppers-are f w h (c .before .before .before .size .ensures) in
-    let first = c .before .before .first-length .result in
-    let small = first-small first (ltb 1 h) (c .before .before .first-length .ensures) in
-    let four = hoppers-four f w h he in
-    let eight = c .laid-out .ensures .1 in
-    record { fits = omega arith }
+cast-n c = let b = bounds c in record { fits = omega arith }
 
 add-n : tie.Need-add-n Inv-loop μ-loop
-add-n c =
-    let S = c .before .before .before .before .before .before .before in
-    let f = S .args .f in
-    let w = S .pre in
-    let h = c .before .before .before .size .result in
-    let he = hoppers-are f w h (c .before .before .before .size .ensures) in
-    let first = c .before .before .first-length .result in
-    let small = first-small first (ltb 1 h) (c .before .before .first-length .ensures) in
-    let four = hoppers-four f w h he in
-    let eight = c .laid-out .ensures .1 in
-    omega arith
+add-n c = let b = bounds c in omega arith
 
 cast-n-2 : tie.Need-cast-n-2 Inv-loop μ-loop
 cast-n-2 c = search needs
 
 mul-n : tie.Need-mul-n Inv-loop μ-loop
-mul-n c =
-    let S = c .before .before .before .before .before .before .before in
-    let f = S .args .f in
-    let w = S .pre in
-    let h = c .before .before .before .size .result in
-    let he = hoppers-are f w h (c .before .before .before .size .ensures) in
-    let first = c .before .before .first-length .result in
-    let small = first-small first (ltb 1 h) (c .before .before .first-length .ensures) in
-    let four = hoppers-four f w h he in
-    let eight = c .laid-out .ensures .1 in
-    omega arith
+mul-n c = let b = bounds c in omega arith
 
 add-n-2 : tie.Need-add-n-2 Inv-loop μ-loop
-add-n-2 c =
-    let S = c .before .before .before .before .before .before .before in
-    let f = S .args .f in
-    let w = S .pre in
-    let h = c .before .before .before .size .result in
-    let he = hoppers-are f w h (c .before .before .before .size .ensures) in
-    let first = c .before .before .first-length .result in
-    let small = first-small first (ltb 1 h) (c .before .before .first-length .ensures) in
-    let four = hoppers-four f w h he in
-    let eight = c .laid-out .ensures .1 in
-    omega arith
+add-n-2 c = let b = bounds c in omega arith
 
 cast-n-3 : tie.Need-cast-n-3 Inv-loop μ-loop
-cast-n-3 c =
-    let S = c .before .before .before .before .before .before .before in
-    let f = S .args .f in
-    let w = S .pre in
-    let h = c .before .before .before .size .result in
-    let he = hoppers-are f w h (c .before .before .before .size .ensures) in
-    let first = c .before .before .first-length .result in
-    let small = first-small first (ltb 1 h) (c .before .before .first-length .ensures) in
-    let four = hoppers-four f w h he in
-    let eight = c .laid-out .ensures .1 in
-    record { fits = omega arith }
+cast-n-3 c = let b = bounds c in record { fits = omega arith }
 
 mul-n-2 : tie.Need-mul-n-2 Inv-loop μ-loop
-mul-n-2 c =
-    let S = c .before .before .before .before .before .before .before in
-    let f = S .args .f in
-    let w = S .pre in
-    let h = c .before .before .before .size .result in
-    let he = hoppers-are f w h (c .before .before .before .size .ensures) in
-    let first = c .before .before .first-length .result in
-    let small = first-small first (ltb 1 h) (c .before .before .first-length .ensures) in
-    let four = hoppers-four f w h he in
-    let eight = c .laid-out .ensures .1 in
-    omega arith
+mul-n-2 c = let b = bounds c in omega arith
 
 add-n-3 : tie.Need-add-n-3 Inv-loop μ-loop
-add-n-3 c =
-    let S = c .before .before .before .before .before .before .before in
-    let f = S .args .f in
-    let w = S .pre in
-    let h = c .before .before .before .size .result in
-    let he = hoppers-are f w h (c .before .before .before .size .ensures) in
-    let first = c .before .before .first-length .result in
-    let small = first-small first (ltb 1 h) (c .before .before .first-length .ensures) in
-    let four = hoppers-four f w h he in
-    let eight = c .laid-out .ensures .1 in
-    omega arith
+add-n-3 c = let b = bounds c in omega arith
 
 loop-holds : tie.Need-loop-holds Inv-loop μ-loop
 loop-holds c =
     let S = c .before .before .before .before .before .before .before in
     let f = S .args .f in
     let w = S .pre in
-    let h = c .before .before .before .size .result in
-    let he = hoppers-are f w h (c .before .before .before .size .ensures) in
-    let first = c .before .before .first-length .result in
-    let small = first-small first (ltb 1 h) (c .before .before .first-length .ensures) in
-    let four = hoppers-four f w h he in
-    let eight = c .laid-out .ensures .1 in
+    let b = bounds c in
     let all = c .before .before .before .before .tile-count .ensures in
-    (omega arith, omega (arith, well-few f w, all), well-lengths f w .0, omega (arith, heads-none (f .tiles)), omega arith, λ u l. counts-few f w u (omega (arith, all)))
+    record {
+      below = omega arith;
+      few = omega (arith, well-few f w, all);
+      tiles-length = well-lengths f w .0;
+      reached = omega (arith, heads-none (f .tiles));
+      small = omega arith;
+      counts-small = λ u l. counts-few f w u (omega (arith, all));
+    }
 
 mul-head : tie.Need-mul-head Inv-loop μ-loop
 mul-head c = search needs
@@ -175,8 +120,16 @@ loop-less c = search needs
 loop-again : tie.Need-loop-again Inv-loop μ-loop
 loop-again c =
     let l = c .before .before .before .loop in
-    let k = l .inv .5 (l .t) (c .before .before .loop-test .taken) in
-    (omega arith, l .inv .1, l .inv .2, omega (arith, l .inv .3, heads-more (c .before .before .before .before .before .before .before .before .before .before .before .args .f .tiles) (l .t)), omega (arith, k, l .inv .4), l .inv .5)
+    let S = c .before .before .before .before .before .before .before .before .before .before .before in
+    let k = l .inv .counts-small (l .t) (c .before .before .loop-test .taken) in
+    record {
+      below = omega arith;
+      few = l .inv .few;
+      tiles-length = l .inv .tiles-length;
+      reached = omega (arith, heads-more (S .args .f .tiles) (l .t));
+      small = omega arith;
+      counts-small = l .inv .counts-small;
+    }
 
 returns : tie.Need-returns Inv-loop μ-loop
 returns c =
@@ -184,12 +137,12 @@ returns c =
     let S = c .before .before .before .before .before .before .before .before .before in
     let f = S .args .f in
     let w = S .pre in
-    let h = c .before .before .before .before .before .size .result in
-    let he = hoppers-are f w h (c .before .before .before .before .before .size .ensures) in
-    let fe = first-is (f .settings) h (c .before .before .before .before .first-length .result) he (c .before .before .before .before .first-length .ensures) in
+    let he = hoppers (c .before .before) in
+    let first = c .before .before .before .before .first-length in
+    let fe = first-is (f .settings) (c .before .before .before .before .before .size .result) (first .result) he (first .ensures) in
     let le = c .before .before .laid-out .ensures .0 in
     let e : l .t ≡ f .settings .columns * f .settings .rows = omega arith in
-    rw e at (l .inv .3) ∙ omega (arith, encode-heads f w)
+    rw e at (l .inv .reached) ∙ omega (arith, encode-heads f w)
 
 pub image-length-spec : {M : Type 1} → statement M
 image-length-spec =

@@ -1,11 +1,9 @@
 use mathlib.Core.Path.{_≡_, refl, sym, _∙_}
-use Prim.Native.Nat.{_+_, _*_, _-_, _≤_}
+use Prim.Native.Nat.{_-_}
 use native.Mathlib.Omega.{arith}
-use lib.ListN.{length, take}
-use Rattle.image_bytes.specs.Put.{put}
 use Rattle.image_bytes.proofs.PutLaws.{put-none}
-use Rattle.image.specs.Image.{layoutsBytes}
 use Rattle.image_write.proofs.ImageBytes.{layouts-none, layouts-turn}
+use Rattle.image_write.proofs.Loops.{LayoutsPut}
 use borrow.Author.Needs.{needs}
 use Rattle.image_write.proofs.put_layouts.Statement.{statement}
 use Rattle.image_write.proofs.put_layouts.Tie as tie
@@ -14,7 +12,7 @@ use Rattle.image_write.proofs.put_layouts.Lts as lts
 use Rattle.image_record_write.proofs.put_layout.Reads as put-layout-reads
 
 abbrev Inv-loop : tie.InvT-loop
-Inv-loop s₀ from n all k₀ s k = (k ≤ n) × (n ≤ 8) × (length all ≡ 8) × (from + 20 * n ≤ length s₀) × (length s ≡ length s₀) × (s ≡ put s₀ from (layoutsBytes (take k all)))
+Inv-loop s₀ from n all k₀ s k = LayoutsPut s₀ from n all s k
 
 abbrev μ-loop : tie.MeasureT-loop
 μ-loop s₀ from n all k₀ s k = n - k
@@ -22,7 +20,14 @@ abbrev μ-loop : tie.MeasureT-loop
 loop-holds : tie.Need-loop-holds Inv-loop μ-loop
 loop-holds c =
     let g = c .before .args in
-    (omega arith, c .before .pre .0, c .before .good .1 .1 .0 .1 .0 .1, c .before .pre .1, refl, rw layouts-none (sym (put-none (g.s .now) g.from)))
+    record {
+      below = omega arith;
+      few = c .before .pre .0;
+      all-length = c .before .good .1 .1 .0 .1 .0 .1;
+      room = c .before .pre .1;
+      buffer-length = refl;
+      written = rw layouts-none (sym (put-none (g.s .now) g.from));
+    }
 
 mul-x : tie.Need-mul-x Inv-loop μ-loop
 mul-x c = search needs
@@ -50,7 +55,14 @@ loop-again c =
     let l = c .before .before .before .before .before .before .loop in
     let g = c .before .before .before .before .before .before .before .before .args in
     let k = c .before .before .put-layout .kept .0 in
-    (omega arith, l .inv .1, l .inv .2, l .inv .3, k ∙ l .inv .4, layouts-turn (g.s .now) (l .s) _ g.from (l .k) g.t3 (omega arith) (omega arith) (l .inv .5) (c .before .before .put-layout .ensures))
+    record {
+      below = omega arith;
+      few = l .inv .few;
+      all-length = l .inv .all-length;
+      room = l .inv .room;
+      buffer-length = k ∙ l .inv .buffer-length;
+      written = layouts-turn (g.s .now) (l .s) _ g.from (l .k) g.t3 (omega arith) (omega arith) (l .inv .written) (c .before .before .put-layout .ensures);
+    }
 
 same-length : tie.Need-same-length Inv-loop μ-loop
 same-length c = search needs
@@ -60,7 +72,7 @@ returns c =
     let l = c .before .loop in
     let g = c .before .before .before .args in
     let e : l .k ≡ g.n = omega arith in
-    rw e at (l .inv .5)
+    rw e at (l .inv .written)
 
 pub put-layouts-spec : {M : Type 1} → statement M
 put-layouts-spec =
