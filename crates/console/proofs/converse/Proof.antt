@@ -1,8 +1,7 @@
-use mathlib.Core.Path.{_≡_, sym}
-use Prim.Native.Nat.{_≤_}
+use mathlib.Core.Path.{sym}
 use native.Mathlib.Omega.{arith}
-use lib.ListN.{length}
 use lib.Seq.{length-take-le}
+use Rattle.console.proofs.Loops.{LinesObeyed}
 use borrow.Author.Needs.{needs}
 use Rattle.console.proofs.converse.Statement.{statement}
 use Rattle.console.proofs.converse.Tie as tie
@@ -13,7 +12,7 @@ use Rattle.console.proofs.turn.Reads as turn-reads
 use Rattle.console_session.proofs.begin.Reads as begin-reads
 
 abbrev Inv-loop : tie.InvT-loop
-Inv-loop buf₀ s₀ kept₀ more₀ reads₀ buf s kept more reads = (kept ≤ 401) × (length buf ≡ length buf₀)
+Inv-loop buf₀ s₀ kept₀ more₀ reads₀ buf s kept more reads = LinesObeyed buf₀ buf kept
 
 abbrev μ-loop : tie.MeasureT-loop
 μ-loop buf₀ s₀ kept₀ more₀ reads₀ buf s kept more reads = reads
@@ -37,16 +36,16 @@ loop-again : tie.Need-loop-again Inv-loop μ-loop
 loop-again c = search needs
 
 slice-reshare-prefix-finish : tie.Need-slice-reshare-prefix-finish Inv-loop μ-loop
-slice-reshare-prefix-finish c = let l = c .before .loop in omega (arith, l .inv .0, l .inv .1)
+slice-reshare-prefix-finish c = let l = c .before .loop in omega arith
 
 slice-aggregate-finish : tie.Need-slice-aggregate-finish Inv-loop μ-loop
-slice-aggregate-finish c = let l = c .before .before .loop in sym (length-take-le (l .kept) (l .buf) (omega (arith, l .inv .0, l .inv .1)))
+slice-aggregate-finish c = let l = c .before .before .loop in sym (length-take-le (l .kept) (l .buf) (omega arith))
 
 finish-requires : tie.Need-finish-requires Inv-loop μ-loop
 finish-requires c κs = search needs
 
 same-length : tie.Need-same-length Inv-loop μ-loop
-same-length c = c .before .before .before .loop .inv .1
+same-length c = c .before .before .before .loop .inv .buffer-length
 
 returns : tie.Need-returns Inv-loop μ-loop
 returns c = search needs

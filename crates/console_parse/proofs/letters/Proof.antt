@@ -1,10 +1,10 @@
-use mathlib.Core.Path.{_≡_, refl}
-use Prim.Native.Nat.{_-_, _≤_}
+use mathlib.Core.Path.{refl}
+use Prim.Native.Nat.{_-_}
 use native.Mathlib.Omega.{arith}
 use lib.ListN.{length, getD, length-set}
-use Rattle.laws.specs.Filled.{Upto, From}
 use Rattle.laws.proofs.Tables.{upto-turn, rest-turn}
 use Rattle.console_parse.proofs.Line.{name-long, name-start, name-copied}
+use Rattle.console_parse.proofs.Loops.{LettersCopied}
 use borrow.Author.Needs.{needs}
 use Rattle.console_parse.proofs.letters.Statement.{statement}
 use Rattle.console_parse.proofs.letters.Tie as tie
@@ -12,7 +12,7 @@ use Rattle.console_parse.proofs.letters.Reads as reads
 use Rattle.console_parse.proofs.letters.Lts as lts
 
 abbrev Inv-loop : tie.InvT-loop
-Inv-loop word all₀ i₀ all i = (i ≤ length word) × (length word ≤ 8) × (length all ≡ 8) × Upto i (λ j. getD word j 0) 0 all × From i (λ _. 0) 0 all
+Inv-loop word all₀ i₀ all i = LettersCopied word all i
 
 abbrev μ-loop : tie.MeasureT-loop
 μ-loop word all₀ i₀ all i = length word - i
@@ -21,7 +21,13 @@ returns : tie.Need-returns Inv-loop μ-loop
 returns c = name-long (c .before .args .word .now) (c .if1 .taken)
 
 loop-holds : tie.Need-loop-holds Inv-loop μ-loop
-loop-holds c = (omega arith, omega (arith, c .if1 .left), refl, λ j h. absurd (omega arith), name-start)
+loop-holds c = record {
+  below = omega arith;
+  few = omega (arith, c .if1 .left);
+  all-length = refl;
+  copied = λ j h. absurd (omega arith);
+  zeros = name-start;
+}
 
 shared-slice-read-all : tie.Need-shared-slice-read-all Inv-loop μ-loop
 shared-slice-read-all c = search needs
@@ -39,13 +45,19 @@ loop-again : tie.Need-loop-again Inv-loop μ-loop
 loop-again c =
     let S = c .before .before .before .before in
     let l = c .before .before .loop in
-    (omega arith, l .inv .1, simp length-set (l .inv .2), upto-turn (l .i) (λ j. getD (S .args .word .now) j 0) 0 (l .all) _ (omega arith) (l .inv .3) refl, rest-turn (l .i) (λ _. 0) 0 (l .all) _ (l .inv .4))
+    record {
+      below = omega arith;
+      few = l .inv .few;
+      all-length = simp length-set (l .inv .all-length);
+      copied = upto-turn (l .i) (λ j. getD (S .args .word .now) j 0) 0 (l .all) _ (omega arith) (l .inv .copied) refl;
+      zeros = rest-turn (l .i) (λ _. 0) 0 (l .all) _ (l .inv .zeros);
+    }
 
 returns-2 : tie.Need-returns-2 Inv-loop μ-loop
 returns-2 c =
     let S = c .before .before .before in
     let l = c .before .loop in
-    name-copied (S .args .word .now) (l .all) (l .i) (l .inv .1) (l .inv .2) (omega arith) (l .inv .3) (l .inv .4)
+    name-copied (S .args .word .now) (l .all) (l .i) (l .inv .few) (l .inv .all-length) (omega arith) (l .inv .copied) (l .inv .zeros)
 
 pub letters-spec : {M : Type 1} → statement M
 letters-spec =

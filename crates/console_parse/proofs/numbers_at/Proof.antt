@@ -1,9 +1,9 @@
 use mathlib.Core.Path.{_≡_}
-use Prim.Native.Nat.{_-_, _≤_}
+use Prim.Native.Nat.{_-_}
 use native.Mathlib.Omega.{arith}
-use Rattle.laws.specs.Define.{tab}
-use Rattle.console_parse.specs.Line.{allNumbers, valueAt, numbersOf}
+use Rattle.console_parse.specs.Line.{numbersOf}
 use Rattle.console_parse.proofs.Line.{values-zero, all-zero, all-turn, values-turn}
+use Rattle.console_parse.proofs.Loops.{NumbersRead}
 use borrow.Author.Needs.{needs}
 use Rattle.console_parse.proofs.numbers_at.Statement.{statement}
 use Rattle.console_parse.proofs.numbers_at.Tie as tie
@@ -14,13 +14,19 @@ use Rattle.console_parse.proofs.number.Reads as number-reads
 use Rattle.console_parse.proofs.value_of.Reads as value-of-reads
 
 abbrev Inv-loop : tie.InvT-loop
-Inv-loop line first count all₀ good₀ k₀ all good k = (k ≤ count) × (good ≡ allNumbers line first k) × (all ≡ tab 4 (valueAt line first k))
+Inv-loop line first count all₀ good₀ k₀ all good k = NumbersRead line first count all good k
 
 abbrev μ-loop : tie.MeasureT-loop
 μ-loop line first count all₀ good₀ k₀ all good k = count - k
 
 loop-holds : tie.Need-loop-holds Inv-loop μ-loop
-loop-holds c = let g = c .before .args in (omega arith, all-zero (g .line .now) (g .first), values-zero (g .line .now) (g .first))
+loop-holds c =
+    let g = c .before .args in
+    record {
+      below = omega arith;
+      readable = all-zero (g .line .now) (g .first);
+      values = values-zero (g .line .now) (g .first);
+    }
 
 add-number : tie.Need-add-number Inv-loop μ-loop
 add-number c = search needs
@@ -47,11 +53,19 @@ loop-less : tie.Need-loop-less Inv-loop μ-loop
 loop-less c = search needs
 
 loop-again : tie.Need-loop-again Inv-loop μ-loop
-loop-again c = let g = c .before .before .before .before .before .before .args in let l = c .before .before .before .before .loop in let n = c .before .before .number .ensures in (omega arith, all-turn (g .line .now) (g .first) (l .k) (l .inv .1) n (c .is-value .ensures), values-turn (g .line .now) (g .first) (l .k) (l .all) (omega arith) (l .inv .2) n (c .before .value-of .ensures))
+loop-again c =
+    let g = c .before .before .before .before .before .before .args in
+    let l = c .before .before .before .before .loop in
+    let n = c .before .before .number .ensures in
+    record {
+      below = omega arith;
+      readable = all-turn (g .line .now) (g .first) (l .k) (l .inv .readable) n (c .is-value .ensures);
+      values = values-turn (g .line .now) (g .first) (l .k) (l .all) (omega arith) (l .inv .values) n (c .before .value-of .ensures);
+    }
 
 returns : tie.Need-returns Inv-loop μ-loop
 unfolding numbersOf
-returns c = let g = c .before .before .before .args in let l = c .before .loop in let e : l .k ≡ g .count = omega arith in rw (l .inv .1, l .inv .2, e)
+returns c = let g = c .before .before .before .args in let l = c .before .loop in let e : l .k ≡ g .count = omega arith in rw (l .inv .readable, l .inv .values, e)
 
 pub numbers-at-spec : {M : Type 1} → statement M
 numbers-at-spec =

@@ -1,10 +1,11 @@
 use mathlib.Core.Path.{ap, _∙_}
-use Prim.Native.Nat.{_-_, _≤_}
+use Prim.Native.Nat.{_-_}
 use native.Mathlib.Omega.{arith}
 use lib.ListN.{length}
 use borrow.Author.Tests.{lt-leb}
 use Rattle.console_parse.specs.Line.{isTile}
-use Rattle.console_parse.proofs.Line.{Unread, unread-all, tiles-bad, tiles-more, tiles-end}
+use Rattle.console_parse.proofs.Line.{unread-all, tiles-bad, tiles-more, tiles-end}
+use Rattle.console_parse.proofs.Loops.{TilesRead}
 use borrow.Author.Needs.{needs}
 use Rattle.console_parse.proofs.tile_list.Statement.{statement}
 use Rattle.console_parse.proofs.tile_list.Tie as tie
@@ -15,13 +16,16 @@ use Rattle.console_words.proofs.find.Reads as find-reads
 use Rattle.console_words.proofs.number.Reads as number-reads
 
 abbrev Inv-loop : tie.InvT-loop
-Inv-loop word set₀ at₀ set at = (at ≤ length word) × Unread word at set
+Inv-loop word set₀ at₀ set at = TilesRead word set at
 
 abbrev μ-loop : tie.MeasureT-loop
 μ-loop word set₀ at₀ set at = length word - at
 
 loop-holds : tie.Need-loop-holds Inv-loop μ-loop
-loop-holds c = (omega arith, unread-all (c .before .args .word .now))
+loop-holds c = record {
+  below = omega arith;
+  unread = unread-all (c .before .args .word .now);
+}
 
 find-requires : tie.Need-find-requires Inv-loop μ-loop
 find-requires c κs = search needs
@@ -45,10 +49,21 @@ enum-told : tie.Need-enum-told Inv-loop μ-loop
 enum-told c = search needs
 
 returns : tie.Need-returns Inv-loop μ-loop
-returns c = let f = c .before .before .before .before .find in let l = c .before .before .before .before .before .loop in let n = c .before .before .number in tiles-bad (c .before .before .before .before .before .before .before .args .word .now) (l .at) (f .result) (l .set) (f .ensures .0) (f .ensures .1 .0) (f .ensures .1 .1) (l .inv .1) (n .result) (n .ensures) (ap isTile (c .enum-told .given .1))
+returns c =
+    let s = c .before .before .before .before .before .before .before .args .word .now in
+    let l = c .before .before .before .before .before .loop in
+    let f = c .before .before .before .before .find in
+    let n = c .before .before .number in
+    tiles-bad s (l .at) (f .result) (l .set) (f .ensures .0) (f .ensures .1 .0) (f .ensures .1 .1) (l .inv .unread) (n .result) (n .ensures) (ap isTile (c .enum-told .given .1))
 
 returns-2 : tie.Need-returns-2 Inv-loop μ-loop
-returns-2 c = let f = c .before .before .before .before .before .before .find in let l = c .before .before .before .before .before .before .before .loop in let n = c .before .before .before .before .number in let x = c .before .before .n .given in tiles-bad (c .before .before .before .before .before .before .before .before .before .args .word .now) (l .at) (f .result) (l .set) (f .ensures .0) (f .ensures .1 .0) (f .ensures .1 .1) (l .inv .1) (n .result) (n .ensures) (ap isTile (x .1) ∙ lt-leb (x .0 .0) 63 (c .if1 .taken))
+returns-2 c =
+    let s = c .before .before .before .before .before .before .before .before .before .args .word .now in
+    let l = c .before .before .before .before .before .before .before .loop in
+    let f = c .before .before .before .before .before .before .find in
+    let n = c .before .before .before .before .number in
+    let x = c .before .before .n .given in
+    tiles-bad s (l .at) (f .result) (l .set) (f .ensures .0) (f .ensures .1 .0) (f .ensures .1 .1) (l .inv .unread) (n .result) (n .ensures) (ap isTile (x .1) ∙ lt-leb (x .0 .0) 63 (c .if1 .taken))
 
 cast-with : tie.Need-cast-with Inv-loop μ-loop
 cast-with c = search needs
@@ -57,7 +72,14 @@ with-requires : tie.Need-with-requires Inv-loop μ-loop
 with-requires c κs = search needs
 
 returns-3 : tie.Need-returns-3 Inv-loop μ-loop
-returns-3 c = let f = c .before .before .before .before .before .before .before .before .find in let l = c .before .before .before .before .before .before .before .before .before .loop in let n = c .before .before .before .before .before .before .number in let x = c .before .before .before .before .n .given in let w = c .before .with in tiles-end (c .before .before .before .before .before .before .before .before .before .before .before .args .word .now) (l .at) (f .result) (l .set) (f .ensures .0) (f .ensures .1 .0) (f .ensures .1 .1) (l .inv .1) (n .result) (n .ensures) (x .0 .0) (w .result) (x .1) (c .before .before .if1 .left) (w .ensures) (omega arith)
+returns-3 c =
+    let s = c .before .before .before .before .before .before .before .before .before .before .before .args .word .now in
+    let l = c .before .before .before .before .before .before .before .before .before .loop in
+    let f = c .before .before .before .before .before .before .before .before .find in
+    let n = c .before .before .before .before .before .before .number in
+    let x = c .before .before .before .before .n .given in
+    let w = c .before .with in
+    tiles-end s (l .at) (f .result) (l .set) (f .ensures .0) (f .ensures .1 .0) (f .ensures .1 .1) (l .inv .unread) (n .result) (n .ensures) (x .0 .0) (w .result) (x .1) (c .before .before .if1 .left) (w .ensures) (omega arith)
 
 add-at : tie.Need-add-at Inv-loop μ-loop
 add-at c = search needs
@@ -66,7 +88,17 @@ loop-less : tie.Need-loop-less Inv-loop μ-loop
 loop-less c = search needs
 
 loop-again : tie.Need-loop-again Inv-loop μ-loop
-loop-again c = let f = c .before .before .before .before .before .before .before .before .find in let l = c .before .before .before .before .before .before .before .before .before .loop in let n = c .before .before .before .before .before .before .number in let x = c .before .before .before .before .n .given in let w = c .before .with in (omega arith, tiles-more (c .before .before .before .before .before .before .before .before .before .before .before .args .word .now) (l .at) (f .result) (l .set) (f .ensures .0) (f .ensures .1 .0) (f .ensures .1 .1) (l .inv .1) (n .result) (n .ensures) (x .0 .0) (w .result) (x .1) (c .before .before .if1 .left) (w .ensures) (omega arith))
+loop-again c =
+    let s = c .before .before .before .before .before .before .before .before .before .before .before .args .word .now in
+    let l = c .before .before .before .before .before .before .before .before .before .loop in
+    let f = c .before .before .before .before .before .before .before .before .find in
+    let n = c .before .before .before .before .before .before .number in
+    let x = c .before .before .before .before .n .given in
+    let w = c .before .with in
+    record {
+      below = omega arith;
+      unread = tiles-more s (l .at) (f .result) (l .set) (f .ensures .0) (f .ensures .1 .0) (f .ensures .1 .1) (l .inv .unread) (n .result) (n .ensures) (x .0 .0) (w .result) (x .1) (c .before .before .if1 .left) (w .ensures) (omega arith);
+    }
 
 pub tile-list-spec : {M : Type 1} → statement M
 tile-list-spec =
