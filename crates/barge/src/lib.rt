@@ -6,10 +6,10 @@ use floor::Report;
 pub const NO_FLOOR: u8 = 49;
 
 // "the total is at or above the allowance, checked last in a booking of either sort"
-pub const NO_ALLOWANCE: u8 = 50;
+pub const OVERLOADED: u8 = 50;
 
 // The greatest allowance.
-pub const GREATEST: u32 = 4032;
+pub const MAX_ALLOWANCE: u32 = 4032;
 
 // Four floors, and how many canisters may be aboard. How many are is not stored: the floors have them.
 #[repr(C)]

@@ -8,9 +8,9 @@ ghost use Rattle.laws.specs.Define.{sum, refusal};
 ghost use Rattle.floor.specs.Calls.{zeroReport};
 ghost use Rattle.barge.specs.Barges.{aboard, bargeSound};
 use barge::Barge;
-use barge::GREATEST;
-use barge::NO_ALLOWANCE;
+use barge::MAX_ALLOWANCE;
 use barge::NO_FLOOR;
+use barge::OVERLOADED;
 use check_floor::well_formed;
 use floor::Counters;
 use floor::Delivery;
@@ -47,7 +47,7 @@ pub fn last_refusal(total: u64, allowance: u32) -> u8
     ensures { λ r. ⌜ r ≡ refusal ((leb allowance total, 50) ∷ []) ⌝ }
 {
     if allowance as u64 <= total {
-        return NO_ALLOWANCE;
+        return OVERLOADED;
     }
     0
 }
@@ -62,7 +62,7 @@ pub struct Begun {
 pub fn begin(barge: Barge, floor: u32) -> Begun
     ensures { λ r. ⌜ (r .refusal ≡ refusal ((not (bargeSound barge), 30) ∷ (leb 4 floor, 49) ∷ [])) × (r .refusal ≡ 0 → r .total ≡ aboard barge) ⌝ }
 {
-    let mut sound = (1 <= barge.allowance) & (barge.allowance <= GREATEST);
+    let mut sound = (1 <= barge.allowance) & (barge.allowance <= MAX_ALLOWANCE);
     let mut total: u64 = 0;
     for k in 0usize..4 {
         let each = barge.floors[k];

@@ -36,7 +36,7 @@ pub fn find(s: Settings, last: u32, tile: u32, number: u32, running: u8, own: Me
         b: 0,
     };
     let refused = book_refusal(s, last, tile, corner, running, own);
-    if refused != refusals::TOO_NEAR {
+    if refused != refusals::TOO_CLOSE {
         return Found {
             canister: corner,
             refusal: refused,

@@ -19,7 +19,7 @@ pub struct Booking {
 }
 
 // The most entries of a list.
-const LONGEST: usize = 64;
+const LONGEST_LIST: usize = 64;
 
 // How a list begins: how many entries are booked, and whether the floor is well formed.
 pub struct Begun {
@@ -31,7 +31,7 @@ pub struct Begun {
 pub fn begin_list(floor: Floor, n: usize) -> Begun
     ensures { λ r. ⌜ r ≡ begunOf floor n ⌝ }
 {
-    if LONGEST < n {
+    if LONGEST_LIST < n {
         return Begun {
             turns: 0,
             well: false,
@@ -73,7 +73,7 @@ pub fn answer_of(n: usize, floor: Floor) -> Answer
     ensures { λ r. ⌜ r ≡ answerOf n floor ⌝ }
 {
     let mut number: u8 = 0;
-    if LONGEST < n {
+    if LONGEST_LIST < n {
         number = refusals::LIST_TOO_LONG;
     }
     Answer {

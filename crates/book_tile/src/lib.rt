@@ -41,7 +41,7 @@ pub fn book_refusal(s: Settings, last: u32, tile: u32, c: Canister, running: u8,
         return refusals::NO_TILE;
     }
     if !fill {
-        return refusals::NO_FILL_TILE;
+        return refusals::NOT_A_SOURCE;
     }
     if c.number == 0 {
         return refusals::NUMBER_ZERO;
@@ -57,12 +57,12 @@ pub fn book_refusal(s: Settings, last: u32, tile: u32, c: Canister, running: u8,
         return refusals::STOPPED;
     }
     if past {
-        return refusals::NUMBER_PAST;
+        return refusals::NUMBER_USED;
     }
     let items = own.items;
     let room = has_room(s, c, items, own.count as usize);
     if !room {
-        return refusals::TOO_NEAR;
+        return refusals::TOO_CLOSE;
     }
     0
 }

@@ -10,6 +10,7 @@ ghost use Rattle.floor.specs.Memory.{zeroCanister, view, head, pack};
 ghost use Rattle.floor.specs.Well.{wellFormed};
 ghost use Rattle.floor.specs.Calls.{freshTile, freshFloor, stopTests, stopped, repairTests, repaired, readTests};
 use floor::Canister;
+use floor::DISTANCE_NONE;
 use floor::Floor;
 use floor::Settings;
 use floor::Side;
@@ -24,7 +25,7 @@ pub fn fresh_tile(s: Settings, t: usize) -> Tile
 {
     let none = Side::NONE;
     let hopper = holds(s.hoppers, t);
-    let distance: u8 = if hopper { 0 } else { 255 };
+    let distance: u8 = if hopper { 0 } else { DISTANCE_NONE };
     Tile {
         running: 1,
         distance: distance,
@@ -84,7 +85,7 @@ pub fn stop_refusal(floor: Floor, tile: u32) -> u8
         return refusals::NO_TILE;
     }
     if holds(s.hoppers, tile as usize) {
-        return refusals::HOPPER;
+        return refusals::STOP_OF_HOPPER;
     }
     let old = tile_head(floor, tile);
     if old.running != 1 {
@@ -104,7 +105,7 @@ pub fn stopped_floor(floor: Floor, tile: u32) -> Floor
     let mut after = floor;
     after.tiles[t] = Tile {
         running: 0,
-        distance: 255,
+        distance: DISTANCE_NONE,
         next: none,
         token: none,
         count: was.count,

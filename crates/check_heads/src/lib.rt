@@ -5,6 +5,7 @@ ghost use Rattle.floor.specs.Settings.{total, Ranged};
 ghost use Rattle.floor.specs.Memory.{isZeroTile, headFits};
 ghost use Rattle.floor.specs.Well.{hopperSound, runningSound, stoppedSound, faces, headSound};
 ghost use Rattle.check_heads.specs.Head.{stateSound};
+use floor::DISTANCE_NONE;
 use floor::Settings;
 use floor::Side;
 use floor::Tile;
@@ -31,7 +32,7 @@ pub fn running_ok(s: Settings, h: Tile) -> bool
 {
     let all = s.tile_count();
     let distance = h.distance as usize;
-    ((h.distance == 255) & (h.next.code == 0))
+    ((h.distance == DISTANCE_NONE) & (h.next.code == 0))
         | ((1 <= h.distance) & ((distance < all) & (0 < h.next.code)))
 }
 
@@ -39,7 +40,7 @@ pub fn running_ok(s: Settings, h: Tile) -> bool
 pub fn stopped_ok(h: Tile) -> bool
     ensures { λ r. ⌜ r ≡ stoppedSound h ⌝ }
 {
-    (h.running == 0) & ((h.distance == 255) & ((h.next.code == 0) & (h.token.code == 0)))
+    (h.running == 0) & ((h.distance == DISTANCE_NONE) & ((h.next.code == 0) & (h.token.code == 0)))
 }
 
 // Whether a side is none or faces a tile of the floor.

@@ -60,13 +60,13 @@ pub fn settings_refusal(s: Settings) -> u8
     ensures { λ r. ⌜ r ≡ settingsRefusal s ⌝ }
 {
     if sizes_wrong(s) {
-        return refusals::SIZES;
+        return refusals::GRID;
     }
     if sets_wrong(s) {
         return refusals::SETS;
     }
     if measures_wrong(s) {
-        return refusals::MEASURES;
+        return refusals::MEASURE;
     }
     0
 }

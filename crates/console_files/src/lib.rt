@@ -120,7 +120,7 @@ fn unread() -> Loaded {
     let floor = floor::zero_floor();
     let answer = Answer {
         floor: floor,
-        refusal: refusals::IMAGE_END,
+        refusal: refusals::IMAGE_ENDS,
     };
     Loaded {
         answer: answer,

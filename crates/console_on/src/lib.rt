@@ -16,7 +16,7 @@ fn refused(floor: u32, call: &[u8], n: u8) {
             b"the allowance isn't 1 to 4032, or a floor isn't there",
         ),
         barge::NO_FLOOR => console_say::refused_as(call, n, b"floor number not 0 to 3"),
-        barge::NO_ALLOWANCE => console_say::refused_as(call, n, b"the allowance is used up"),
+        barge::OVERLOADED => console_say::refused_as(call, n, b"the allowance is used up"),
         _ => console_say::refused(call, n),
     }
 }

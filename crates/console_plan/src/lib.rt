@@ -28,12 +28,12 @@ pub fn plan(s: Session) -> Session {
 fn refused(call: &[u8], n: u8) {
     match n {
         refusals::MALFORMED => console_say::refused_as(call, n, b"the plan isn't sound"),
-        plan::BAD_LABELS => console_say::refused_as(
+        plan::BAD_LABEL => console_say::refused_as(
             call,
             n,
             b"the label is there already or not 1 to 64, or one to come before it is absent or not lower",
         ),
-        plan::NOT_READY => console_say::refused_as(
+        plan::NOT_RELEASED => console_say::refused_as(
             call,
             n,
             b"no such label waits, or one before it isn't delivered",

@@ -26,19 +26,19 @@ pub fn at_most(x: usize, most: usize) -> usize
 // The refusals 1 to 12 in a few words: settings, a booking's words, an image.
 fn meaning_low(n: u8) {
     match n {
-        refusals::SIZES => text(b"W or H outside 1 to 8, or a single tile"),
+        refusals::GRID => text(b"W or H outside 1 to 8, or a single tile"),
         refusals::SETS => text(
             b"not one to four hoppers, all on the floor, or a fill tile that is a hopper or no tile",
         ),
-        refusals::MEASURES => text(b"a measure breaks the rules"),
+        refusals::MEASURE => text(b"a measure breaks the rules"),
         refusals::NO_TILE => text(b"tile not on the floor"),
-        refusals::NO_FILL_TILE => text(b"not a fill tile"),
+        refusals::NOT_A_SOURCE => text(b"not a fill tile"),
         refusals::NUMBER_ZERO => text(b"canister number 0"),
         refusals::OUTSIDE => text(b"a or b above U - l"),
-        refusals::HOPPER => text(b"a hopper can't be stopped"),
-        refusals::IMAGE_END => text(b"the image ends too soon, or not where it should"),
-        refusals::KIND => text(b"a record of another kind than the one due"),
-        refusals::LENGTH => text(b"a record's length or a fixed byte is wrong"),
+        refusals::STOP_OF_HOPPER => text(b"a hopper can't be stopped"),
+        refusals::IMAGE_ENDS => text(b"the image ends too soon, or not where it should"),
+        refusals::OTHER_KIND => text(b"a record of another kind than the one due"),
+        refusals::RECORD_SHAPE => text(b"a record's length or a fixed byte is wrong"),
         refusals::IMAGE_MALFORMED => text(b"the image's floor isn't well formed"),
         _ => text(b"unknown"),
     }
@@ -50,13 +50,13 @@ fn meaning(n: u8) {
         refusals::MALFORMED => text(b"the floor isn't well formed"),
         refusals::STOPPED => text(b"the tile is stopped"),
         refusals::RUNNING => text(b"the tile is running"),
-        refusals::NUMBER_PAST => text(b"number not above the last booked"),
-        refusals::TOO_NEAR => text(b"too near a canister of the tile"),
+        refusals::NUMBER_USED => text(b"number not above the last booked"),
+        refusals::TOO_CLOSE => text(b"too near a canister of the tile"),
         refusals::NO_PLACE => text(b"no place on the tile"),
         refusals::LIST_TOO_LONG => text(b"more than 64 entries"),
         refusals::BAD_NAME => text(b"not a name of 1 to 8 letters A to Z"),
-        refusals::NOT_HELD => text(b"no layout has that name"),
-        refusals::EIGHT_HELD => text(b"eight other names are held"),
+        refusals::NAME_NOT_HELD => text(b"no layout has that name"),
+        refusals::LAYOUTS_FULL => text(b"eight other names are held"),
         _ => meaning_low(n),
     }
 }

@@ -8,6 +8,7 @@ use console_say::small;
 use console_say::text;
 use floor::Canister;
 use floor::Counters;
+use floor::DISTANCE_NONE;
 use floor::Delivery;
 use floor::EAST;
 use floor::Layout;
@@ -103,7 +104,7 @@ pub fn delivered(floor: u32, at: u64, hoppers: u64, all: [Delivery; 4]) {
 }
 
 fn distance(n: u8) {
-    if n == 255 {
+    if n == DISTANCE_NONE {
         text(b"--");
     } else {
         number(n as u64);

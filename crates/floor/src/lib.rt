@@ -112,7 +112,10 @@ impl Side {
     }
 }
 
-// A tile without its canisters. `running` is 1 or 0; `distance` 255 is none; `next` is document 01's arrow, `token` its
+// The distance of a tile that has none.
+pub const DISTANCE_NONE: u8 = 255;
+
+// A tile without its canisters. `running` is 1 or 0; `distance` is DISTANCE_NONE where there is none; `next` is document 01's arrow, `token` its
 // turn; `count` is how many of the tile's sixteen places are used.
 #[repr(C)]
 pub struct Tile {

@@ -1,19 +1,20 @@
-// The numbers that a call is refused by, with the papers' words. Where nothing refuses, the number is 0.
+// The numbers that a call is refused by, with the papers' words; their names are those of the C header. Where nothing refuses, the
+// number is 0. 41 stands in `throughput`, 47 and 48 in `plan`, 49 and 50 in `barge`.
 
 // "W, H or C outside its range."
-pub const SIZES: u8 = 1;
+pub const GRID: u8 = 1;
 
 // "Hopper not on the floor, or a fill bit for the hopper or for no tile." "A fresh floor takes one to four, else 2."
 pub const SETS: u8 = 2;
 
 // "A measure breaks the rules above."
-pub const MEASURES: u8 = 3;
+pub const MEASURE: u8 = 3;
 
 // "Tile not on the floor."
 pub const NO_TILE: u8 = 4;
 
 // "Booking on a tile outside the fill set."
-pub const NO_FILL_TILE: u8 = 5;
+pub const NOT_A_SOURCE: u8 = 5;
 
 // "Canister number 0."
 pub const NUMBER_ZERO: u8 = 6;
@@ -22,22 +23,22 @@ pub const NUMBER_ZERO: u8 = 6;
 pub const OUTSIDE: u8 = 7;
 
 // "Stop of the hopper."
-pub const HOPPER: u8 = 8;
+pub const STOP_OF_HOPPER: u8 = 8;
 
 // "Image ends within a record or with its end record missing, or has bytes after its end record."
-pub const IMAGE_END: u8 = 9;
+pub const IMAGE_ENDS: u8 = 9;
 
 // "Record of another kind than the one due."
-pub const KIND: u8 = 10;
+pub const OTHER_KIND: u8 = 10;
 
 // "Wrong record length, or a fixed byte wrong."
-pub const LENGTH: u8 = 11;
+pub const RECORD_SHAPE: u8 = 11;
 
 // "Image complete, floor not well formed."
 pub const IMAGE_MALFORMED: u8 = 12;
 
 // "Buffer shorter than the image to write."
-pub const BUFFER: u8 = 13;
+pub const SHORT_BUFFER: u8 = 13;
 
 // "The floor handed in isn't well formed. First in every call that takes one."
 pub const MALFORMED: u8 = 30;
@@ -49,15 +50,17 @@ pub const STOPPED: u8 = 31;
 pub const RUNNING: u8 = 32;
 
 // "Canister number not above the last booked."
-pub const NUMBER_PAST: u8 = 33;
+pub const NUMBER_USED: u8 = 33;
 
 // "Some canister of the tile differs by less than d in both a and b."
-pub const TOO_NEAR: u8 = 34;
+pub const TOO_CLOSE: u8 = 34;
 
 // "no place on the tile, where 34 stood for this call"
 pub const NO_PLACE: u8 = 40;
+
 // "more than 64 entries, checked first, with no entry written"
 pub const LIST_TOO_LONG: u8 = 42;
+
 // "buffer shorter than the page, checked after 30"
 pub const SHORT_PAGE: u8 = 43;
 
@@ -65,7 +68,7 @@ pub const SHORT_PAGE: u8 = 43;
 pub const BAD_NAME: u8 = 44;
 
 // "name not held, after 44, at recall and forgetting"
-pub const NOT_HELD: u8 = 45;
+pub const NAME_NOT_HELD: u8 = 45;
 
 // "eight other names held, after 44, at keeping"
-pub const EIGHT_HELD: u8 = 46;
+pub const LAYOUTS_FULL: u8 = 46;

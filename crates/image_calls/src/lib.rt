@@ -70,7 +70,7 @@ pub fn write(floor: Floor, buffer: &mut [u8]) -> Written
     let n = image_length(floor);
     if buffer.len() < n as usize {
         return Written {
-            refusal: refusals::BUFFER,
+            refusal: refusals::SHORT_BUFFER,
             length: 0,
         };
     }

@@ -110,19 +110,19 @@ fn read_settings(s: &[u8], at: usize, n: u16) -> Found
     ensures { λ r. ⌜ (r .fault ≡ refusal (settingsFaults n (drop at (now (s .entry))))) × (r .fault ≡ 0 → r .settings ≡ settingsIn n (drop at (now (s .entry)))) ⌝ }
 {
     if (n != 20) & (n != 28) {
-        return unread(refusals::LENGTH);
+        return unread(refusals::RECORD_SHAPE);
     }
     if s[at + 3] != 0 {
-        return unread(refusals::LENGTH);
+        return unread(refusals::RECORD_SHAPE);
     }
     let x = settings_at(s, at, n);
     let more = n == 28;
     let wrong = byte_wrong(s[at + 2], x.hoppers);
     if more & wrong {
-        return unread(refusals::LENGTH);
+        return unread(refusals::RECORD_SHAPE);
     }
     if sizes_wrong(x) {
-        return unread(refusals::SIZES);
+        return unread(refusals::GRID);
     }
     let count = size(x.hoppers);
     if more & (count < 2) {
@@ -159,7 +159,7 @@ fn read_counters(s: &[u8], at: usize, n: u16, h: u8) -> Found
     ensures { λ r. ⌜ (r .fault ≡ refusal (countersFaults h n)) × (r .fault ≡ 0 → r .counters ≡ countersIn h (drop at (now (s .entry)))) ⌝ }
 {
     if n != 8 + 4 * (h as u16) {
-        return unread(refusals::LENGTH);
+        return unread(refusals::RECORD_SHAPE);
     }
     let mut r = unread(0);
     r.counters = counters_at(s, at, h);
@@ -188,17 +188,17 @@ fn read_tile(s: &[u8], at: usize, n: u16, tile: u8) -> Found
     ensures { λ r. ⌜ (r .fault ≡ refusal (tileFaults tile n (drop at (now (s .entry))))) × (r .fault ≡ 0 → r .tile ≡ head (tileIn (drop at (now (s .entry))))) ⌝ }
 {
     if n < 6 {
-        return unread(refusals::LENGTH);
+        return unread(refusals::RECORD_SHAPE);
     }
     if s[at] != tile {
-        return unread(refusals::LENGTH);
+        return unread(refusals::RECORD_SHAPE);
     }
     let count = s[at + 5];
     if 16 < count {
-        return unread(refusals::LENGTH);
+        return unread(refusals::RECORD_SHAPE);
     }
     if n != 6 + 8 * (count as u16) {
-        return unread(refusals::LENGTH);
+        return unread(refusals::RECORD_SHAPE);
     }
     let mut r = unread(0);
     r.tile = tile_at(s, at);
@@ -210,7 +210,7 @@ fn read_end(n: u16) -> Found
     ensures { λ r. ⌜ r .fault ≡ refusal (endFaults n) ⌝ }
 {
     if n != 0 {
-        return unread(refusals::LENGTH);
+        return unread(refusals::RECORD_SHAPE);
     }
     unread(0)
 }
@@ -248,7 +248,7 @@ fn read_layout(s: &[u8], at: usize, n: u16) -> Found
     ensures { λ r. ⌜ (r .fault ≡ refusal (layoutFaults n)) × (r .fault ≡ 0 → r .layout ≡ layoutIn (drop at (now (s .entry)))) ⌝ }
 {
     if n != 16 {
-        return unread(refusals::LENGTH);
+        return unread(refusals::RECORD_SHAPE);
     }
     let mut r = unread(0);
     r.layout = layout_at(s, at);
@@ -262,40 +262,40 @@ pub fn read_record(s: &[u8], at: usize, due: u16, tile: u8) -> Found
 {
     let left = s.len() - at;
     if left < 4 {
-        return unread(refusals::IMAGE_END);
+        return unread(refusals::IMAGE_ENDS);
     }
     let n = u16_at(s, at);
     if left - 4 < n as usize {
-        return unread(refusals::IMAGE_END);
+        return unread(refusals::IMAGE_ENDS);
     }
     let kind = u16_at(s, at + 2);
     match kind {
         1 => if due == 1 {
             read_settings(s, at + 4, n)
         } else {
-            unread(refusals::KIND)
+            unread(refusals::OTHER_KIND)
         },
         2 => if due == 2 {
             read_counters(s, at + 4, n, tile)
         } else {
-            unread(refusals::KIND)
+            unread(refusals::OTHER_KIND)
         },
         3 => if due == 3 {
             read_tile(s, at + 4, n, tile)
         } else {
-            unread(refusals::KIND)
+            unread(refusals::OTHER_KIND)
         },
         4 => if due == 4 {
             read_end(n)
         } else {
-            unread(refusals::KIND)
+            unread(refusals::OTHER_KIND)
         },
         5 => if due == 5 {
             read_layout(s, at + 4, n)
         } else {
-            unread(refusals::KIND)
+            unread(refusals::OTHER_KIND)
         },
-        _ => unread(refusals::KIND),
+        _ => unread(refusals::OTHER_KIND),
     }
 }
 
@@ -359,7 +359,7 @@ fn end_fault(s: &[u8], at: usize) -> u8
     }
     let n = u16_at(s, at);
     if at + 4 + (n as usize) < s.len() {
-        return refusals::IMAGE_END;
+        return refusals::IMAGE_ENDS;
     }
     0
 }

@@ -7,6 +7,7 @@ ghost use Rattle.image_bytes.specs.Put.{put};
 ghost use Rattle.floor.specs.Memory.{zeroTile};
 ghost use Rattle.page_call.specs.Page as P;
 use check_floor::well_formed;
+use floor::DISTANCE_NONE;
 use floor::EAST;
 use floor::Floor;
 use floor::NORTH;
@@ -69,7 +70,7 @@ fn put_distance(s: &mut [u8], at: usize, h: Tile)
     let d = h.distance;
     if h.running != 1 {
         put_pair(s, at, b'X', b'X');
-    } else if d == 255 {
+    } else if d == DISTANCE_NONE {
         put_pair(s, at, b'-', b'-');
     } else {
         put_two(s, at, d);

@@ -9,13 +9,13 @@ pub const BOOKED: u8 = 1;
 pub const DELIVERED: u8 = 2;
 
 // "A plan has up to 64 entries"
-pub const MOST_ENTRIES: u32 = 64;
+pub const MAX_ENTRIES: u32 = 64;
 
 // "an entry's label repeated or outside 1 to 64, or a predecessor absent or not lower, after 30"
-pub const BAD_LABELS: u8 = 47;
+pub const BAD_LABEL: u8 = 47;
 
 // "the label asked for not waiting or a predecessor undelivered, at release, after 47"
-pub const NOT_READY: u8 = 48;
+pub const NOT_RELEASED: u8 = 48;
 
 // An entry: its fill tile; the number that it is booked under; its label, 1 to 64; its predecessors' labels, 0 for none; its stage.
 #[repr(C)]

@@ -38,7 +38,7 @@ pub fn offer(plan: Plan) -> Offered
     if !fitting {
         return Offered {
             label: 0,
-            refusal: plan::BAD_LABELS,
+            refusal: plan::BAD_LABEL,
         };
     }
     let label = lowest_ready(plan);
@@ -86,14 +86,14 @@ fn release_asked(plan: Plan, floor: Floor, label: u32) -> Asking
     if !fitting {
         return Asking {
             tile: 0,
-            refusal: plan::BAD_LABELS,
+            refusal: plan::BAD_LABEL,
         };
     }
     let asked = asked_for(plan, label);
     if !asked.ready {
         return Asking {
             tile: 0,
-            refusal: plan::NOT_READY,
+            refusal: plan::NOT_RELEASED,
         };
     }
     Asking {
@@ -164,7 +164,7 @@ fn report_refusal(plan: Plan, given: Report) -> u8
     }
     let fitting = fits(plan);
     if !fitting {
-        return plan::BAD_LABELS;
+        return plan::BAD_LABEL;
     }
     0
 }

@@ -130,7 +130,7 @@ pub fn all_differ(items: [u32; 64], n: usize) -> bool
 pub fn sound(plan: Plan) -> bool
     ensures { λ r. ⌜ r ≡ planSound plan ⌝ }
 {
-    if plan::MOST_ENTRIES < plan.count {
+    if plan::MAX_ENTRIES < plan.count {
         return false;
     }
     let ordered = in_order(plan);

@@ -6,6 +6,7 @@ ghost use Rattle.laws.specs.Filled.{Upto};
 ghost use Rattle.floor.specs.Settings.{total, Ranged};
 ghost use Rattle.floor.specs.Route as R;
 ghost use Rattle.round_route.specs.Routed.{Redone, heading, within, distanceIn, routedTile, routedAt};
+use floor::DISTANCE_NONE;
 use floor::EAST;
 use floor::NORTH;
 use floor::SOUTH;
@@ -83,7 +84,7 @@ fn onward(all: u8, b: Heading) -> Heading
     ensures { λ r. ⌜ heading r ≡ R.onward all (heading b) ⌝ }
 {
     let least = b.distance;
-    if least < 255 {
+    if least < DISTANCE_NONE {
         let next = least + 1;
         if next < all {
             let side = b.side;
@@ -94,7 +95,7 @@ fn onward(all: u8, b: Heading) -> Heading
         }
     }
     Heading {
-        distance: 255,
+        distance: DISTANCE_NONE,
         side: Side::NONE,
     }
 }
