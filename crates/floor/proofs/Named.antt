@@ -29,7 +29,7 @@ use Rattle.floor.specs.Move.{move}
 use Rattle.floor.specs.Calls.{refusalOf, answer, freshFloor, freshAnswer, bookTests, booked, bookAnswer, stopTests, stopped, stopAnswer, repairTests, repaired, repairAnswer, keepTests, runningSet, keptUnder, keepAnswer, heldTests, forgotten, forgetAnswer, recallTile, recalled, recallAnswer, afterRound, roundAnswer}
 use Rattle.floor.specs.Anywhere.{anywhereTests, placedAt, anywhereAnswer}
 use Rattle.floor.specs.Demand3.{Call, book, anywhere, stop, repair, round, forget, recall, outcome, floorAfter, recallSet, recallMakes, runsBy, changesRunning, disturbs}
-use Rattle.floor.specs.Named.{needed, recallCalls, AllAccepted, Recalling, SameButLayouts, Keeping, Forgetting, isLaying, NamedLayouts}
+use Rattle.floor.specs.Named.{needed, recallCalls, AllAccepted, Recalling, SameButLayouts, Keeping, Forgetting, changesLayouts, NamedLayouts}
 use Rattle.floor.proofs.Rows.{fits-layouts, layouts-back, view-at, view-settings}
 use Rattle.floor.proofs.Pack.{pack-heads, well-sound, well-fits, well-few, well-lengths, well-head}
 use Rattle.floor.proofs.First.{pack-view-well}
@@ -362,7 +362,7 @@ forget-apart f name = by-call f (heldTests (view f .layouts) name) (forgotten (v
 stay : (f : Floor) (tests : List (Bool × ℕ)) (n : Model) → n .layouts ≡ view f .layouts → cond (eqb (refusalOf f tests) 0) (pack n) f .layouts ≡ f .layouts
 stay f tests n e = by-call f tests n (λ g. g .layouts ≡ f .layouts) (λ w. pack-laid f w n e) refl
 
-others-stay : (f : Floor) (c : Call) → isLaying c ≡ false → outcome f c .floor .layouts ≡ f .layouts
+others-stay : (f : Floor) (c : Call) → changesLayouts c ≡ false → outcome f c .floor .layouts ≡ f .layouts
 unfolding outcome bookAnswer anywhereAnswer stopAnswer repairAnswer recallAnswer roundAnswer answer booked recalled afterRound route signal move
 others-stay f (book t c) e = stay f (bookTests (view f) t c) (booked (view f) t c) refl
 others-stay f (anywhere t number) e = stay f (anywhereTests (view f) t number) (booked (view f) t (placedAt (view f) t number)) refl

@@ -88,7 +88,7 @@ recallSet f name = setOf (view f .layouts) name
 unfoldable pub recallMakes : Floor → ℕ → ℕ → Bool
 recallMakes f name t = ltb t (total (f .settings)) && cond (bit (recallSet f name) t) (not (runsOf (view f) t)) (runsOf (view f) t)
 
--- "A tile runs if the latest accepted stop or repair of it since the first floor was a repair or, without one, if it ran on the first floor."; a recall "counts as" its stops and repairs
+-- "A tile runs if the latest accepted stop or repair of it since the first floor was a repair or, without one, if it ran on the first floor."; a recall "counts as" its stops and repairs. r: whether tile t ran before the call
 unfoldable pub runsBy : Floor → Call → ℕ → Bool → Bool
 runsBy f (book u c) t r = r
 runsBy f (anywhere u number) t r = r

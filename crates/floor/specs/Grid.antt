@@ -3,7 +3,7 @@ use mathlib.Core.Bool.{cond}
 use Prim.Native.Nat.{ℕ, _+_, _-_, _%_}
 use lib.Dec.{leb, ltb}
 use Rattle.floor.specs.declared.Settings.{Settings}
-use Rattle.floor.specs.Sides.{bySide}
+use Rattle.floor.specs.Sides.{west, south, north, east, bySide}
 use Rattle.floor.specs.Settings.{total}
 
 -- the tile beside t on side k; the number C where there is none
@@ -18,4 +18,4 @@ neighbour s k t =
 
 -- each tile decides from its four neighbours: g of what the neighbours of t to the west, south, north and east show
 abbrev pub around : {A B : Type 0} → Settings → (ℕ → A) → ℕ → (A → A → A → A → B) → B
-around s show t g = g (show (neighbour s 1 t)) (show (neighbour s 2 t)) (show (neighbour s 3 t)) (show (neighbour s 4 t))
+around s show t g = g (show (neighbour s west t)) (show (neighbour s south t)) (show (neighbour s north t)) (show (neighbour s east t))

@@ -63,6 +63,7 @@ view f =
     record { settings = f .settings; counters = f .counters; tiles = ts; layouts = ls }
 
 -- ---- how a floor as a value lies in memory: 64 tiles, "sixteen places for each", zeros where nothing is
+-- what memory holds of a tile from C on: all zero, its distance too; `noTile`, which is read where no tile is, has distance none
 abbrev pub unused : TileState
 unused = record { running = 0; distance = 0; next = 0; token = 0; members = [] }
 
@@ -132,7 +133,8 @@ layoutsFit l = eqb (length l) 8 && allOf isZeroLayout (drop (length (usedLayouts
 unfoldable pub fits : Floor → Bool
 fits f = stateFits f && layoutsFit (f .layouts)
 
--- ---- a tile in memory with another count; stopped; repaired
+-- ---- for contracts and proofs; a reader of document 01 may pass over the rest of this file
+-- a tile in memory with another count; stopped; repaired
 abbrev pub withCount : Tile → ℕ → Tile
 withCount h n = record { running = h .running; distance = h .distance; next = h .next; token = h .token; count = n }
 

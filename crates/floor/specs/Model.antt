@@ -11,7 +11,7 @@ use Rattle.floor.specs.declared.Counters.{Counters}
 use Rattle.floor.specs.declared.Layout.{Layout}
 use Rattle.floor.specs.Settings.{total}
 
--- "A tile has: running or stopped; distance; arrow (a side); turn (a side); canisters." Running is 1, stopped 0; distance none is 255.
+-- "A tile has: running or stopped; distance; arrow (a side); turn (a side); canisters." Running is 1, stopped 0; distance none is 255; `next` is the arrow, `token` the turn, `members` the canisters.
 pub record TileState : Type 0 where
   pub running : ℕ
   pub distance : ℕ

@@ -77,15 +77,16 @@ pub record Forgetting (f : Floor) (name : ℕ) : Type 0 where
   -- "forgetting a name frees its place"
   pub frees : length (view f .layouts) ≡ suc (length (view after .layouts))
 
-abbrev pub isLaying : Call → Bool
-isLaying (book t c) = false
-isLaying (anywhere t number) = false
-isLaying (stop t) = false
-isLaying (repair t) = false
-isLaying round = false
-isLaying (keep name) = true
-isLaying (forget name) = true
-isLaying (recall name) = false
+-- whether it is a keeping or a forgetting, the only calls that change layouts
+abbrev pub changesLayouts : Call → Bool
+changesLayouts (book t c) = false
+changesLayouts (anywhere t number) = false
+changesLayouts (stop t) = false
+changesLayouts (repair t) = false
+changesLayouts round = false
+changesLayouts (keep name) = true
+changesLayouts (forget name) = true
+changesLayouts (recall name) = false
 
 -- f is any floor, well formed or not
 pub record LayoutPromises (f : Floor) : Type 0 where
@@ -96,7 +97,7 @@ pub record LayoutPromises (f : Floor) : Type 0 where
   pub keep-leaves : (name : ℕ) → SameButLayouts f (outcome f (keep name) .floor)
   pub forget-leaves : (name : ℕ) → SameButLayouts f (outcome f (forget name) .floor)
   -- no other call changes them
-  pub layouts-stay : (c : Call) → isLaying c ≡ false → outcome f c .floor .layouts ≡ f .layouts
+  pub layouts-stay : (c : Call) → changesLayouts c ≡ false → outcome f c .floor .layouts ≡ f .layouts
 
 -- a fresh floor has none, refused or not
 abbrev pub NamedLayouts : Type 0

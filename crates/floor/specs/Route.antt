@@ -4,7 +4,7 @@ use Prim.Native.Nat.{ℕ, _+_}
 use lib.Dec.{ltb, eqb}
 use Rattle.laws.specs.Define.{tab}
 use Rattle.floor.specs.declared.Settings.{Settings}
-use Rattle.floor.specs.Sides.{bySide}
+use Rattle.floor.specs.Sides.{west, south, north, east, bySide}
 use Rattle.floor.specs.Settings.{total, isHopper}
 use Rattle.floor.specs.Grid.{around}
 use Rattle.floor.specs.Model.{TileState, Model, tileOf, runs, distanceOf, withTiles}
@@ -20,17 +20,17 @@ nearer b d k = cond (ltb d (b .distance)) (record { distance = d; side = k }) b
 
 -- "the neighbour of least old distance. Ties: the lower tile number, so west, south, north, east."
 unfoldable pub nearest : ℕ → ℕ → ℕ → ℕ → Heading
-nearest w s n e = nearer (nearer (nearer (record { distance = w; side = 1 }) s 2) n 3) e 4
+nearest w s n e = nearer (nearer (nearer (record { distance = w; side = west }) s south) n north) e east
 
 -- whether the neighbour on side k is at distance d; on side none there is no neighbour
 unfoldable pub liesAt : ℕ → ℕ → ℕ → ℕ → ℕ → ℕ → Bool
-liesAt west south north east d k = bySide false (eqb west d) (eqb south d) (eqb north d) (eqb east d) k
+liesAt atWest atSouth atNorth atEast d k = bySide false (eqb atWest d) (eqb atSouth d) (eqb atNorth d) (eqb atEast d) k
 
 -- "Among neighbours of equal least distance, a tile now keeps its present arrow if that is one of them. Otherwise the old order of ties holds"; own: the arrow before the round
 unfoldable pub kept : ℕ → ℕ → ℕ → ℕ → ℕ → Heading
-kept own west south north east =
-    let b = nearest west south north east in
-    cond (liesAt west south north east (b .distance) own) (record { distance = b .distance; side = own }) b
+kept own atWest atSouth atNorth atEast =
+    let b = nearest atWest atSouth atNorth atEast in
+    cond (liesAt atWest atSouth atNorth atEast (b .distance) own) (record { distance = b .distance; side = own }) b
 
 -- "Distance = 1 + the least old distance among the neighbours; at C or more it is none. With distance none the arrow is none; otherwise it faces the neighbour of least old distance."
 unfoldable pub onward : ℕ → Heading → Heading
@@ -38,13 +38,13 @@ onward C b = cond (ltb (b .distance + 1) C) (record { distance = b .distance + 1
 
 -- one tile's, from its own old arrow and its neighbours' old distances; a hopper and a stopped tile keep what they have
 unfoldable pub headingOf : Settings → ℕ → Bool → Heading → ℕ → ℕ → ℕ → ℕ → Heading
-headingOf s t running own west south north east = cond (isHopper s t || not running) own (onward (total s) (kept (own .side) west south north east))
+headingOf s t running own atWest atSouth atNorth atEast = cond (isHopper s t || not running) own (onward (total s) (kept (own .side) atWest atSouth atNorth atEast))
 
 abbrev pub withHeading : TileState → Heading → TileState
 withHeading x b = record { running = x .running; distance = b .distance; next = b .side; token = x .token; members = x .members }
 
 unfoldable pub routeTile : Settings → ℕ → TileState → ℕ → ℕ → ℕ → ℕ → TileState
-routeTile s t x west south north east = withHeading x (headingOf s t (runs x) (record { distance = x .distance; side = x .next }) west south north east)
+routeTile s t x atWest atSouth atNorth atEast = withHeading x (headingOf s t (runs x) (record { distance = x .distance; side = x .next }) atWest atSouth atNorth atEast)
 
 -- "for all tiles together"
 unfoldable pub route : Model → Model

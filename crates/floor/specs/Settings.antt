@@ -31,7 +31,7 @@ hoppersOf s = bitsBelow (s .hoppers) (total s)
 abbrev pub sizeTests : Settings → List (Bool × ℕ) → List (Bool × ℕ)
 sizeTests s rest = (ltb (s .columns) 1, 1) ∷ (ltb 8 (s .columns), 1) ∷ (ltb (s .rows) 1, 1) ∷ (ltb 8 (s .rows), 1) ∷ (ltb (total s) 2, 1) ∷ rest
 
--- "2. Hopper not on the floor, or a fill bit for the hopper or for no tile."; "rules 2 and 8 … cover all of them. A fresh floor takes one to four, else 2."
+-- "2. Hopper not on the floor, or a fill bit for the hopper or for no tile."; "rules 2 and 8 … cover all of them. A fresh floor takes one to four, else 2." A set of 2 ^ C or more has a bit for no tile.
 abbrev pub setTests : Settings → List (Bool × ℕ) → List (Bool × ℕ)
 setTests s rest =
     (leb (2 ^ total s) (s .hoppers), 2) ∷ (ltb (length (hoppersOf s)) 1, 2) ∷ (ltb 4 (length (hoppersOf s)), 2)

@@ -34,7 +34,9 @@ opposite k = bySide 0 east north south west k
 
 -- the sides strictly after k in cyclic order, coming round to k; after none, from west
 unfoldable pub after : ℕ → List ℕ
-after k = bySide (1 ∷ 2 ∷ 3 ∷ 4 ∷ []) (2 ∷ 3 ∷ 4 ∷ 1 ∷ []) (3 ∷ 4 ∷ 1 ∷ 2 ∷ []) (4 ∷ 1 ∷ 2 ∷ 3 ∷ []) (1 ∷ 2 ∷ 3 ∷ 4 ∷ []) k
+after k =
+    bySide (west ∷ south ∷ north ∷ east ∷ []) (south ∷ north ∷ east ∷ west ∷ []) (north ∷ east ∷ west ∷ south ∷ [])
+    (east ∷ west ∷ south ∷ north ∷ []) (west ∷ south ∷ north ∷ east ∷ []) k
 
 -- "the first side that wants, strictly after it", coming round to itself if it is alone; p: which sides want
 unfoldable pub following : (ℕ → Bool) → ℕ → ℕ

@@ -55,7 +55,7 @@ unfoldable pub signalBy : Settings → Bool → ℕ → List Canister → (ℕ �
 signalBy s running token l p = cond running (signalWith s l p (chosen p token)) (waiting token 0)
 
 unfoldable pub signalTile : Settings → TileState → ℕ → ℕ → ℕ → ℕ → Signal
-signalTile s x west south north east = signalBy s (runs x) (x .token) (x .members) (requests west south north east)
+signalTile s x atWest atSouth atNorth atEast = signalBy s (runs x) (x .token) (x .members) (requests atWest atSouth atNorth atEast)
 
 unfoldable pub shownOf : Model → ℕ → ℕ
 shownOf m t = shownNext (length (tileOf m t .members)) (tileOf m t .next)

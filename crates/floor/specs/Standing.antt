@@ -56,18 +56,19 @@ Fits m n out t (suc (suc (suc (suc (suc zero))))) = 0 < missing (m .settings) (t
 Fits m n out t (suc (suc (suc (suc (suc (suc zero)))))) = Shifted m n out t
 Fits m n out t (suc (suc (suc (suc (suc (suc (suc k))))))) = ⊥
 
--- reason t and lack t: what the report has for tile t
-pub record Standing (m n : Model) (out : ℕ → List ℕ) (reason lack : ℕ → ℕ) : Type 0 where
+-- reason t and told t: what the report has for tile t, its reason and the missing millimetres
+pub record Standing (m n : Model) (out : ℕ → List ℕ) (reason told : ℕ → ℕ) : Type 0 where
   -- "one reason for each tile …, the first that fits"
   pub one : (t : ℕ) → t < total (m .settings) → (1 ≤ reason t) × (reason t ≤ 6)
   pub fits : (t : ℕ) → t < total (m .settings) → Fits m n out t (reason t)
   pub first : (t : ℕ) → t < total (m .settings) → (k : ℕ) → 1 ≤ k → k < reason t → ¬ (Fits m n out t k)
   -- a tile that an arrow faces runs, so that it has a turn and the six are all there are
   pub runs : (t : ℕ) → nextOf n t ≢ 0 → runsOf m (ahead m n t) ≡ true
-  -- "with the missing millimetres (0 beside other reasons)": at the turn of the tile ahead; less than U
-  pub short : (t : ℕ) → reason t ≡ 5 → lack t ≡ missing (m .settings) (turnOf m (ahead m n t)) (membersOf m (ahead m n t))
-  pub lacking : (t : ℕ) → reason t ≡ 5 ↔ 0 < lack t
-  pub below : (t : ℕ) → (lack t ≤ spacing (m .settings)) × (lack t < m .settings .width)
+  -- "with the missing millimetres (0 beside other reasons)": at the turn of the tile ahead
+  pub short : (t : ℕ) → reason t ≡ 5 → told t ≡ missing (m .settings) (turnOf m (ahead m n t)) (membersOf m (ahead m n t))
+  pub lacking : (t : ℕ) → reason t ≡ 5 ↔ 0 < told t
+  -- less than U
+  pub below : (t : ℕ) → (told t ≤ spacing (m .settings)) × (told t < m .settings .width)
   -- "A tile has reason 6 exactly when its canisters shifted."; else all stand where they stood
   pub moved : (t : ℕ) → reason t ≡ 6 ↔ Shifted m n out t
   pub stood : (t : ℕ) → reason t ≢ 6 → Stood m n t
@@ -75,7 +76,7 @@ pub record Standing (m n : Model) (out : ℕ → List ℕ) (reason lack : ℕ �
   -- a hopper never has canisters
   pub hopper : (t : ℕ) → isHopper (m .settings) t ≡ true → reason t ≡ 2
   -- no tile, no reason
-  pub none : (t : ℕ) → total (m .settings) ≤ t → (reason t ≡ 0) × (lack t ≡ 0)
+  pub none : (t : ℕ) → total (m .settings) ≤ t → (reason t ≡ 0) × (told t ≡ 0)
 
 -- tile t's reason and missing millimetres in the report of the round that begins with f
 unfoldable pub reasonAt : Floor → ℕ → ℕ

@@ -28,7 +28,7 @@ impl Canister {
     };
 }
 
-// The numbers of the sides; none is 0.
+// The numbers of the sides, for `match`; none is 0. As sides they are `Side::WEST` and so on.
 pub const WEST: u8 = 1;
 
 pub const SOUTH: u8 = 2;
@@ -244,7 +244,7 @@ pub struct Report {
     pub deliveries: [Delivery; 4],
 }
 
-// The answer of fresh, book, stop, repair, keep, forget, recall and load: document 01's refusal number, 0 where the call was accepted.
+// The answer of fresh, book, stop, repair, keep, forget, recall and load: the papers' refusal number, 0 where the call was accepted.
 // The number stands last: padding before the floor costs another copy of it.
 #[repr(C)]
 pub struct Answer {
@@ -269,7 +269,7 @@ pub struct Rounded {
     pub refusal: u8,
 }
 
-// The answer of reading a tile: the tile and its sixteen places.
+// The answer of reading a tile: the tile and its sixteen places. It holds no floor, so the order of its fields costs no copy.
 #[repr(C)]
 pub struct Reading {
     pub refusal: u8,

@@ -21,7 +21,7 @@ use Rattle.floor.specs.Calls.{refusalOf, freshAnswer}
 use Rattle.image.specs.declared.Written.{Written}
 
 -- ---- the fields of each record: the bytes of each, and its value
--- "Kind 1, 20 bytes: W, H, hopper, a zero byte; U, l, r, v (2 each); fill set (8)." "With more, kind 1 has 28 bytes, the hopper set last"
+-- "Kind 1, 20 bytes: W, H, hopper, a zero byte; U, l, r, v (2 each); fill set (8)." "With more, kind 1 has 28 bytes, the hopper set last". By place: 0 W, 1 H, 2 hopper byte, 3 zero byte, 4 U, 5 l, 6 r, 7 v, 8 fill set, 9 hopper set
 abbrev pub settingsWidths : Bool → List ℕ
 settingsWidths more = 1 ∷ 1 ∷ 1 ∷ 1 ∷ 2 ∷ 2 ∷ 2 ∷ 2 ∷ 8 ∷ cond more (8 ∷ []) []
 
@@ -53,7 +53,7 @@ countersWidths h = 4 ∷ 4 ∷ replicate h 4
 abbrev pub countersValues : ℕ → Counters → List ℕ
 countersValues h c = c .last ∷ c .booked ∷ tab h (λ k. getD (c .delivered) k 0)
 
--- "Kind 3 …: tile, running (1 or 0), distance (255 none), arrow, turn, n (at most 16)"
+-- "Kind 3 …: tile, running (1 or 0), distance (255 none), arrow, turn, n (at most 16)", by place from 0 on
 abbrev pub tileWidths : List ℕ
 tileWidths = 1 ∷ 1 ∷ 1 ∷ 1 ∷ 1 ∷ 1 ∷ []
 

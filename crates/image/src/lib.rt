@@ -1,4 +1,4 @@
-// The answer of writing an image: document 01's refusal number, 0 where the call was accepted, and the image's length.
+// The answer of writing an image or a page: the refusal number, 0 where the call was accepted, and the length, 0 where refused.
 #[repr(C)]
 pub struct Written {
     pub refusal: u8,

@@ -1,4 +1,4 @@
--- Words over lists and numbers in which the definitions of document 01 are written. Definitions only; the laws about them stand in the other files of this crate.
+-- Words over lists and numbers in which the definitions of document 01 are written. Definitions only; the laws about them are crates/laws/proofs/.
 use mathlib.Core.Bool.{Bool, true, false, cond, _&&_, _||_}
 use mathlib.Core.List.{List, [], _∷_, _++_}
 use Prim.Native.Nat.{ℕ, zero, suc, _+_, _/_, _%_, _^_}
@@ -63,7 +63,7 @@ unfoldable pub join : {A : Type 0} → List (List A) → List A
 join [] = []
 join (l ∷ ls) = l ++ join ls
 
--- refusals in their order, each with the test that makes it; the first that holds decides, 0 where none does
+-- numbers in their order, each with its test; the first that holds decides, 0 where none does: refusals, and the reasons of [6]
 unfoldable pub refusal : List (Bool × ℕ) → ℕ
 refusal [] = 0
 refusal (x ∷ l) = cond (x .0) (x .1) (refusal l)

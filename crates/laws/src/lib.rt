@@ -1,1 +1,1 @@
-// General definitions and laws, in specs/; no code.
+// General definitions, in specs/, and laws about them, in proofs/; no code.
