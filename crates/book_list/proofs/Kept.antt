@@ -12,7 +12,7 @@ use Rattle.floor.specs.Demand3.{book, Typed, outcome}
 use Rattle.floor.proofs.Lists.{call-keeps}
 use Rattle.book_list.specs.declared.Booking.{Booking}
 use Rattle.book_list.specs.Listing.{tooLong}
-use Rattle.book_list.specs.Parts.{turnsOf, entryOf, begunOf}
+use Rattle.book_list.specs.Parts.{entriesOf, entryOf, begunOf}
 
 pub book-malformed : (f : Floor) (t : ℕ) (c : Canister) → wellFormed f ≡ false → bookAnswer f t c ≡ record { refusal = 30; floor = f }
 unfolding bookAnswer answer refusalOf refusal
@@ -32,7 +32,7 @@ unfolding entryOf
 entry-still f b h = still f (b .tile) (b .canister) h
 
 -- where there is a turn, the floor was checked
-pub begun-well : (f : Floor) (n i : ℕ) → i < turnsOf n → begunOf f n .well ≡ wellFormed f
+pub begun-well : (f : Floor) (n i : ℕ) → i < entriesOf n → begunOf f n .well ≡ wellFormed f
 begun-well f n i = go (tooLong n)
   where
     go : (b : Bool) → i < cond b 0 n → cond b false (wellFormed f) ≡ wellFormed f

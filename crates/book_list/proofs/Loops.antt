@@ -9,10 +9,10 @@ use Rattle.floor.specs.declared.Floor.{Floor}
 use Rattle.book_list.specs.declared.Booking.{Booking}
 use Rattle.book_list.proofs.Upto.{floorUpto, listUpto}
 
-pub record EntriesBooked (f : Floor) (list : List Booking) (turns : ℕ) (well : Bool) (now : Floor) (places : List Booking) (i : ℕ) : Type 0 where
-  pub below : i ≤ turns
-  pub few : turns ≤ 64
+pub record EntriesBooked (f : Floor) (list : List Booking) (entries : ℕ) (well : Bool) (now : Floor) (places : List Booking) (i : ℕ) : Type 0 where
+  pub below : i ≤ entries
+  pub few : entries ≤ 64
   pub list-length : length list ≡ 64
   pub answered : places ≡ listUpto i f list
   pub floored : now ≡ floorUpto i f list
-  pub known : i < turns → well ≡ wellFormed now
+  pub known : i < entries → well ≡ wellFormed now

@@ -10,7 +10,7 @@ use Rattle.floor.specs.declared.Floor.{Floor}
 use Rattle.floor.specs.declared.Answer.{Answer}
 use Rattle.book_list.specs.declared.Booking.{Booking}
 use Rattle.book_list.specs.Listing.{floorSingly, entriesSingly, tooLong, listAnswer, listAfter}
-use Rattle.book_list.specs.Parts.{entryOf, turnsOf, answerOf}
+use Rattle.book_list.specs.Parts.{entryOf, entriesOf, answerOf}
 
 abbrev pub floorUpto : ℕ → Floor → List Booking → Floor
 floorUpto zero f xs = f
@@ -51,14 +51,14 @@ all-list f [] = refl
 all-list f (x ∷ xs) = ap (λ (t : List Booking). entryOf f x .booking ∷ t) (all-list (entryOf f x .floor) xs)
 
 -- ---- none of them where there are more than 64
-pub turns-most : (n : ℕ) → turnsOf n ≤ n
-turns-most n = go (tooLong n)
+pub entries-most : (n : ℕ) → entriesOf n ≤ n
+entries-most n = go (tooLong n)
   where
     go : (b : Bool) → cond b 0 n ≤ n
     go true = omega arith
     go false = omega arith
 
-pub done-list : (f : Floor) (xs : List Booking) → listUpto (turnsOf (length xs)) f xs ≡ listAfter f xs
+pub done-list : (f : Floor) (xs : List Booking) → listUpto (entriesOf (length xs)) f xs ≡ listAfter f xs
 unfolding listAfter
 done-list f xs = go (tooLong (length xs))
   where
@@ -66,7 +66,7 @@ done-list f xs = go (tooLong (length xs))
     go true = refl
     go false = all-list f xs
 
-pub done-answer : (f : Floor) (xs : List Booking) → answerOf (length xs) (floorUpto (turnsOf (length xs)) f xs) ≡ listAnswer f xs
+pub done-answer : (f : Floor) (xs : List Booking) → answerOf (length xs) (floorUpto (entriesOf (length xs)) f xs) ≡ listAnswer f xs
 unfolding listAnswer
 done-answer f xs = go (tooLong (length xs))
   where
@@ -89,8 +89,8 @@ upto-list zero f (x ∷ xs) = refl
 upto-list (suc k) f [] = refl
 upto-list (suc k) f (x ∷ xs) = ap (λ (t : List Booking). entryOf f x .booking ∷ t) (upto-list k (entryOf f x .floor) xs)
 
-pub turns-few : (n : ℕ) → turnsOf n ≤ 64
-turns-few n = go (tooLong n) refl
+pub entries-few : (n : ℕ) → entriesOf n ≤ 64
+entries-few n = go (tooLong n) refl
   where
     go : (b : Bool) → tooLong n ≡ b → cond b 0 n ≤ 64
     go true e = omega arith

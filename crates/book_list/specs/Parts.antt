@@ -13,12 +13,12 @@ use Rattle.book_list.specs.declared.Listed.{Listed}
 use Rattle.book_list.specs.Listing.{answered, single, floorSingly, entriesSingly, tooLong}
 
 -- how many of n entries are booked: all of them, or none
-abbrev pub turnsOf : ℕ → ℕ
-turnsOf n = cond (tooLong n) 0 n
+abbrev pub entriesOf : ℕ → ℕ
+entriesOf n = cond (tooLong n) 0 n
 
 -- the floor is checked once, and not where the list is too long
 abbrev pub begunOf : Floor → ℕ → Begun
-begunOf f n = record { turns = turnsOf n; well = cond (tooLong n) false (wellFormed f) }
+begunOf f n = record { entries = entriesOf n; well = cond (tooLong n) false (wellFormed f) }
 
 -- one entry booked
 unfoldable pub entryOf : Floor → Booking → Done
@@ -30,4 +30,4 @@ answerOf n f = record { refusal = cond (tooLong n) 42 0; floor = f }
 
 -- the first n places of l as a list, the others as they are
 unfoldable pub placesAnswer : Floor → List Booking → ℕ → Listed
-placesAnswer f l n = let k = turnsOf n in record { floor = floorSingly f (take k l); list = entriesSingly f (take k l) ++ drop k l; refusal = cond (tooLong n) 42 0 }
+placesAnswer f l n = let k = entriesOf n in record { floor = floorSingly f (take k l); list = entriesSingly f (take k l) ++ drop k l; refusal = cond (tooLong n) 42 0 }

@@ -23,7 +23,7 @@ const LONGEST_LIST: usize = 64;
 
 // How a list begins: how many entries are booked, and whether the floor is well formed.
 pub struct Begun {
-    pub turns: usize,
+    pub entries: usize,
     pub well: bool,
 }
 
@@ -33,13 +33,13 @@ pub fn begin_list(floor: Floor, n: usize) -> Begun
 {
     if LONGEST_LIST < n {
         return Begun {
-            turns: 0,
+            entries: 0,
             well: false,
         };
     }
     let well = well_formed(floor);
     Begun {
-        turns: n,
+        entries: n,
         well: well,
     }
 }
@@ -89,7 +89,7 @@ pub fn book_list(floor: Floor, list: &mut [Booking]) -> Answer
     let start = begin_list(floor, list.len());
     let mut now = floor;
     let mut i: usize = 0;
-    while i < start.turns {
+    while i < start.entries {
         let b = list[i];
         let r = book_entry(now, b, start.well);
         list[i] = r.booking;
@@ -111,11 +111,11 @@ pub fn book_places(floor: Floor, list: [Booking; 64], n: usize) -> Listed
     ensures { λ r. ⌜ r ≡ placesAnswer floor list n ⌝ }
 {
     let start = begin_list(floor, n);
-    let turns = start.turns;
+    let entries = start.entries;
     let well = start.well;
     let mut now = floor;
     let mut places = list;
-    for i in 0usize..turns {
+    for i in 0usize..entries {
         let b = places[i];
         let r = book_entry(now, b, well);
         let done = r.booking;

@@ -45,7 +45,7 @@ use Rattle.plan.specs.declared.Plan.{Plan}
 use Rattle.plan.specs.Entries.{Stage, waiting, booked as bookedUnder, delivered, stageOf, isWaiting, isDelivered, numberIn, waits, wasDelivered, heldBy, used, predecessors, done, planSound, numbersUpto, planFits, ready, readyLabel, changed, released, reported}
 use Rattle.plan.specs.Plans.{offerTests, offerAnswer, releaseTests, following, tileFor, releaseBooking, releaseAnswer}
 use Rattle.plan_floor.specs.Steps.{Step, call, release, report, State, stepped, after, TypedStep, reportOfCall, reportsOf, callsOf, callsIn, reportedBy}
-use Rattle.plan_floor.specs.Ending.{waitingIn, Served, HandedIn, Turn, releaseOffered, Turns, afterTurns, refusalsIn, EndsPromise, handedRounds, schedule, SchedulePromise}
+use Rattle.plan_floor.specs.Ending.{waitingIn, Served, HandedIn, Cycle, releaseOffered, Cycles, afterCycles, refusalsIn, EndsPromise, handedRounds, schedule, SchedulePromise}
 use Rattle.plan.proofs.Stages.{booked-stage, reported-label, released-there, released-other, used-changed, changed-all, none-held}
 use Rattle.plan_floor.proofs.Written.{reported-plain}
 use Rattle.plan_floor.proofs.History.{accepted as passed, ready-entry, all-ready}
@@ -222,8 +222,8 @@ cat-find {A} (suc n) f x m = go (List·Memᴰ·append-cases (f n) m) (λ q. cat-
     go (inl q) ih = (n, omega arith, q)
     go (inr q) ih = let r = ih q in (r .0, omega (arith, r .1), r .2)
 
--- ---- between two turns, n labels wait
-record BetweenTurns (s : State) (n : ℕ) : Type 0 where
+-- ---- between two cycles, n labels wait
+record BetweenCycles (s : State) (n : ℕ) : Type 0 where
   fine : Fine s
   fits : planFits (s .plan) ≡ true
   none : All (λ e. heldBy e ≡ []) (used (s .plan))
@@ -232,8 +232,8 @@ record BetweenTurns (s : State) (n : ℕ) : Type 0 where
   room : s .floor .counters .last + n < 2 ^ 32
   count : waitingIn (s .plan) ≡ n
 
--- the release of a turn
-module _ (s : State) (n : ℕ) (R : BetweenTurns s (suc n)) where
+-- the release of a cycle
+module _ (s : State) (n : ℕ) (R : BetweenCycles s (suc n)) where
   abbrev p : Plan
   p = s .plan
 
@@ -345,8 +345,8 @@ module _ (s : State) (n : ℕ) (R : BetweenTurns s (suc n)) where
   F1 : Fine s1 × (planFits (s1 .plan) ≡ planFits p)
   F1 = step-fine s (release k) tt (R .fine)
 
-  -- the rest of the turn
-  module _ (cs : List Step) (T : Turn s1 cs) where
+  -- the rest of the cycle
+  module _ (cs : List Step) (T : Cycle s1 cs) where
     abbrev calls : List Call
     calls = callsIn s1 cs
 
@@ -423,7 +423,7 @@ module _ (s : State) (n : ℕ) (R : BetweenTurns s (suc n)) where
         all-imp Tile (λ e. waits e ≡ true → Served (now .floor) (e .tile)) (used (now .plan)) (λ e h w. served-same g (now .floor) (e .tile) settings-now runs-now (h w))
         (quiet-list Tile still-tile s1 cs (T .quiet) tiles)
 
-    between-now : BetweenTurns now n
+    between-now : BetweenCycles now n
     between-now =
         let F = list-fine s1 cs (T .typed) (F1 .0) in
         record {
@@ -436,8 +436,8 @@ module _ (s : State) (n : ℕ) (R : BetweenTurns s (suc n)) where
           count = quiet-waiting s1 cs (T .quiet) ∙ waiting-less;
         }
 
--- ---- turns
-all-arrived : (s : State) → BetweenTurns s 0 → All (λ e. wasDelivered e ≡ true) (used (s .plan))
+-- ---- cycles
+all-arrived : (s : State) → BetweenCycles s 0 → All (λ e. wasDelivered e ≡ true) (used (s .plan))
 unfolding waitingIn
 all-arrived s R =
     all-imp (λ e. (waits e ≡ false) × (heldBy e ≡ [])) (λ e. wasDelivered e ≡ true) (used (s .plan)) (λ e h. neither e (h .0) (h .1))
@@ -449,7 +449,7 @@ record Idle (s : State) : Type 0 where
   delivered : All (λ e. wasDelivered e ≡ true) (used (s .plan))
   empty : numbersOn (view (s .floor)) ≡ []
 
--- a turn that is not needed: its release is refused
+-- a cycle that is not needed: its release is refused
 module _ (s : State) (I : Idle s) where
   abbrev label : ℕ
   label = offerAnswer (s .plan) .label
@@ -465,9 +465,9 @@ module _ (s : State) (I : Idle s) where
   unfolding stepped releaseAnswer
   unchanged = rw (ne-eqb (releaseAnswer (s .plan) (s .floor) label .refusal) 0 not-taken)
 
-  idle-turn : (cs : List Step) → Turn s cs → Idle (after s cs)
+  idle-cycle : (cs : List Step) → Cycle s cs → Idle (after s cs)
   unfolding numbersOn view
-  idle-turn cs T =
+  idle-cycle cs T =
       let m = view (s .floor) in
       let S = well-sound (s .floor) (I .well) in
       let calls = callsIn s cs in
@@ -480,24 +480,24 @@ module _ (s : State) (I : Idle s) where
         empty = ap (λ (h : Floor). numbersOn (view h)) (sym same) ∙ ap numbersOn (value .1) ∙ stays-empty m S (I .empty) (roundsIn calls) (T .enough);
       }
 
-idle-turns : (turns : List (List Step)) (s : State) → Idle s → Turns s turns → Idle (afterTurns s turns)
-unfolding afterTurns
-idle-turns [] s I T = I
-idle-turns (cs ∷ turns) s I T =
+idle-cycles : (cycles : List (List Step)) (s : State) → Idle s → Cycles s cycles → Idle (afterCycles s cycles)
+unfolding afterCycles
+idle-cycles [] s I T = I
+idle-cycles (cs ∷ cycles) s I T =
     let same = unchanged s I in
-    idle-turns turns (after (releaseOffered s) cs) (subst (λ (x : State). Idle (after x cs)) (sym same) (idle-turn s I cs (subst (λ (x : State). Turn x cs) same (T .0)))) (T .1)
+    idle-cycles cycles (after (releaseOffered s) cs) (subst (λ (x : State). Idle (after x cs)) (sym same) (idle-cycle s I cs (subst (λ (x : State). Cycle x cs) same (T .0)))) (T .1)
 
 -- n labels wait
-record EndedBy (n : ℕ) (s : State) (turns : List (List Step)) : Type 0 where
-  accepted : All (λ r. r ≡ 0) (take n (refusalsIn s turns))
-  idle : Idle (afterTurns s turns)
+record EndedBy (n : ℕ) (s : State) (cycles : List (List Step)) : Type 0 where
+  accepted : All (λ r. r ≡ 0) (take n (refusalsIn s cycles))
+  idle : Idle (afterCycles s cycles)
 
-turn-by-turn : (n : ℕ) (turns : List (List Step)) (s : State) → BetweenTurns s n → n ≤ length turns → Turns s turns → EndedBy n s turns
-unfolding afterTurns refusalsIn
-turn-by-turn zero turns s R l T = record { accepted = tt; idle = idle-turns turns s (record { well = R .fine .0; delivered = all-arrived s R; empty = R .empty }) T }
-turn-by-turn (suc n) [] s R l T = absurd (omega arith)
-turn-by-turn (suc n) (cs ∷ turns) s R l T =
-    let E = turn-by-turn n turns (after (releaseOffered s) cs) (between-now s n R cs (T .0)) (omega arith) (T .1) in
+cycle-by-cycle : (n : ℕ) (cycles : List (List Step)) (s : State) → BetweenCycles s n → n ≤ length cycles → Cycles s cycles → EndedBy n s cycles
+unfolding afterCycles refusalsIn
+cycle-by-cycle zero cycles s R l T = record { accepted = tt; idle = idle-cycles cycles s (record { well = R .fine .0; delivered = all-arrived s R; empty = R .empty }) T }
+cycle-by-cycle (suc n) [] s R l T = absurd (omega arith)
+cycle-by-cycle (suc n) (cs ∷ cycles) s R l T =
+    let E = cycle-by-cycle n cycles (after (releaseOffered s) cs) (between-now s n R cs (T .0)) (omega arith) (T .1) in
     record { accepted = (taken s n R, E .accepted); idle = E .idle }
 
 -- ---- at first
@@ -510,8 +510,8 @@ unfolding offerAnswer offerTests
 offer-sound p h = not-false (planSound p) (test-none (not (planSound p)) 30 _ (omega arith) h .0)
 
 pub ends : EndsPromise
-ends s B turns l T =
-    let E = turn-by-turn (waitingIn (s .plan)) turns s (record {
+ends s B cycles l T =
+    let E = cycle-by-cycle (waitingIn (s .plan)) cycles s (record {
       fine = (B .well, sound-good (s .floor .counters .last) (s .plan) (offer-sound (s .plan) (B .not-refused)) (none-upto (s .floor .counters .last) (s .plan) (B .none-booked)));
       fits = offer-fits (s .plan) (B .not-refused);
       none = B .none-booked;
@@ -543,13 +543,13 @@ unfolding handedRounds
 handed-typed zero s = tt
 handed-typed (suc n) s = (tt, (tt, handed-typed n (stepped (stepped s (call round)) (report (roundAnswer (s .floor) .report)))))
 
-scheduled-turns : (n : ℕ) (s : State) → Turns s (schedule n s)
+scheduled-cycles : (n : ℕ) (s : State) → Cycles s (schedule n s)
 unfolding schedule
-scheduled-turns zero s = tt
-scheduled-turns (suc n) s =
+scheduled-cycles zero s = tt
+scheduled-cycles (suc n) s =
     let r = releaseOffered s in
     let k = bound (r .floor .settings) 1 in
-    (record { typed = handed-typed k r; quiet = handed-quiet k r; handed = handed-in k r; enough = omega (arith, handed-rounds k r) }, scheduled-turns n (after r (handedRounds k r)))
+    (record { typed = handed-typed k r; quiet = handed-quiet k r; handed = handed-in k r; enough = omega (arith, handed-rounds k r) }, scheduled-cycles n (after r (handedRounds k r)))
 
 scheduled-length : (n : ℕ) (s : State) → length (schedule n s) ≡ n
 unfolding schedule
@@ -557,4 +557,4 @@ scheduled-length zero s = refl
 scheduled-length (suc n) s = let r = releaseOffered s in ap suc (scheduled-length n (after r (handedRounds (bound (r .floor .settings) 1) r)))
 
 pub scheduled : SchedulePromise
-scheduled s B = let n = waitingIn (s .plan) in ends s B (schedule n s) (omega (arith, scheduled-length n s)) (scheduled-turns n s)
+scheduled s B = let n = waitingIn (s .plan) in ends s B (schedule n s) (omega (arith, scheduled-length n s)) (scheduled-cycles n s)

@@ -14,7 +14,7 @@ use Rattle.plan.specs.Entries.{stageOf, predecessors, done, present, held, inOr
 use Rattle.plan.specs.Plans.{offerTests, offered, offerAnswer, releaseTests, following, tileFor, releaseBooking, releaseAnswer, numbersIn, reportTests, reportAnswer}
 use Rattle.plan.proofs.Samples.{entry, plan, two, entries, delivery, report}
 use Rattle.plan_floor.specs.Steps.{Step, call, offer, release, report as handed, State, stepped, after, Event, booking, listing, eventsOf, eventsIn, bookingsOf, bookingsIn, reportOfCall, reportsOf, FromRounds, callsOf, callsIn, bookedOf, bookedBy, reportedOf, reportedBy}
-use Rattle.plan_floor.specs.Ending.{releaseOffered, afterTurns, refusalsIn, handedRounds, schedule}
+use Rattle.plan_floor.specs.Ending.{releaseOffered, afterCycles, refusalsIn, handedRounds, schedule}
 
 -- a booking by label and number, a listing by 0 and number
 unfoldable shown : List Event → List ℕ
@@ -35,7 +35,7 @@ walking =
     -- 2 must wait until 1 was booked and reported; 1 is not booked again; a report that comes too early marks nothing
     let cs : List Step = offer ∷ handed one ∷ release 2 ∷ release 1 ∷ release 1 ∷ release 2 ∷ handed one ∷ handed (report (delivery 5 [] ∷ [])) ∷ release 2 ∷ release 9 ∷ [] in
     let first = releaseOffered wide in
-    let ended = afterTurns wide (schedule 2 wide) in
+    let ended = afterCycles wide (schedule 2 wide) in
     (shown (eventsIn s cs), 0 ∷ 1 ∷ 1 ∷ 1 ∷ 0 ∷ 1 ∷ 2 ∷ 2 ∷ [])
     ∷ (paired (bookingsIn s cs), 1 ∷ 1 ∷ 2 ∷ 2 ∷ [])
     ∷ (length (callsIn s cs) ∷ bookedIn (s .floor) (callsIn s cs), 2 ∷ 1 ∷ 2 ∷ [])
@@ -44,9 +44,9 @@ walking =
     -- the second round reports the number
     ∷ (reportedBy first (call round ∷ []) 0, [])
     ∷ (reportedBy first (call round ∷ call round ∷ []) 0, 1 ∷ [])
-    -- two turns end the plan; the floor is empty, its counters tell both
+    -- two cycles end the plan; the floor is empty, its counters tell both
     ∷ (entries (ended .plan) ++ counted (ended .floor), entries (plan (entry 2 0 1 0 2 2 ∷ entry 1 0 0 0 2 1 ∷ [])) ++ (0 ∷ 2 ∷ 2 ∷ 2 ∷ 0 ∷ 0 ∷ 0 ∷ []))
-    -- the release of a turn, and of one that is not needed
+    -- the release of a cycle, and of one that is not needed
     ∷ (refusalsIn wide ([] ∷ []), 0 ∷ [])
     ∷ (refusalsIn ended ([] ∷ []), 48 ∷ [])
     ∷ []
@@ -54,10 +54,10 @@ walking =
 walking-holds : holds walking ≡ true
 unfolding holds small entry plan two entries delivery report shown paired walking
     stageOf predecessors done present held inOrder planSound numbersUpto entryFits planFits ready readyLabel released reported offerTests offered offerAnswer releaseTests following tileFor releaseBooking releaseAnswer numbersIn reportTests reportAnswer
-    outcome bookedIn stepped after eventsOf eventsIn bookingsOf bookingsIn callsOf callsIn bookedOf bookedBy listedAt reportedOf reportedBy afterTurns refusalsIn handedRounds schedule
+    outcome bookedIn stepped after eventsOf eventsIn bookingsOf bookingsIn callsOf callsIn bookedOf bookedBy listedAt reportedOf reportedBy afterCycles refusalsIn handedRounds schedule
 walking-holds = refl
 
--- the reports of such turns are those of their rounds; a report that no round gave is not
+-- the reports of such cycles are those of their rounds; a report that no round gave is not
 handed-from-rounds : (n : ℕ) (s : State) (rs : List Report) → FromRounds s rs (handedRounds n s)
 unfolding handedRounds reportsOf reportOfCall
 handed-from-rounds zero s rs = tt

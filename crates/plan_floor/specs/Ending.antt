@@ -35,8 +35,8 @@ abbrev pub HandedIn : State → List Step → Type 0
 HandedIn s [] = Unit {0}
 HandedIn s (c ∷ cs) = All (λ r. List·Memᴰ (report r) cs) (reportsOf s c) × HandedIn (stepped s c) cs
 
--- what follows a release: no accepted booking, release, stop or repair, and at least (C - 1) × (1 + M) rounds, demand 3's bound with K = 1. With other bookings in between K is larger, and demand 3's bound with that K holds of each turn
-pub record Turn (s : State) (cs : List Step) : Type 0 where
+-- what follows a release: no accepted booking, release, stop or repair, and at least (C - 1) × (1 + M) rounds, demand 3's bound with K = 1. With other bookings in between K is larger, and demand 3's bound with that K holds of each cycle
+pub record Cycle (s : State) (cs : List Step) : Type 0 where
   pub typed : All TypedStep cs
   pub quiet : Quiet (s .floor) (callsIn s cs)
   pub handed : HandedIn s cs
@@ -46,16 +46,16 @@ pub record Turn (s : State) (cs : List Step) : Type 0 where
 abbrev pub releaseOffered : State → State
 releaseOffered s = stepped s (release (offerAnswer (s .plan) .label))
 
--- turns one after another, each beginning with the release of the offered label
-abbrev pub Turns : State → List (List Step) → Type 0
-Turns s [] = Unit {0}
-Turns s (cs ∷ rest) = Turn (releaseOffered s) cs × Turns (after (releaseOffered s) cs) rest
+-- cycles one after another, each beginning with the release of the offered label
+abbrev pub Cycles : State → List (List Step) → Type 0
+Cycles s [] = Unit {0}
+Cycles s (cs ∷ rest) = Cycle (releaseOffered s) cs × Cycles (after (releaseOffered s) cs) rest
 
-unfoldable pub afterTurns : State → List (List Step) → State
-afterTurns s [] = s
-afterTurns s (cs ∷ rest) = afterTurns (after (releaseOffered s) cs) rest
+unfoldable pub afterCycles : State → List (List Step) → State
+afterCycles s [] = s
+afterCycles s (cs ∷ rest) = afterCycles (after (releaseOffered s) cs) rest
 
--- the refusal of each turn's release
+-- the refusal of each cycle's release
 unfoldable pub refusalsIn : State → List (List Step) → List ℕ
 refusalsIn s [] = []
 refusalsIn s (cs ∷ rest) = releaseAnswer (s .plan) (s .floor) (offerAnswer (s .plan) .label) .refusal ∷ refusalsIn (after (releaseOffered s) cs) rest
@@ -70,23 +70,23 @@ pub record Begins (s : State) : Type 0 where
   pub served : All (λ e. waits e ≡ true → Served (s .floor) (e .tile)) (used (s .plan))
   pub numbers-left : s .floor .counters .last + waitingIn (s .plan) < 2 ^ 32
 
--- of the turns, as many as labels waited book one each; at the end all are delivered, and the floor is empty
-pub record Ended (s : State) (turns : List (List Step)) : Type 0 where
-  pub accepted : All (λ r. r ≡ 0) (take (waitingIn (s .plan)) (refusalsIn s turns))
-  pub delivered : All (λ e. wasDelivered e ≡ true) (used (afterTurns s turns .plan))
-  pub empty : numbersOn (view (afterTurns s turns .floor)) ≡ []
+-- of the cycles, as many as labels waited book one each; at the end all are delivered, and the floor is empty
+pub record Ended (s : State) (cycles : List (List Step)) : Type 0 where
+  pub accepted : All (λ r. r ≡ 0) (take (waitingIn (s .plan)) (refusalsIn s cycles))
+  pub delivered : All (λ e. wasDelivered e ≡ true) (used (afterCycles s cycles .plan))
+  pub empty : numbersOn (view (afterCycles s cycles .floor)) ≡ []
 
--- with more turns than labels too
+-- with more cycles than labels too
 abbrev pub EndsPromise : Type 0
-EndsPromise = (s : State) → Begins s → (turns : List (List Step)) → waitingIn (s .plan) ≤ length turns → Turns s turns → Ended s turns
+EndsPromise = (s : State) → Begins s → (cycles : List (List Step)) → waitingIn (s .plan) ≤ length cycles → Cycles s cycles → Ended s cycles
 
--- ---- such turns for every state
+-- ---- such cycles for every state
 -- n rounds, each report handed in at once
 unfoldable pub handedRounds : ℕ → State → List Step
 handedRounds zero s = []
 handedRounds (suc n) s = let r = roundAnswer (s .floor) .report in call round ∷ report r ∷ handedRounds n (stepped (stepped s (call round)) (report r))
 
--- n turns: the offered label, then as many rounds as the bound says
+-- n cycles: the offered label, then as many rounds as the bound says
 unfoldable pub schedule : ℕ → State → List (List Step)
 schedule zero s = []
 schedule (suc n) s = let r = releaseOffered s in let cs = handedRounds (bound (r .floor .settings) 1) r in cs ∷ schedule n (after r cs)

@@ -18,7 +18,7 @@ well-formed-requires c κs = search needs
 returns-2 : tie.Need-returns-2
 returns-2 c =
     let g = c .before .before .args in
-    rw (le-ltb 64 (g.n) (omega arith)) (ap (λ (w : Bool). record { turns = g.n; well = w }) (c .well-formed .ensures))
+    rw (le-ltb 64 (g.n) (omega arith)) (ap (λ (w : Bool). record { entries = g.n; well = w }) (c .well-formed .ensures))
 
 pub begin-list-spec : {M : Type 1} → statement M
 begin-list-spec = tie.close (tie.spec returns well-formed-requires returns-2)

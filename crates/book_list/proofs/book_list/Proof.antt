@@ -53,9 +53,9 @@ use Rattle.book_list.specs.declared.Booking.{Booking}
 use Rattle.book_list.specs.declared.Done.{Done}
 use Rattle.book_list.specs.declared.Begun.{Begun}
 use Rattle.floor.specs.Well.{wellFormed}
-use Rattle.book_list.specs.Parts.{entryOf, turnsOf, begunOf, answerOf}
+use Rattle.book_list.specs.Parts.{entryOf, entriesOf, begunOf, answerOf}
 use Rattle.book_list.proofs.Kept.{begun-well}
-use Rattle.book_list.proofs.Upto.{floorUpto, listUpto, list-length, list-step, floor-step, turns-most, done-list, done-answer}
+use Rattle.book_list.proofs.Upto.{floorUpto, listUpto, list-length, list-step, floor-step, entries-most, done-list, done-answer}
 use Rattle.book_list.proofs.Booking as S
 use Rattle.book_list.proofs.Booking.Laws as S′
 use Rattle.floor.proofs.Floor as Z
@@ -154,14 +154,14 @@ module _ {M : Type 1} (𝓤 : URA M) (H : Heap 𝓤) (A : Atoms 𝓤) (W : Given
   abbrev n : ℕ
   n = length xs
 
-  -- the turns of the loop
+  -- the entries of the loop
   abbrev m : ℕ
-  m = turnsOf n
+  m = entriesOf n
 
   abbrev start : Begun
   start = begunOf s n
 
-  -- the check that was made at the start holds after i turns
+  -- the check that was made at the start holds after i entries
   abbrev Kept : ℕ → Type 0
   Kept i = wellFormed (floorUpto i s xs) ≡ wellFormed s
 
@@ -218,7 +218,7 @@ module _ {M : Type 1} (𝓤 : URA M) (H : Heap 𝓤) (A : Atoms 𝓤) (W : Given
     abbrev En : Env 𝓤 H
     En = (R′.mir, l₀) ∷ (Z′.mir, l₁) ∷ (slice, l₂) ∷ (E′.mir, l₃) ∷ (Z′.mir, l₄) ∷ (word, l₅) ∷ (S′.mir, l₆) ∷ (D′.mir, l₇) ∷ (word, l₈) ∷ (tyBool, l₉) ∷ (word, l₁₀) ∷ (tyPtr, l₁₁) ∷ (S′.mir, l₁₂) ∷ (tyPtr, l₁₃) ∷ []
 
-    -- after i turns
+    -- after i entries
     abbrev I : ℕ → List (Item 𝓤)
     I i = ‵ (row S.the-row fullShare (listUpto i s xs) b o) ∷ ‵ (fobor κ q (Held S.the-row n b o γ)) ∷ ‵ (fobs γ (codedHoleys S.the-row .code (heres S.the-row xs))) ∷ ‵ (fauth γ (codedHoleys S.the-row .code (heres S.the-row xs))) ∷ ‵ (Z.the-row .own (floorUpto i s xs) (valZ (floorUpto i s xs) ∷ [])) ∷ ‵ (froom tyPtr l₁₃ 0) ∷ ‵ (froom S′.mir l₁₂ 0) ∷ ‵ (froom tyPtr l₁₁ 0) ∷ ‵ (froom word l₁₀ 0) ∷ ‵ (froom tyBool l₉ 0) ∷ ‵ (fat fullShare word l₈ 0 (vint w64 n)) ∷ ‵ (froom D′.mir l₇ 0) ∷ ‵ (froom S′.mir l₆ 0) ∷ ‵ (fat fullShare word l₅ 0 (vint w64 i)) ∷ ‵ (fat fullShare Z′.mir l₄ 0 (valZ (floorUpto i s xs))) ∷ ‵ (fat fullShare E′.mir l₃ 0 (valE start)) ∷ ‵ (fat fullShare slice l₂ 0 (sliceVal (b, o) n)) ∷ ‵ (fat fullShare Z′.mir l₁ 0 (valZ s)) ∷ ‵ (froom R′.mir l₀ 0) ∷ ‵ (fdies tyPtr l₁₃) ∷ ‵ (fdies S′.mir l₁₂) ∷ ‵ (fdies tyPtr l₁₁) ∷ ‵ (fdies word l₁₀) ∷ ‵ (fdies tyBool l₉) ∷ ‵ (fdies word l₈) ∷ ‵ (fdies D′.mir l₇) ∷ ‵ (fdies S′.mir l₆) ∷ ‵ (fdies word l₅) ∷ ‵ (fdies Z′.mir l₄) ∷ ‵ (fdies E′.mir l₃) ∷ ‵ (fdies slice l₂) ∷ ‵ (fdies Z′.mir l₁) ∷ ‵ (fdies R′.mir l₀) ∷ []
 
@@ -269,7 +269,7 @@ module _ {M : Type 1} (𝓤 : URA M) (H : Heap 𝓤) (A : Atoms 𝓤) (W : Given
         rewrite ! 14 (λ (t : Floor). ‵ (fat fullShare Z′.mir l₄ 0 (valZ t))) (next r (e .0)) refl $ by ! (k (again r e)))))))
       where
         small : i < n
-        small = omega (arith, turn, turns-most n)
+        small = omega (arith, turn, entries-most n)
 
         z : Floor
         z = floorUpto i s xs

@@ -9,8 +9,8 @@ use Rattle.book_list.specs.declared.Booking.{Booking}
 use Rattle.book_list.specs.declared.Begun.{Begun}
 use Rattle.book_list.specs.declared.Done.{Done}
 use Rattle.book_list.specs.Listing.{floorSingly, entriesSingly}
-use Rattle.book_list.specs.Parts.{entryOf, turnsOf, placesAnswer}
-use Rattle.book_list.proofs.Upto.{floorUpto, listUpto, list-step, floor-step, upto-floor, upto-list, turns-few}
+use Rattle.book_list.specs.Parts.{entryOf, entriesOf, placesAnswer}
+use Rattle.book_list.proofs.Upto.{floorUpto, listUpto, list-step, floor-step, upto-floor, upto-list, entries-few}
 use Rattle.book_list.proofs.Kept.{begun-well}
 use Rattle.book_list.proofs.Loops.{EntriesBooked}
 use borrow.Author.Needs.{needs}
@@ -26,10 +26,10 @@ abbrev zb : Booking
 zb = record { tile = 0; canister = record { number = 0; a = 0; b = 0 }; answer = 0 }
 
 abbrev Inv-loop : tie.InvT-loop
-Inv-loop n turns well now₀ places₀ i₀ now places i = EntriesBooked now₀ places₀ turns well now places i
+Inv-loop n entries well now₀ places₀ i₀ now places i = EntriesBooked now₀ places₀ entries well now places i
 
 abbrev μ-loop : tie.MeasureT-loop
-μ-loop n turns well now₀ places₀ i₀ now places i = turns - i
+μ-loop n entries well now₀ places₀ i₀ now places i = entries - i
 
 begin-list-requires : tie.Need-begin-list-requires Inv-loop μ-loop
 begin-list-requires c κs = search needs
@@ -40,11 +40,11 @@ loop-holds c =
     let e = c .begin-list .ensures in
     record {
       below = omega arith;
-      few = rw e (turns-few g.n);
+      few = rw e (entries-few g.n);
       list-length = search needs;
       answered = refl;
       floored = refl;
-      known = λ h. ap (λ (b : Begun). b .well) e ∙ begun-well g.floor g.n 0 (subst (λ (b : Begun). 0 < b .turns) e h);
+      known = λ h. ap (λ (b : Begun). b .well) e ∙ begun-well g.floor g.n 0 (subst (λ (b : Begun). 0 < b .entries) e h);
     }
 
 mul-b : tie.Need-mul-b Inv-loop μ-loop
@@ -94,10 +94,10 @@ returns c =
     let l = c .before .before .loop in
     let g = c .before .before .before .before .args in
     let b = c .before .before .before .begin-list in
-    let z : l .i ≡ b .result .turns = omega arith in
-    let k : l .i ≡ turnsOf g.n = z ∙ ap (λ (x : Begun). x .turns) (b .ensures) in
-    let pf : l .now ≡ floorSingly g.floor (take (turnsOf g.n) g.list) = l .inv .floored ∙ ap (λ (j : ℕ). floorUpto j g.floor g.list) k ∙ upto-floor (turnsOf g.n) g.floor g.list in
-    let pl : l .places ≡ entriesSingly g.floor (take (turnsOf g.n) g.list) ++ drop (turnsOf g.n) g.list = l .inv .answered ∙ ap (λ (j : ℕ). listUpto j g.floor g.list) k ∙ upto-list (turnsOf g.n) g.floor g.list in
+    let z : l .i ≡ b .result .entries = omega arith in
+    let k : l .i ≡ entriesOf g.n = z ∙ ap (λ (x : Begun). x .entries) (b .ensures) in
+    let pf : l .now ≡ floorSingly g.floor (take (entriesOf g.n) g.list) = l .inv .floored ∙ ap (λ (j : ℕ). floorUpto j g.floor g.list) k ∙ upto-floor (entriesOf g.n) g.floor g.list in
+    let pl : l .places ≡ entriesSingly g.floor (take (entriesOf g.n) g.list) ++ drop (entriesOf g.n) g.list = l .inv .answered ∙ ap (λ (j : ℕ). listUpto j g.floor g.list) k ∙ upto-list (entriesOf g.n) g.floor g.list in
     let pr = ap (λ (a : Answer). a .refusal) (c .answer-of .ensures) in
     λ i. record { floor = pf i; list = pl i; refusal = pr i }
 
