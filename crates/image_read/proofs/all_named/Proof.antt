@@ -1,11 +1,10 @@
 use mathlib.Core.Path.{_≡_, refl, sym}
-use Prim.Native.Nat.{_-_, _≤_}
+use Prim.Native.Nat.{_-_}
 use native.Mathlib.Omega.{arith}
 use lib.Dec.{ltb}
-use lib.ListN.{length, take}
-use Rattle.laws.specs.Define.{allOf}
 use Rattle.laws.proofs.Tables.{all-zero, all-step}
 use Rattle.floor.specs.Memory.{zeroLayout}
+use Rattle.image_read.proofs.Loops.{NamesTested}
 use borrow.Author.Needs.{needs}
 use Rattle.image_read.proofs.all_named.Statement.{statement}
 use Rattle.image_read.proofs.all_named.Tie as tie
@@ -13,13 +12,18 @@ use Rattle.image_read.proofs.all_named.Reads as reads
 use Rattle.image_read.proofs.all_named.Lts as lts
 
 abbrev Inv-loop : tie.InvT-loop
-Inv-loop n all ok₀ k₀ ok k = (k ≤ n) × (n ≤ 8) × (length all ≡ 8) × (ok ≡ allOf (λ x. ltb 0 (x .name)) (take k all))
+Inv-loop n all ok₀ k₀ ok k = NamesTested n all ok k
 
 abbrev μ-loop : tie.MeasureT-loop
 μ-loop n all ok₀ k₀ ok k = n - k
 
 loop-holds : tie.Need-loop-holds Inv-loop μ-loop
-loop-holds c = (omega arith, c .pre, c .good .0 .1 .0 .1, sym (all-zero (λ x. ltb 0 (x .name)) (c .args .t1)))
+loop-holds c = record {
+  below = omega arith;
+  few = c .pre;
+  all-length = c .good .0 .1 .0 .1;
+  tested = sym (all-zero (λ x. ltb 0 (x .name)) (c .args .t1));
+}
 
 mul-x : tie.Need-mul-x Inv-loop μ-loop
 mul-x c = search needs
@@ -37,13 +41,18 @@ loop-again : tie.Need-loop-again Inv-loop μ-loop
 loop-again c =
     let l = c .before .before .before .loop in
     let g = c .before .before .before .before .args in
-    (omega arith, l .inv .1, l .inv .2, all-step (λ x. ltb 0 (x .name)) g.t1 (l .k) zeroLayout (omega arith) (l .inv .3) refl)
+    record {
+      below = omega arith;
+      few = l .inv .few;
+      all-length = l .inv .all-length;
+      tested = all-step (λ x. ltb 0 (x .name)) g.t1 (l .k) zeroLayout (omega arith) (l .inv .tested) refl;
+    }
 
 returns : tie.Need-returns Inv-loop μ-loop
 returns c =
     let l = c .before .loop in
     let e : l .k ≡ c .before .before .args .n = omega arith in
-    rw e at (l .inv .3)
+    rw e at (l .inv .tested)
 
 pub all-named-spec : {M : Type 1} → statement M
 all-named-spec =
