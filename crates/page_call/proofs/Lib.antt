@@ -1,4 +1,4 @@
-pub mod Laws
+pub mod Pieces
 pub mod Loops
 pub mod Writing
 pub mod Samples

@@ -7,7 +7,7 @@ use Rattle.image_bytes.specs.Put.{put}
 use Rattle.floor.specs.declared.Tile.{Tile}
 use Rattle.floor.specs.Memory.{zeroTile}
 use Rattle.page_call.specs.Page.{cell, line}
-use Rattle.page_call.proofs.Laws.{upTo}
+use Rattle.page_call.proofs.Pieces.{upTo}
 
 -- the cell in column c of row r
 abbrev pub cellAt : List Tile → ℕ → ℕ → ℕ → List ℕ

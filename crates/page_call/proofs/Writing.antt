@@ -19,7 +19,7 @@ use Rattle.floor.specs.Well.{wellFormed}
 use Rattle.floor.proofs.Pack.{well-measured, well-head}
 use Rattle.image.specs.declared.Written.{Written}
 use Rattle.page_call.specs.Page.{cell, cells, line, lines, page, pageRefusal, pageAnswer, paged}
-use Rattle.page_call.proofs.Laws.{upTo-same, page-length, row-room}
+use Rattle.page_call.proofs.Pieces.{upTo-same, page-length, row-room}
 
 abbrev pub memory : Floor → ℕ → Tile
 memory f t = getD (f .tiles) t zeroTile

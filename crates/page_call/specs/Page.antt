@@ -68,7 +68,7 @@ page m = lines (λ t. head (tileOf m t)) (m .settings .columns) (m .settings .ro
 unfoldable pub pageRefusal : Floor → ℕ → ℕ
 pageRefusal f n = refusal ((not (wellFormed f), 30) ∷ (ltb n (length (page (view f))), 43) ∷ [])
 
--- "The library call writes H × (8 × W + 2) bytes, answers how many": that the page has so many is `page-length` of proofs/Laws
+-- "The library call writes H × (8 × W + 2) bytes, answers how many": that the page has so many is `page-length` of proofs/Pieces
 unfoldable pub pageAnswer : Floor → ℕ → Written
 pageAnswer f n = let k = pageRefusal f n in record { refusal = k; length = cond (eqb k 0) (length (page (view f))) 0 }
 

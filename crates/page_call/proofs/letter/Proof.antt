@@ -1,4 +1,4 @@
-use Rattle.page_call.proofs.Laws.{letter-rest}
+use Rattle.page_call.proofs.Pieces.{letter-rest}
 use borrow.Author.Needs.{needs}
 use Rattle.page_call.specs.Page.{letter}
 use Rattle.page_call.proofs.letter.Statement.{statement}

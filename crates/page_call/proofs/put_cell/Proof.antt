@@ -6,7 +6,7 @@ use Rattle.image_bytes.specs.Put.{put}
 use Rattle.image_bytes.proofs.PutLaws.{bytes-one}
 use Rattle.image_record_write.proofs.RecordBytes.{put-four}
 use Rattle.page_call.specs.Page.{two, letter, distanceText, cell}
-use Rattle.page_call.proofs.Laws.{two-length, distance-length}
+use Rattle.page_call.proofs.Pieces.{two-length, distance-length}
 use borrow.Author.Needs.{needs}
 use Rattle.page_call.proofs.put_cell.Statement.{statement}
 use Rattle.page_call.proofs.put_cell.Tie as tie

@@ -6,7 +6,7 @@ use Rattle.image_bytes.specs.Put.{put}
 use Rattle.image_bytes.proofs.PutLaws.{put-none}
 use Rattle.floor.specs.declared.Tile.{Tile}
 use Rattle.page_call.specs.Page.{cells}
-use Rattle.page_call.proofs.Laws.{upTo-none, cell-length, turn, on-grid}
+use Rattle.page_call.proofs.Pieces.{upTo-none, cell-length, turn, on-grid}
 use Rattle.page_call.proofs.Loops.{cellAt, CellsPut}
 use borrow.Author.Needs.{needs}
 use Rattle.page_call.proofs.put_cells.Statement.{statement}

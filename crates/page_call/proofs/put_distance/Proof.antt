@@ -1,6 +1,6 @@
 use mathlib.Core.Path.{ap, _∙_}
 use Rattle.image_bytes.specs.Put.{put}
-use Rattle.page_call.proofs.Laws.{distance-stopped, distance-none, distance-some}
+use Rattle.page_call.proofs.Pieces.{distance-stopped, distance-none, distance-some}
 use borrow.Author.Needs.{needs}
 use Rattle.page_call.proofs.put_distance.Statement.{statement}
 use Rattle.page_call.proofs.put_distance.Tie as tie

@@ -8,7 +8,7 @@ use Rattle.image_bytes.proofs.PutLaws.{put-three, bytes-one}
 use Rattle.floor.specs.declared.Tile.{Tile}
 use Rattle.floor.specs.Memory.{zeroTile}
 use Rattle.page_call.specs.Page.{cells, line}
-use Rattle.page_call.proofs.Laws.{cells-length}
+use Rattle.page_call.proofs.Pieces.{cells-length}
 use borrow.Author.Needs.{needs}
 use Rattle.page_call.proofs.put_line.Statement.{statement}
 use Rattle.page_call.proofs.put_line.Tie as tie

@@ -5,7 +5,7 @@ use Rattle.image_bytes.specs.Put.{put}
 use Rattle.image_bytes.proofs.PutLaws.{put-none}
 use borrow.Author.Needs.{needs}
 use Rattle.page_call.specs.Page.{lines}
-use Rattle.page_call.proofs.Laws.{upTo-none, line-length, turn, row-room, row-small}
+use Rattle.page_call.proofs.Pieces.{upTo-none, line-length, turn, row-room, row-small}
 use Rattle.page_call.proofs.Loops.{lineAt, LinesPut}
 use Rattle.page_call.proofs.put_lines.Statement.{statement}
 use Rattle.page_call.proofs.put_lines.Tie as tie

@@ -1,6 +1,6 @@
 use native.Mathlib.Omega.{arith}
 use lib.ListN.{length-set}
-use Rattle.page_call.proofs.Laws.{put-pair-is}
+use Rattle.page_call.proofs.Pieces.{put-pair-is}
 use borrow.Author.Needs.{needs}
 use Rattle.page_call.proofs.put_pair.Statement.{statement}
 use Rattle.page_call.proofs.put_pair.Tie as tie

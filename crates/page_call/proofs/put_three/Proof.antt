@@ -1,6 +1,6 @@
 use native.Mathlib.Omega.{arith}
 use lib.ListN.{length-set}
-use Rattle.page_call.proofs.Laws.{put-three-is}
+use Rattle.page_call.proofs.Pieces.{put-three-is}
 use borrow.Author.Needs.{needs}
 use Rattle.page_call.proofs.put_three.Statement.{statement}
 use Rattle.page_call.proofs.put_three.Tie as tie

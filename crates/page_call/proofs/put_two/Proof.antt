@@ -1,6 +1,6 @@
 use mathlib.Core.Path.{ap, _∙_}
 use Rattle.image_bytes.specs.Put.{put}
-use Rattle.page_call.proofs.Laws.{two-small, two-large}
+use Rattle.page_call.proofs.Pieces.{two-small, two-large}
 use borrow.Author.Needs.{needs}
 use Rattle.page_call.proofs.put_two.Statement.{statement}
 use Rattle.page_call.proofs.put_two.Tie as tie
