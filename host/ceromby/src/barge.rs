@@ -13,6 +13,7 @@ pub const MAX_ALLOWANCE: u32 = 4_032;
 #[repr(C)]
 #[derive(Clone, Copy, PartialEq, Eq, Debug)]
 pub struct Barge {
+    /// Numbered 0 to 3.
     pub floors: [Floor; FLOORS],
     /// With so many canisters aboard, or more, bookings are refused by 50.
     pub allowance: u32,
@@ -26,22 +27,28 @@ impl Barge {
     }
 }
 
+/// The answer of a call that gives a barge.
+#[must_use = "a call leaves the barge that it was handed"]
 #[repr(C)]
 #[derive(Clone, Copy, PartialEq, Eq, Debug)]
 pub struct BargeAnswer {
+    /// The barge after the call. Beside a refusal, the one that was handed in.
     pub barge: Barge,
     /// 0 for accepted.
     pub refusal: u8,
 }
 
 /// The answer of a booking without a place.
+#[must_use = "a call leaves the barge that it was handed"]
 #[repr(C)]
 #[derive(Clone, Copy, PartialEq, Eq, Debug)]
 pub struct BargePlaced {
+    /// The barge after it. Beside a refusal, the one that was handed in.
     pub barge: Barge,
     /// The place that the canister took. Beside a refusal it is (0, 0), which
-    /// is a place too; `place` gives none then.
+    /// is a place too; [`BargePlaced::place`] gives none then.
     pub a: u16,
+    /// The same, northward.
     pub b: u16,
     /// 0 for accepted.
     pub refusal: u8,
@@ -54,11 +61,14 @@ impl BargePlaced {
     }
 }
 
+/// The answer of a round.
+#[must_use = "a call leaves the barge that it was handed"]
 #[repr(C)]
 #[derive(Clone, Copy, PartialEq, Eq, Debug)]
 pub struct BargeRounded {
+    /// The barge after it. Beside a refusal, the one that was handed in.
     pub barge: Barge,
-    /// Of the floor that was named.
+    /// Of the floor that was named; all zero beside a refusal.
     pub report: Report,
     /// 0 for accepted.
     pub refusal: u8,

@@ -1,14 +1,22 @@
 //! Safe binding to the canister floor's static library. Every call refuses
 //! bad input by itself, so nothing is tested here.
+//!
+//! Nothing is kept between calls: a call gives the floor after it and leaves the
+//! one that it was handed. In every answer `refusal` is 0 for accepted, else one
+//! of [`mod@refusal`]; [`write()`], [`page`], [`feed`] and [`plan::offer`] give
+//! that as an `Err`. In which order refusals are tested, and how much stack a
+//! call takes, stands in include/ceromby.h.
+#![warn(missing_docs)]
 
 pub mod barge;
 pub mod plan;
+pub mod refusal;
 mod throughput;
 mod types;
 
 pub use barge::{Barge, BargeAnswer, BargePlaced, BargeRounded};
 pub use plan::{Entry, Offered, Plan, Planned, Released, Stage};
-pub use throughput::{feed, Fed, Throughput, Told};
+pub use throughput::{feed, Fed, Throughput, Told, FED_CLOSED, FED_OPEN, FED_REFUSED, WINDOW};
 pub use types::{
     reason, Answer, Booking, Canister, Counters, Delivery, Floor, Layout, Name, Placed, Reading,
     Report, Rounded, Settings, Side, Tile, Written, DISTANCE_NONE, LONGEST_IMAGE, LONGEST_LIST,
@@ -127,13 +135,13 @@ pub fn recall(floor: &Floor, name: impl Into<Name>) -> Answer {
     unsafe { raw::ceromby_recall(*floor, name.into()) }
 }
 
-/// One round.
+/// One round: route, signal, move.
 pub fn round(floor: &Floor) -> Rounded {
     // SAFETY: plain values in and out.
     unsafe { raw::ceromby_round(*floor) }
 }
 
-/// All that a tile has.
+/// All that a tile has, its canisters too.
 pub fn read(floor: &Floor, tile: u32) -> Reading {
     // SAFETY: plain values in and out.
     unsafe { raw::ceromby_read(*floor, tile) }
@@ -184,19 +192,29 @@ fn paged(floor: &Floor, buffer: &mut [u8]) -> Written {
 
 /// For the comparison runs: the answers of a write and of a page with the
 /// length that stands beside a refusal too, that of a feed with the record of a
-/// refusal, and that of an offer with its label. Use [`write`], [`page`],
+/// refusal, and that of an offer with its label. Use [`write()`], [`page`],
 /// [`feed`] and [`plan::offer`] in their place.
 #[cfg(feature = "as-in-c")]
 pub mod as_in_c {
-    pub use crate::plan::offered as offer;
-    pub use crate::throughput::told as feed;
-    use crate::{Floor, Written};
+    use crate::{Floor, Offered, Plan, Throughput, Told, Written};
 
+    /// What [`crate::write`] is made from.
     pub fn write(floor: &Floor, buffer: &mut [u8]) -> Written {
         crate::written(floor, buffer)
     }
 
+    /// What [`crate::page`] is made from.
     pub fn page(floor: &Floor, buffer: &mut [u8]) -> Written {
         crate::paged(floor, buffer)
+    }
+
+    /// What [`crate::feed`] is made from.
+    pub fn feed(throughput: &Throughput, count: u32) -> Told {
+        crate::throughput::told(throughput, count)
+    }
+
+    /// What [`crate::plan::offer`] is made from.
+    pub fn offer(plan: &Plan) -> Offered {
+        crate::plan::offered(plan)
     }
 }

@@ -8,6 +8,13 @@ pub const MAX_ENTRIES: usize = 64;
 /// The highest label; the lowest is 1.
 pub const MAX_LABEL: u8 = 64;
 
+/// The byte `stage` of an entry that waits.
+pub const STAGE_WAITING: u8 = 0;
+/// Of one that is booked. Any byte above 2 is read as this one.
+pub const STAGE_BOOKED: u8 = 1;
+/// Of one that was delivered.
+pub const STAGE_DELIVERED: u8 = 2;
+
 /// An entry of a plan. Any bytes may stand here.
 #[repr(C)]
 #[derive(Clone, Copy, PartialEq, Eq, Debug, Default)]
@@ -20,17 +27,20 @@ pub struct Entry {
     pub label: u8,
     /// Lower labels of the plan that must be delivered earlier, 0 for none.
     pub first: u8,
+    /// The same.
     pub second: u8,
-    /// 0 waits, 2 delivered, any other byte booked; [`Entry::stage`] tells.
+    /// 0 waits, 2 delivered, any other byte booked; [`Entry::stage()`] tells.
     pub stage: u8,
 }
 
 /// Where an entry stands.
 #[derive(Clone, Copy, PartialEq, Eq, Debug)]
 pub enum Stage {
+    /// Not yet released.
     Waiting,
     /// Under this number.
     Booked(u32),
+    /// A report that lists its number was handed in.
     Delivered,
 }
 
@@ -43,25 +53,28 @@ impl Entry {
             label,
             first,
             second,
-            stage: 0,
+            stage: STAGE_WAITING,
         }
     }
 
+    /// Where the entry stands, by its byte.
     pub const fn stage(&self) -> Stage {
         match self.stage {
-            0 => Stage::Waiting,
-            2 => Stage::Delivered,
+            STAGE_WAITING => Stage::Waiting,
+            STAGE_DELIVERED => Stage::Delivered,
             _ => Stage::Booked(self.number),
         }
     }
 }
 
-/// Entries from the count on are ignored and handed back. A plan that isn't
-/// sound is refused by 30.
+/// What is to be fed in which order. Entries from the count on are ignored and
+/// handed back. A plan that isn't sound is refused by 30.
 #[repr(C)]
 #[derive(Clone, Copy, PartialEq, Eq, Debug)]
 pub struct Plan {
+    /// In any order; [`Plan::used`] gives those that count.
     pub entries: [Entry; MAX_ENTRIES],
+    /// How many count.
     pub count: u32,
 }
 
@@ -92,25 +105,35 @@ impl Plan {
 pub struct Offered {
     /// 0 where none is offered, and beside a refusal.
     pub label: u8,
+    /// 0 for accepted.
     pub refusal: u8,
 }
 
+/// The answer of a report.
+#[must_use = "a call leaves the plan that it was handed"]
 #[repr(C)]
 #[derive(Clone, Copy, PartialEq, Eq, Debug)]
 pub struct Planned {
+    /// The plan after it. Beside a refusal, the one that was handed in.
     pub plan: Plan,
     /// 0 for accepted.
     pub refusal: u8,
 }
 
+/// The answer of a release.
+#[must_use = "a call leaves the plan and the floor that it was handed"]
 #[repr(C)]
 #[derive(Clone, Copy, PartialEq, Eq, Debug)]
 pub struct Released {
+    /// The floor after it. Beside a refusal, the one that was handed in.
     pub floor: Floor,
+    /// The plan, in the same way.
     pub plan: Plan,
     /// What was booked. Beside a refusal 0, at the place (0, 0).
     pub number: u32,
+    /// Its place; [`Released::place`] gives none beside a refusal.
     pub a: u16,
+    /// The same, northward.
     pub b: u16,
     /// 0 for accepted.
     pub refusal: u8,
@@ -133,7 +156,7 @@ pub fn offer(plan: &Plan) -> Result<Option<u8>, u8> {
 }
 
 /// The answer of an offer as C gets it.
-pub fn offered(plan: &Plan) -> Offered {
+pub(crate) fn offered(plan: &Plan) -> Offered {
     // SAFETY: plain values in and out.
     unsafe { raw::ceromby_plan_offer(*plan) }
 }

@@ -8,7 +8,7 @@ pub const MAX_TILES: usize = 64;
 pub const MAX_HOPPERS: usize = 4;
 /// Canister places of one tile.
 pub const PLACES: usize = 16;
-/// The distance "none". (The side none is 0.)
+/// The distance "none".
 pub const DISTANCE_NONE: u8 = 255;
 /// Most layouts that a floor keeps.
 pub const MAX_LAYOUTS: usize = 8;
@@ -21,23 +21,29 @@ pub const LONGEST_PAGE: usize = 528;
 
 /// Why a tile stood in a round; the first that fits.
 pub mod reason {
+    /// It was stopped.
     pub const STOPPED: u8 = 1;
     /// When the round began; a hopper always is.
     pub const EMPTY: u8 = 2;
+    /// Its arrow was none.
     pub const NO_ARROW: u8 = 3;
     /// The turn of the tile ahead was another's, before it passed on.
     pub const TURN: u8 = 4;
-    /// On the tile ahead.
+    /// On the tile ahead; [`crate::Report::missing`] says how much is missing.
     pub const NO_GAP: u8 = 5;
     /// It didn't stand: its canisters shifted.
     pub const MOVED: u8 = 6;
 }
 
+/// A canister, and its south-west corner from the tile's.
 #[repr(C)]
 #[derive(Clone, Copy, PartialEq, Eq, Debug)]
 pub struct Canister {
+    /// Never 0 on a floor.
     pub number: u32,
+    /// Eastward.
     pub a: u16,
+    /// Northward.
     pub b: u16,
 }
 
@@ -45,33 +51,55 @@ pub struct Canister {
 #[repr(C)]
 #[derive(Clone, Copy, PartialEq, Eq, Debug)]
 pub struct Booking {
+    /// Where it is booked.
     pub tile: u32,
+    /// What is booked, and at which place.
     pub canister: Canister,
-    /// What the single booking would answer, 0 for accepted.
+    /// What the single booking would answer, 0 for accepted; what stood here
+    /// before doesn't matter.
     pub answer: u8,
 }
 
-/// 0 none, 1 west, 2 south, 3 north, 4 east.
+/// A side of a tile, or none.
 #[repr(C)]
 #[derive(Clone, Copy, PartialEq, Eq, Debug)]
 pub struct Side {
+    /// 0 none, 1 west, 2 south, 3 north, 4 east.
     pub code: u8,
 }
 
+impl Side {
+    /// No side: no arrow, or nobody's turn.
+    pub const NONE: Side = Side { code: 0 };
+    /// The side towards the lower columns.
+    pub const WEST: Side = Side { code: 1 };
+    /// The side towards the lower rows.
+    pub const SOUTH: Side = Side { code: 2 };
+    /// The side towards the higher rows.
+    pub const NORTH: Side = Side { code: 3 };
+    /// The side towards the higher columns.
+    pub const EAST: Side = Side { code: 4 };
+}
+
+/// A tile without its canisters.
 #[repr(C)]
 #[derive(Clone, Copy, PartialEq, Eq, Debug)]
 pub struct Tile {
     /// 1 running, 0 stopped.
     pub running: u8,
-    /// To the nearest hopper.
+    /// To the nearest hopper, or [`DISTANCE_NONE`].
     pub distance: u8,
     /// The arrow.
     pub next: Side,
     /// The turn.
     pub token: Side,
+    /// Canisters on the tile.
     pub count: u8,
 }
 
+/// W and H are 1 to 8, and W x H is at least 2. U is 2 to 60,000, v at least 1.
+/// Required: v < l, d = l + r < U, and (U - l) / d, rounded down, at most 3.
+/// Sets have bit t for tile t; a tile's number is column x H + row.
 #[repr(C)]
 #[derive(Clone, Copy, PartialEq, Eq, Debug)]
 pub struct Settings {
@@ -81,7 +109,7 @@ pub struct Settings {
     pub rows: u8,
     /// The hopper set: one to four tiles. With one hopper: `hoppers: ceromby::tile(5)`.
     pub hoppers: u64,
-    /// The fill set.
+    /// The fill set. It may be empty and never holds a hopper.
     pub sources: u64,
     /// U, side of a tile.
     pub width: u16,
@@ -93,10 +121,13 @@ pub struct Settings {
     pub travel: u16,
 }
 
+/// Booked is the sum of delivered and those on the floor.
 #[repr(C)]
 #[derive(Clone, Copy, PartialEq, Eq, Debug)]
 pub struct Counters {
+    /// The last number booked.
     pub last: u32,
+    /// How many were booked.
     pub booked: u32,
     /// One for each hopper in tile order, then zeros.
     pub delivered: [u32; MAX_HOPPERS],
@@ -107,6 +138,7 @@ pub struct Counters {
 #[repr(C)]
 #[derive(Clone, Copy, PartialEq, Eq, Debug)]
 pub struct Name {
+    /// As in `*b"NETS\0\0\0\0"`; from text: `Name::from("NETS")`.
     pub letters: [u8; 8],
 }
 
@@ -137,7 +169,7 @@ impl fmt::Display for Name {
 pub struct Layout {
     /// The first letter in the highest byte, so that names rise as numbers do.
     pub name: u64,
-    /// It holds every hopper.
+    /// Bit t for tile t; it holds every hopper.
     pub set: u64,
 }
 
@@ -150,13 +182,19 @@ impl Layout {
     }
 }
 
-/// Canisters of tile t are at places 16 t to 16 t + count - 1.
+/// Canisters of tile t are at places 16 t to 16 t + count - 1, by rising number.
+/// Unused places and tiles are zero. Any bytes may stand here; a floor that
+/// isn't well formed is refused by 30.
 #[repr(C)]
 #[derive(Clone, Copy, PartialEq, Eq, Debug)]
 pub struct Floor {
+    /// What it was made with.
     pub settings: Settings,
+    /// Booked and delivered.
     pub counters: Counters,
+    /// By tile number.
     pub tiles: [Tile; MAX_TILES],
+    /// Sixteen places for each tile.
     pub canisters: [Canister; MAX_TILES * PLACES],
     /// By rising name, then zeros.
     pub layouts: [Layout; MAX_LAYOUTS],
@@ -168,38 +206,48 @@ pub struct Floor {
 pub struct Delivery {
     /// Rising, then zeros.
     pub numbers: [u32; 4],
+    /// How many, 0 to 4.
     pub count: u8,
 }
 
+/// What a round did.
 #[repr(C)]
 #[derive(Clone, Copy, PartialEq, Eq, Debug)]
 pub struct Report {
-    /// The side each tile granted, 0 for none.
+    /// The side each tile granted, as in [`Side::code`]; 0 for none and where no
+    /// tile is.
     pub grants: [u8; MAX_TILES],
-    /// Why each tile stood, one of `reason`; 0 where no tile is.
+    /// Why each tile stood, one of [`reason`]; 0 where no tile is.
     pub reasons: [u8; MAX_TILES],
-    /// Beside `reason::NO_GAP` the missing millimetres, the worst canister's; else 0.
+    /// Beside [`reason::NO_GAP`] the missing millimetres, the worst canister's; else 0.
     pub missing: [u16; MAX_TILES],
     /// One for each hopper in tile order, then zeros.
     pub deliveries: [Delivery; MAX_HOPPERS],
 }
 
+/// The answer of a call that gives a floor.
+#[must_use = "a call leaves the floor that it was handed"]
 #[repr(C)]
 #[derive(Clone, Copy, PartialEq, Eq, Debug)]
 pub struct Answer {
+    /// The floor after the call. Beside a refusal, the one that was handed in;
+    /// all zero where none was.
     pub floor: Floor,
     /// 0 for accepted.
     pub refusal: u8,
 }
 
 /// The answer of a booking without a place.
+#[must_use = "a call leaves the floor that it was handed"]
 #[repr(C)]
 #[derive(Clone, Copy, PartialEq, Eq, Debug)]
 pub struct Placed {
+    /// The floor after it. Beside a refusal, the one that was handed in.
     pub floor: Floor,
     /// The place that the canister took. Beside a refusal it is (0, 0), which
-    /// is a place too; `place` gives none then.
+    /// is a place too; [`Placed::place`] gives none then.
     pub a: u16,
+    /// The same, northward.
     pub b: u16,
     /// 0 for accepted.
     pub refusal: u8,
@@ -212,27 +260,38 @@ impl Placed {
     }
 }
 
+/// The answer of a round.
+#[must_use = "a call leaves the floor that it was handed"]
 #[repr(C)]
 #[derive(Clone, Copy, PartialEq, Eq, Debug)]
 pub struct Rounded {
+    /// The floor after it. Beside a refusal, the one that was handed in.
     pub floor: Floor,
+    /// All zero beside a refusal.
     pub report: Report,
+    /// 0 for accepted.
     pub refusal: u8,
 }
 
+/// The answer of a reading. Beside a refusal the rest is zero, the distance too.
+#[must_use]
 #[repr(C)]
 #[derive(Clone, Copy, PartialEq, Eq, Debug)]
 pub struct Reading {
+    /// 0 for accepted.
     pub refusal: u8,
+    /// The tile, without its canisters.
     pub tile: Tile,
+    /// Its canisters by rising number, then zeros.
     pub members: [Canister; PLACES],
 }
 
-/// The answer of a write or a page as C gets it; `write` and `page` don't give
-/// the length of a refused one.
+/// The answer of a write or a page as C gets it; [`crate::write`] and
+/// [`crate::page`] don't give the length of a refused one.
 #[repr(C)]
 #[derive(Clone, Copy, PartialEq, Eq, Debug)]
 pub struct Written {
+    /// 0 for accepted.
     pub refusal: u8,
     /// 0 beside a refusal. Zero bytes are an image too, that of the standard
     /// floor, so look at the refusal first.

@@ -3,7 +3,7 @@
 mod common;
 
 use ceromby::barge::{book, book_anywhere, repair, round, stop, FLOORS, MAX_ALLOWANCE};
-use ceromby::{fresh, Barge, Canister};
+use ceromby::{fresh, refusal, Barge, Canister};
 use common::SETTINGS;
 
 fn empty(allowance: u32) -> Barge {
@@ -58,14 +58,23 @@ fn the_allowance() {
         barge = answer.barge;
     }
     for floor in 0..4 {
-        assert_eq!(book(&barge, floor, 0, canister(6, 0)).refusal, 50);
+        assert_eq!(
+            book(&barge, floor, 0, canister(6, 0)).refusal,
+            refusal::OVERLOADED
+        );
         let placed = book_anywhere(&barge, floor, 0, 6);
-        assert_eq!((placed.refusal, placed.place()), (50, None));
+        assert_eq!(
+            (placed.refusal, placed.place()),
+            (refusal::OVERLOADED, None)
+        );
         assert_eq!((placed.barge, placed.a, placed.b), (barge, 0, 0));
         assert_eq!(stop(&barge, floor, 0).refusal, 0);
         assert_eq!(round(&barge, floor).refusal, 0);
     }
-    assert_eq!(book(&barge, 1, 0, canister(6, 50)).refusal, 34);
+    assert_eq!(
+        book(&barge, 1, 0, canister(6, 50)).refusal,
+        refusal::TOO_CLOSE
+    );
     let less = round(&barge, 3);
     assert_eq!(less.report.deliveries[0].numbers, [5, 0, 0, 0]);
     assert_eq!(book(&less.barge, 1, 0, canister(6, 0)).refusal, 0);
@@ -75,11 +84,17 @@ fn the_allowance() {
 fn refusals() {
     let sound = empty(1);
     for floor in [4, 256, u32::MAX] {
-        assert_eq!(book(&sound, floor, 9, canister(0, 99)).refusal, 49);
-        assert_eq!(book_anywhere(&sound, floor, 9, 0).refusal, 49);
-        assert_eq!(stop(&sound, floor, 9).refusal, 49);
-        assert_eq!(repair(&sound, floor, 9).refusal, 49);
-        assert_eq!(round(&sound, floor).refusal, 49);
+        assert_eq!(
+            book(&sound, floor, 9, canister(0, 99)).refusal,
+            refusal::NO_FLOOR
+        );
+        assert_eq!(
+            book_anywhere(&sound, floor, 9, 0).refusal,
+            refusal::NO_FLOOR
+        );
+        assert_eq!(stop(&sound, floor, 9).refusal, refusal::NO_FLOOR);
+        assert_eq!(repair(&sound, floor, 9).refusal, refusal::NO_FLOOR);
+        assert_eq!(round(&sound, floor).refusal, refusal::NO_FLOOR);
     }
     let mut bad = vec![empty(0), empty(MAX_ALLOWANCE + 1), empty(u32::MAX)];
     for at in 0..FLOORS {
@@ -90,9 +105,12 @@ fn refusals() {
     for barge in bad {
         for floor in [0, 1, 2, 3, 4] {
             let answer = book(&barge, floor, 0, canister(5, 0));
-            assert_eq!((answer.refusal, answer.barge), (30, barge));
+            assert_eq!((answer.refusal, answer.barge), (refusal::MALFORMED, barge));
             let rounded = round(&barge, floor);
-            assert_eq!((rounded.refusal, rounded.barge), (30, barge));
+            assert_eq!(
+                (rounded.refusal, rounded.barge),
+                (refusal::MALFORMED, barge)
+            );
             assert_eq!(rounded.report.deliveries[0].count, 0);
         }
     }

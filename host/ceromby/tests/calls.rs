@@ -3,8 +3,8 @@
 mod common;
 
 use ceromby::{
-    book, book_anywhere, book_list, forget, fresh, keep, load, read, reason, recall, repair, round,
-    stop, tile, write, Booking, Canister, Layout, Name, Settings, LONGEST_LIST,
+    book, book_anywhere, book_list, forget, fresh, keep, load, read, reason, recall, refusal,
+    repair, round, stop, tile, write, Booking, Canister, Layout, Name, Settings, LONGEST_LIST,
 };
 use common::SETTINGS;
 
@@ -28,7 +28,7 @@ fn the_first_trial() {
     assert_eq!(last.floor.counters.delivered, [1, 0, 0, 0]);
     let stopped = stop(&last.floor, 0);
     assert_eq!((stopped.refusal, repair(&stopped.floor, 0).refusal), (0, 0));
-    assert_eq!(stop(&stopped.floor, 0).refusal, 31);
+    assert_eq!(stop(&stopped.floor, 0).refusal, refusal::STOPPED);
 }
 
 #[test]
@@ -45,13 +45,13 @@ fn bookings_without_a_place() {
     let mut malformed = floor;
     malformed.counters.booked = 3;
     for (floor, tile, number, refusal) in [
-        (floor, 0, 10, 40),
-        (floor, 0, 9, 33),
-        (halted, 0, 9, 31),
-        (halted, 0, 0, 6),
-        (floor, 1, 0, 5),
-        (floor, 256, 10, 4),
-        (malformed, 256, 10, 30),
+        (floor, 0, 10, refusal::NO_PLACE),
+        (floor, 0, 9, refusal::NUMBER_USED),
+        (halted, 0, 9, refusal::STOPPED),
+        (halted, 0, 0, refusal::NUMBER_ZERO),
+        (floor, 1, 0, refusal::NOT_A_SOURCE),
+        (floor, 256, 10, refusal::NO_TILE),
+        (malformed, 256, 10, refusal::MALFORMED),
     ] {
         let placed = book_anywhere(&floor, tile, number);
         assert_eq!((placed.refusal, placed.place()), (refusal, None));
@@ -77,7 +77,15 @@ fn lists_of_bookings() {
     ];
     let mut list = handed;
     let answer = book_list(&floor, &mut list);
-    assert_eq!(list.map(|entry| entry.answer), [0, 34, 0, 33, 5, 7]);
+    let due = [
+        refusal::ACCEPTED,
+        refusal::TOO_CLOSE,
+        refusal::ACCEPTED,
+        refusal::NUMBER_USED,
+        refusal::NOT_A_SOURCE,
+        refusal::OUTSIDE,
+    ];
+    assert_eq!(list.map(|entry| entry.answer), due);
     let after = book(&floor, 0, handed[0].canister).floor;
     let after = book(&after, 0, handed[2].canister).floor;
     assert_eq!((answer.refusal, answer.floor), (0, after));
@@ -90,7 +98,7 @@ fn lists_of_bookings() {
     malformed.tiles[0].running = 2;
     let answer = book_list(&malformed, &mut list);
     assert_eq!((answer.refusal, answer.floor), (0, malformed));
-    assert_eq!(list.map(|entry| entry.answer), [30; 6]);
+    assert_eq!(list.map(|entry| entry.answer), [refusal::MALFORMED; 6]);
 }
 
 #[test]
@@ -110,13 +118,16 @@ fn lists_that_are_too_long() {
     let mut list = [entry; LONGEST_LIST + 1];
     for floor in [floor, malformed] {
         let answer = book_list(&floor, &mut list);
-        assert_eq!((answer.refusal, answer.floor), (42, floor));
+        assert_eq!(
+            (answer.refusal, answer.floor),
+            (refusal::LIST_TOO_LONG, floor)
+        );
         assert_eq!(list, [entry; LONGEST_LIST + 1]);
     }
     assert_eq!(book_list(&floor, &mut list[1..]).refusal, 0);
     let answers = list.map(|entry| entry.answer);
     assert_eq!((answers[0], answers[1]), (200, 0));
-    assert_eq!(answers[2..], [33; 63]);
+    assert_eq!(answers[2..], [refusal::NUMBER_USED; 63]);
 }
 
 #[test]
@@ -137,7 +148,7 @@ fn two_hoppers() {
     let numbers = rounded.report.deliveries.map(|at| at.numbers[0]);
     assert_eq!(numbers, [9, 5, 0, 0]);
     assert_eq!(rounded.floor.counters.delivered, [1, 1, 0, 0]);
-    assert_eq!(stop(&floor, 3).refusal, 8);
+    assert_eq!(stop(&floor, 3).refusal, refusal::STOP_OF_HOPPER);
     let mut buffer = [0; 96];
     assert_eq!(write(&rounded.floor, &mut buffer), Ok(96));
     assert_eq!(load(&buffer).floor, rounded.floor);
@@ -191,7 +202,7 @@ fn layouts() {
     assert_eq!((recalled.refusal, recalled.floor.tiles[0].running), (0, 1));
     let again = recall(&recalled.floor, layouts[1].letters());
     assert_eq!((again.refusal, again.floor), (0, nets.floor));
-    assert_eq!(recall(&nets.floor, "SOME").refusal, 45);
+    assert_eq!(recall(&nets.floor, "SOME").refusal, refusal::NAME_NOT_HELD);
     let forgotten = forget(&nets.floor, "ALL");
     assert_eq!(
         (forgotten.refusal, forgotten.floor.layouts[0]),
@@ -216,15 +227,15 @@ fn names_are_never_cut() {
         "Ä",
     ];
     for text in bad {
-        assert_eq!(keep(&floor, text).refusal, 44, "{text}");
-        assert_eq!(forget(&floor, text).refusal, 44, "{text}");
-        assert_eq!(recall(&floor, text).refusal, 44, "{text}");
+        assert_eq!(keep(&floor, text).refusal, refusal::BAD_NAME, "{text}");
+        assert_eq!(forget(&floor, text).refusal, refusal::BAD_NAME, "{text}");
+        assert_eq!(recall(&floor, text).refusal, refusal::BAD_NAME, "{text}");
     }
     let letters = *b"A\0B\0\0\0\0\0";
-    assert_eq!(keep(&floor, Name { letters }).refusal, 44);
+    assert_eq!(keep(&floor, Name { letters }).refusal, refusal::BAD_NAME);
     let mut malformed = floor;
     malformed.layouts[0].set = 0;
-    assert_eq!(recall(&malformed, "ABCDEFGHI").refusal, 30);
+    assert_eq!(recall(&malformed, "ABCDEFGHI").refusal, refusal::MALFORMED);
     assert_eq!(Name::from("NETS").to_string(), "NETS");
     assert_eq!(Name::from("NETSOUTHS").letters, [0; 8]);
 }
@@ -244,7 +255,7 @@ fn images() {
     let loaded = load(&buffer[..64]);
     assert_eq!((loaded.refusal, loaded.floor), (0, floor));
     for length in 1..64 {
-        assert_eq!(load(&buffer[..length]).refusal, 9);
+        assert_eq!(load(&buffer[..length]).refusal, refusal::IMAGE_ENDS);
     }
 }
 
@@ -254,11 +265,14 @@ fn refused_writes() {
     let floor = fresh(SETTINGS).floor;
     let mut buffer = [0x5a; 64];
     for size in 0..64 {
-        assert_eq!(write(&floor, &mut buffer[..size]), Err(13));
+        assert_eq!(
+            write(&floor, &mut buffer[..size]),
+            Err(refusal::SHORT_BUFFER)
+        );
     }
     let mut malformed = floor;
     malformed.tiles[0].running = 2;
-    assert_eq!(write(&malformed, &mut buffer), Err(30));
+    assert_eq!(write(&malformed, &mut buffer), Err(refusal::MALFORMED));
     assert_eq!(buffer, [0x5a; 64]);
 }
 

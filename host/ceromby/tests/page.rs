@@ -2,7 +2,7 @@
 
 mod common;
 
-use ceromby::{book, fresh, load, page, round, stop, Canister, LONGEST_PAGE};
+use ceromby::{book, fresh, load, page, refusal, round, stop, Canister, LONGEST_PAGE};
 use common::SETTINGS;
 
 #[test]
@@ -46,9 +46,12 @@ fn refusals() {
     malformed.tiles[0].running = 2;
     let mut buffer = [0x5a; 18];
     for size in 0..18 {
-        assert_eq!(page(&floor, &mut buffer[..size]), Err(43));
-        assert_eq!(page(&malformed, &mut buffer[..size]), Err(30));
+        assert_eq!(page(&floor, &mut buffer[..size]), Err(refusal::SHORT_PAGE));
+        assert_eq!(
+            page(&malformed, &mut buffer[..size]),
+            Err(refusal::MALFORMED)
+        );
     }
-    assert_eq!(page(&malformed, &mut buffer), Err(30));
+    assert_eq!(page(&malformed, &mut buffer), Err(refusal::MALFORMED));
     assert_eq!(buffer, [0x5a; 18]);
 }

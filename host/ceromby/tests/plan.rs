@@ -2,8 +2,8 @@
 
 mod common;
 
-use ceromby::plan::{offer, release, report, MAX_ENTRIES};
-use ceromby::{fresh, round, stop, Entry, Plan, Stage};
+use ceromby::plan::{offer, release, report, MAX_ENTRIES, STAGE_DELIVERED};
+use ceromby::{fresh, refusal, round, stop, Entry, Plan, Stage};
 use common::SETTINGS;
 
 #[test]
@@ -19,7 +19,7 @@ fn one_after_the_other() {
         for _ in 0..4 {
             assert_eq!(plan.entries[at].stage(), Stage::Booked(number));
             assert_eq!(offer(&plan), Ok(None));
-            assert_eq!(release(&plan, &floor, 9).refusal, 48);
+            assert_eq!(release(&plan, &floor, 9).refusal, refusal::NOT_RELEASED);
             let rounded = round(&floor);
             let planned = report(&plan, &rounded.report);
             assert_eq!(planned.refusal, 0);
@@ -40,12 +40,12 @@ fn refusals() {
     let one = Entry::waiting(1, 0, 0, 0);
     let plan = Plan::of(&[one, Entry::waiting(2, 1, 0, 0), Entry::waiting(3, 9, 0, 0)]);
     for (floor, label, refusal) in [
-        (malformed, 1, 30),
-        (floor, 4, 48),
-        (floor, 257, 48),
-        (floor, 3, 4),
-        (floor, 2, 5),
-        (halted, 1, 31),
+        (malformed, 1, refusal::MALFORMED),
+        (floor, 4, refusal::NOT_RELEASED),
+        (floor, 257, refusal::NOT_RELEASED),
+        (floor, 3, refusal::NO_TILE),
+        (floor, 2, refusal::NOT_A_SOURCE),
+        (halted, 1, refusal::STOPPED),
     ] {
         let released = release(&plan, &floor, label);
         assert_eq!((released.refusal, released.place()), (refusal, None));
@@ -53,19 +53,22 @@ fn refusals() {
         assert_eq!((released.number, released.a, released.b), (0, 0, 0));
     }
     for (bad, refusal) in [
-        (Plan::of(&[one, one]), 47),
-        (Plan::of(&[Entry::waiting(65, 0, 0, 0)]), 47),
-        (Plan::of(&[one, Entry::waiting(2, 0, 2, 0)]), 47),
-        (Plan::of(&[one; MAX_ENTRIES + 1]), 30),
+        (Plan::of(&[one, one]), refusal::BAD_LABEL),
+        (Plan::of(&[Entry::waiting(65, 0, 0, 0)]), refusal::BAD_LABEL),
+        (
+            Plan::of(&[one, Entry::waiting(2, 0, 2, 0)]),
+            refusal::BAD_LABEL,
+        ),
+        (Plan::of(&[one; MAX_ENTRIES + 1]), refusal::MALFORMED),
         (
             Plan::of(&[
                 one,
                 Entry {
-                    stage: 2,
+                    stage: STAGE_DELIVERED,
                     ..Entry::waiting(2, 0, 1, 0)
                 },
             ]),
-            30,
+            refusal::MALFORMED,
         ),
     ] {
         assert_eq!(offer(&bad), Err(refusal));
@@ -75,5 +78,5 @@ fn refusals() {
     }
     let mut told = round(&floor).report;
     told.deliveries[3].count = 5;
-    assert_eq!(report(&plan, &told).refusal, 30);
+    assert_eq!(report(&plan, &told).refusal, refusal::MALFORMED);
 }

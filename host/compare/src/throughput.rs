@@ -1,6 +1,7 @@
 //! Throughput records (request [2]): feeds made by both, held to the paper by
 //! arithmetic on f64, and what the runs met of them.
 
+use ceromby::{FED_CLOSED, FED_OPEN, FED_REFUSED};
 use oracle::random::Rng;
 use oracle::{Canister, Fed, FeedAnswer, Floor, Report, Throughput, MAX_HOPPERS, WINDOW};
 
@@ -22,9 +23,9 @@ pub fn by_library(record: &Throughput, count: u32) -> FeedAnswer {
     let answer = FeedAnswer {
         throughput: from(&told.throughput),
         fed: match (told.kind, told.refusal, told.rounds, told.rate.to_bits()) {
-            (0, refusal, 0, 0) => Err(refusal),
-            (1, 0, rounds, 0) => Ok(Fed::Open { rounds }),
-            (2, 0, 0, _) => Ok(Fed::Closed { rate: told.rate }),
+            (FED_REFUSED, refusal, 0, 0) => Err(refusal),
+            (FED_OPEN, 0, rounds, 0) => Ok(Fed::Open { rounds }),
+            (FED_CLOSED, 0, 0, _) => Ok(Fed::Closed { rate: told.rate }),
             _ => panic!("feed answers {told:?}"),
         },
     };
