@@ -246,6 +246,7 @@ typedef struct ceromby_throughput {
 #define CEROMBY_FED_OPEN 1   /* it is still open; ceromby_fed.rounds says how many it has, 1 to 255, this one included */
 #define CEROMBY_FED_CLOSED 2 /* this was its 256th; ceromby_fed.rate is its rate */
 
+/* `Told` in Rattle and Rust. */
 typedef struct ceromby_fed {
     ceromby_throughput throughput; /* where refused, as it came, bit for bit */
     double rate;                   /* 0 unless the window closed */
@@ -291,9 +292,9 @@ typedef struct ceromby_released {
     uint8_t refusal;
 } ceromby_released;
 
-/* Four floors, numbered 0 to 3, with a joint allowance of canisters aboard. A barge isn't sound, and is refused by 30, if the
-   allowance isn't 1 to 4,032, or if any floor isn't well formed. More canisters than that may be aboard: then nothing is
-   booked until enough have been delivered. */
+/* Four floors, numbered 0 to 3, with a joint allowance of canisters aboard. A barge isn't sound, and is refused by 30, if
+   the allowance isn't 1 to 4,032, or if any floor isn't well formed. More canisters than that may be aboard: then nothing
+   is booked until enough have been delivered. */
 typedef struct ceromby_barge {
     ceromby_floor floors[CEROMBY_FLOORS];
     uint32_t allowance;
@@ -357,10 +358,10 @@ ceromby_rounded ceromby_round(ceromby_floor floor);
 ceromby_reading ceromby_read(ceromby_floor floor, uint32_t tile);
 
 /* The floor of an image. Refused by the first fault in reading order: within a record 9, 10, 11, then 1, 2, 3; then 9 for
-   bytes left over, then 12. With several hoppers the settings' record has 28 bytes, the set last and its
-   lowest tile as the hopper byte (else 11; not tested for an empty set), and is 2 unless that has
-   two to four tiles of the floor; the counters' record has one delivered counter for each. Up to eight layouts follow
-   the counters, each in a record of 16 bytes (else 11); a ninth is 10. Older images have none.
+   bytes left over, then 12. With several hoppers the settings' record has 28 bytes, the set last and its lowest tile as the
+   hopper byte (else 11; not tested for an empty set), and is 2 unless that has two to four tiles of the floor; the counters'
+   record has one delivered counter for each. Up to eight layouts follow the counters, each in a record of 16 bytes (else
+   11); a ninth is 10. Older images have none.
 
    Zero bytes, the image file of a new controller, load the standard floor, fresh: W 4, H 4, hopper 10, fill tile 4, U 1,000,
    l 250, r 50, v 200. So ceromby_load(bytes, 0) gives that floor to a caller that doesn't know the figures (bytes: any
@@ -396,13 +397,15 @@ ceromby_offered ceromby_plan_offer(ceromby_plan plan);
 ceromby_released ceromby_plan_release(ceromby_plan plan, ceromby_floor floor, uint32_t label);
 
 /* Marks delivered the booked entries whose numbers a round's report lists for any hopper, and changes nothing else. Hand in
-   every report from the first release on. Refused by 30 (the plan isn't sound, or a ceromby_delivery.count is above 4), 47. */
+   every report from the first release on. Refused by 30 (the plan isn't sound, or a ceromby_delivery.count is above 4),
+   47. */
 ceromby_planned ceromby_plan_report(ceromby_plan plan, ceromby_report report);
 
-/* The calls on a floor of a barge. Each does to the floor of that number what the call without a barge does to a lone one, and
-   leaves the other three and the allowance. A refused one gives the barge that was handed in. First comes 30 (the barge isn't
-   sound), then 49, then what the call is refused by on a lone floor, and last, for the two bookings, 50: as many canisters are
-   aboard, on all four floors together, as the allowance, or more. Each delivery, on any floor, makes room for one more. */
+/* The calls on a floor of a barge. Each does to the floor of that number what the call without a barge does to a lone one,
+   and leaves the other three and the allowance. A refused one gives the barge that was handed in. First comes 30 (the barge
+   isn't sound), then 49, then what the call is refused by on a lone floor, and last, for the two bookings, 50: as many
+   canisters are aboard, on all four floors together, as the allowance, or more. Each delivery, on any floor, makes room for
+   one more. */
 
 /* Refused by 30, 49, 4, 5, 6, 7, 31, 33, 34, 50. */
 ceromby_barge_answer ceromby_barge_book(ceromby_barge barge, uint32_t floor, uint32_t tile, ceromby_canister canister);
