@@ -8,8 +8,8 @@
 
    What the caller owes: a pointer to `length` bytes, or for ceromby_book_list to `length` entries, that stay valid and
    that nobody else writes during the call (any pointer but NULL where length is 0); for ceromby_write, ceromby_page and
-   ceromby_book_list nobody else reads them either. A floor takes 8,696 bytes, and a call about 100 KB of stack; a barge takes
-   34,792 bytes, and a call with one about 210 KB of stack. */
+   ceromby_book_list nobody else reads them either. A floor takes 8,696 bytes, and a call about 105 KB of stack; a barge
+   takes 34,792 bytes, and a call with one about 210 KB of stack (measured, not proved: docs/TESTING.md). */
 
 #ifndef CEROMBY_H
 #define CEROMBY_H
