@@ -17,6 +17,7 @@ use floor::SOUTH;
 use floor::Settings;
 use floor::Tile;
 use floor::WEST;
+use floor::reason;
 
 fn side(code: u8) {
     match code {
@@ -268,12 +269,12 @@ pub fn counters(c: Counters, hoppers: u64, round: u64) {
 }
 
 // What a reason says.
-fn reason(n: u8, lack: u16) {
+fn stood(n: u8, lack: u16) {
     match n {
-        1 => text(b" stood: stopped"),
-        3 => text(b" stood: no arrow"),
-        4 => text(b" stood: the turn ahead was another's"),
-        5 => {
+        reason::STOPPED => text(b" stood: stopped"),
+        reason::NO_ARROW => text(b" stood: no arrow"),
+        reason::TURN => text(b" stood: the turn ahead was another's"),
+        reason::NO_GAP => {
             text(b" stood: no gap ahead, ");
             number(lack as u64);
             text(b" mm missing");
@@ -284,12 +285,12 @@ fn reason(n: u8, lack: u16) {
 
 // Why tile t stood, one line; nothing of an empty tile, nor where no tile is. Gives whether there was a line.
 fn why_tile(t: usize, n: u8, lack: u16) -> bool {
-    if (n == 0) | (n == 2) {
+    if (n == 0) | (n == reason::EMPTY) {
         return false;
     }
     text(b"      tile ");
     number(t as u64);
-    reason(n, lack);
+    stood(n, lack);
     text(b"\n");
     true
 }

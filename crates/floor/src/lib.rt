@@ -9,6 +9,7 @@ ghost use Rattle.floor.specs.Sides.{inSet};
 ghost use Rattle.floor.specs.Grid as G;
 ghost use Rattle.floor.specs.Memory.{zeroFloor};
 
+pub mod reason;
 pub mod refusals;
 
 // A canister: its number, never 0, and its place, the south-west corner measured from the tile's.

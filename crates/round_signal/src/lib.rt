@@ -18,6 +18,7 @@ use floor::Members;
 use floor::Settings;
 use floor::Side;
 use floor::Tile;
+use floor::reason;
 use round_grants::Signal;
 use round_grants::signal_tile;
 
@@ -67,13 +68,13 @@ fn own_reason(tile: Tile) -> u8
     ensures { λ r. ⌜ r ≡ ownReason tile ⌝ }
 {
     if tile.running != 1 {
-        return 1;
+        return reason::STOPPED;
     }
     if tile.count == 0 {
-        return 2;
+        return reason::EMPTY;
     }
     if tile.next.code == 0 {
-        return 3;
+        return reason::NO_ARROW;
     }
     0
 }
@@ -85,12 +86,12 @@ fn ahead_reason(next: Side, turn: Side, lack: u32) -> u8
 {
     let facing = turn.opposite();
     if next.code != facing.code {
-        return 4;
+        return reason::TURN;
     }
     if 0 < lack {
-        return 5;
+        return reason::NO_GAP;
     }
-    6
+    reason::MOVED
 }
 
 // The millimetres beside a reason.
@@ -98,7 +99,11 @@ fn beside(why: u8, lack: u32) -> u16
     requires { ⌜ lack < 2 ^ 16 ⌝ }
     ensures { λ r. ⌜ r ≡ cond (eqb why 5) lack 0 ⌝ }
 {
-    if why == 5 { lack as u16 } else { 0 }
+    if why == reason::NO_GAP {
+        lack as u16
+    } else {
+        0
+    }
 }
 
 // Tile t's signal, from its sixteen places and what all tiles show.
