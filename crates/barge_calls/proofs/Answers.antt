@@ -3,20 +3,19 @@ use mathlib.Core.Path.{_≡_, sym, ap, _∙_}
 use mathlib.Core.Logic.{_≢_}
 use mathlib.Core.Bool.{Bool, true, false, cond, not}
 use mathlib.Core.List.{List, [], _∷_}
-use Prim.Native.Nat.{ℕ, _<_}
+use Prim.Native.Nat.{ℕ}
 use lib.Dec.{leb, eqb}
 use borrow.Author.Tests.{ne-eqb, lt-leb}
 use Rattle.laws.specs.Define.{refusal}
 use Rattle.floor.specs.declared.Floor.{Floor}
 use Rattle.floor.specs.declared.Report.{Report}
-use Rattle.floor.specs.Well.{wellFormed}
-use Rattle.floor.specs.Calls.{zeroReport, roundAnswer}
-use Rattle.floor.proofs.Lists.{round-accepted}
+use Rattle.floor.specs.Calls.{zeroReport}
 use Rattle.barge.specs.declared.Barge.{Barge}
 use Rattle.barge.specs.declared.BargeAnswer.{BargeAnswer}
 use Rattle.barge.specs.declared.BargePlaced.{BargePlaced}
 use Rattle.barge.specs.declared.BargeRounded.{BargeRounded}
 use Rattle.barge.specs.Barges.{withFloor, aboard, bargeSound, bargeRefusal, allowed, bargeWith}
+use Rattle.barge_parts.proofs.Joint.{On}
 
 module _ (b : Barge) (k own : ℕ) (last : List (Bool × ℕ)) where
   -- ---- the number
@@ -29,24 +28,20 @@ module _ (b : Barge) (k own : ℕ) (last : List (Bool × ℕ)) where
       go true false e = absurd (z e)
       go false t e = sym e
 
-  module _ (s : bargeSound b ≡ true) (on : k < 4) where
-    pub by-own : own ≢ 0 → bargeRefusal b k own last ≡ own
+  module _ (B : On b k) where
+    -- n: what the call on the floor alone was found to answer
+    pub by-own : (n : ℕ) → n ≡ own → n ≢ 0 → bargeRefusal b k own last ≡ n
     unfolding bargeRefusal refusal
-    by-own z = rw (s, lt-leb 4 k on, ne-eqb own 0 z)
+    by-own n e z = rw (B .sound, lt-leb 4 k (B .named), ne-eqb own 0 (λ q. z (e ∙ q))) (sym e)
 
     pub by-last : own ≡ 0 → (n : ℕ) → n ≡ refusal last → bargeRefusal b k own last ≡ n
     unfolding bargeRefusal refusal
-    by-last z n e = rw (s, lt-leb 4 k on, z) (sym e)
+    by-last z n e = rw (B .sound, lt-leb 4 k (B .named), z) (sym e)
 
 -- the last test of a booking, by the total that was found
-pub by-total : (b : Barge) (total n : ℕ) → total ≡ aboard b → n ≡ refusal ((leb (b .allowance) total, 50) ∷ []) → n ≡ refusal (allowed b)
+pub by-total : (b : Barge) (k own : ℕ) → On b k → own ≡ 0 → (total n : ℕ) → total ≡ aboard b → n ≡ refusal ((leb (b .allowance) total, 50) ∷ []) → bargeRefusal b k own (allowed b) ≡ n
 unfolding allowed
-by-total b total n a e = e ∙ ap (λ (x : ℕ). refusal ((leb (b .allowance) x, 50) ∷ [])) a
-
--- a round on a floor alone is refused by 30 only
-pub round-passes : (f : Floor) → wellFormed f ≡ true → roundAnswer f .refusal ≡ 0
-unfolding roundAnswer
-round-passes f w = round-accepted f w
+by-total b k own B z total n a e = by-last b k own (allowed b) B z n (e ∙ ap (λ (x : ℕ). refusal ((leb (b .allowance) x, 50) ∷ [])) a)
 
 -- ---- the answer, m being the number
 module _ (b : Barge) (k : ℕ) (f : Floor) (m n : ℕ) (e : m ≡ n) where

@@ -7,7 +7,6 @@ use barge::BargePlaced;
 use barge::BargeRounded;
 use barge_parts::begin;
 use barge_parts::last_refusal;
-use barge_parts::no_report;
 use book_anywhere::anywhere_checked;
 use book_call::book_checked;
 use call_parts::repair_refusal;
@@ -15,6 +14,7 @@ use call_parts::repaired_floor;
 use call_parts::stop_refusal;
 use call_parts::stopped_floor;
 use floor::Canister;
+use floor::Report;
 use round_move::run_round;
 
 // Books a canister on a fill tile of one floor. The barge is copied once and has one way out: each further way costs another copy of four floors.
@@ -125,7 +125,7 @@ pub fn round(barge: Barge, floor: u32) -> BargeRounded
 {
     let begun = begin(barge, floor);
     let mut changed = barge;
-    let mut report = no_report();
+    let mut report = Report::ZERO;
     if begun.refusal == 0 {
         let k = floor as usize;
         let old = changed.floors[k];

@@ -13,8 +13,9 @@ use Rattle.laws.proofs.Tests.{and-right, test-none}
 use Rattle.laws.proofs.Lists.{get-same}
 use Rattle.laws.proofs.Tables.{below-at}
 use Rattle.floor.specs.declared.Floor.{Floor}
-use Rattle.floor.specs.Memory.{zeroFloor, view}
+use Rattle.floor.specs.Memory.{zeroSettings, zeroCounters, zeroFloor, view}
 use Rattle.floor.specs.Well.{wellFormed}
+use Rattle.floor.specs.Move.{withDelivered}
 use Rattle.floor.proofs.Pack.{well-sound}
 use Rattle.barge.specs.declared.Barge.{Barge}
 use Rattle.barge.specs.Barges.{floorAt, onFloor, aboard, allowanceSound, bargeSound}
@@ -47,13 +48,7 @@ all-four p (a ∷ b ∷ c ∷ d ∷ x ∷ l) z e = absurd (omega arith)
 
 -- ---- one floor, as the code reads it; beyond the fourth, which is never read, another one than `floorAt` has
 abbrev blank : Floor
-blank = record {
-  settings = record { columns = 0; rows = 0; hoppers = 0; sources = 0; width = 0; length = 0; gap = 0; travel = 0 };
-  counters = record { last = 0; booked = 0; delivered = [] };
-  tiles = [];
-  canisters = [];
-  layouts = [];
-}
+blank = record { settings = zeroSettings; counters = withDelivered zeroCounters []; tiles = []; canisters = []; layouts = [] }
 
 abbrev pub readAt : Barge → ℕ → Floor
 readAt b k = getD (b .floors) k blank
@@ -113,9 +108,17 @@ pub counted-all : (b : Barge) → length (b .floors) ≡ 4 → bargeSound b ≡ 
 unfolding aboard
 counted-all b e s = counted-is b e (read-well b e s)
 
--- 30 and 49 are passed
-pub begun-on : (b : Barge) (k n : ℕ) → n ≡ refusal ((not (bargeSound b), 30) ∷ (leb 4 k, 49) ∷ []) → n ≡ 0 → (bargeSound b ≡ true) × (k < 4)
-begun-on b k n e z =
+-- 30 and 49 are passed: the floor that the call names
+pub record On (b : Barge) (k : ℕ) : Type 0 where
+  pub sound : bargeSound b ≡ true
+  pub named : k < 4
+  pub well : wellFormed (readAt b k) ≡ true
+  pub is : readAt b k ≡ floorAt b k
+
+pub begun-on : (b : Barge) (k n : ℕ) → length (b .floors) ≡ 4 → n ≡ refusal ((not (bargeSound b), 30) ∷ (leb 4 k, 49) ∷ []) → n ≡ 0 → On b k
+begun-on b k n four e z =
     let x = test-none (not (bargeSound b)) 30 ((leb 4 k, 49) ∷ []) (omega arith) (sym e ∙ z) in
     let y = test-none (leb 4 k) 49 [] (omega arith) (x .1) in
-    (not-false (bargeSound b) (x .0), leb-false 4 k (y .0))
+    let s = not-false (bargeSound b) (x .0) in
+    let h = leb-false 4 k (y .0) in
+    record { sound = s; named = h; well = read-well b four s k h; is = read-is b k four h }

@@ -1,11 +1,10 @@
-// How a call on a barge begins and ends: the check of the whole barge, the joint total, the refusals 30, 49 and 50, a report of zeros.
+// How a call on a barge begins and ends: the check of the whole barge, the joint total, the refusals 30, 49 and 50.
 ghost use mathlib.Core.Path.{_≡_};
 ghost use mathlib.Core.Bool.{true, cond, not};
 ghost use mathlib.Core.List.{[], _∷_};
 ghost use Prim.Native.Nat.{_-_, _≤_, _<_};
 ghost use lib.Dec.{leb};
 ghost use Rattle.laws.specs.Define.{sum, refusal};
-ghost use Rattle.floor.specs.Calls.{zeroReport};
 ghost use Rattle.barge.specs.Barges.{aboard, bargeSound};
 use barge::Barge;
 use barge::MAX_ALLOWANCE;
@@ -13,8 +12,6 @@ use barge::NO_FLOOR;
 use barge::OVERLOADED;
 use check_floor::well_formed;
 use floor::Counters;
-use floor::Delivery;
-use floor::Report;
 use floor::refusals;
 
 // The canisters on a floor, by its counters; 0 where it is malformed.
@@ -75,21 +72,5 @@ pub fn begin(barge: Barge, floor: u32) -> Begun
     Begun {
         total: total,
         refusal: number,
-    }
-}
-
-// A report of zeros.
-pub fn no_report() -> Report
-    ensures { λ r. ⌜ r ≡ zeroReport ⌝ }
-{
-    let none = Delivery {
-        numbers: [0; 4],
-        count: 0,
-    };
-    Report {
-        grants: [0; 64],
-        reasons: [0; 64],
-        missing: [0; 64],
-        deliveries: [none; 4],
     }
 }

@@ -12,14 +12,15 @@ use Rattle.floor.specs.declared.Floor.{Floor}
 use Rattle.floor.specs.declared.Answer.{Answer}
 use Rattle.floor.specs.Well.{wellFormed}
 use Rattle.floor.specs.Demand3.{Call, book, Typed, outcome, floorAfter, bookedIn, reportedIn}
+use Rattle.floor.specs.Together.{answersIn}
 use Rattle.floor.proofs.Chain.{bookedBy, Made, books}
-use Rattle.floor.proofs.Lists.{after-both}
+use Rattle.floor.proofs.Lists.{after-both, booked-both, reported-both}
 use Rattle.floor.proofs.Theorem.{demand3}
 use Rattle.book_list.specs.declared.Booking.{Booking}
 use Rattle.book_list.specs.declared.Listed.{Listed}
 use Rattle.book_list.specs.Listing.{answered, single, floorSingly, entriesSingly, tooLong, listAnswer, listAfter}
 use Rattle.book_list.specs.Parts.{placesAnswer}
-use Rattle.book_list.specs.Singly.{callsOf, answersIn, acceptedIn, Singly, Covered, ByValue, BookingLists}
+use Rattle.book_list.specs.Singly.{callsOf, acceptedIn, Singly, Covered, ByValue, BookingLists}
 use Rattle.book_list.proofs.Kept.{book-malformed}
 
 -- ---- at most 64 entries: the call is its bookings made singly
@@ -101,16 +102,6 @@ unfolding listAnswer listAfter floorSingly entriesSingly
 list-empty f = (refl, refl)
 
 -- ---- among other calls
-both-booked : (f : Floor) (cs ds : List Call) → bookedIn f (cs ++ ds) ≡ bookedIn f cs ++ bookedIn (floorAfter f cs) ds
-unfolding floorAfter bookedIn
-both-booked f [] ds = refl
-both-booked f (c ∷ cs) ds = ap (λ k. outcome f c .booked ++ k) (both-booked (outcome f c .floor) cs ds) ∙ sym (append-assoc (outcome f c .booked) _ _)
-
-both-reported : (f : Floor) (cs ds : List Call) (k : ℕ) → reportedIn f (cs ++ ds) k ≡ reportedIn f cs k ++ reportedIn (floorAfter f cs) ds k
-unfolding floorAfter reportedIn
-both-reported f [] ds k = refl
-both-reported f (c ∷ cs) ds k = ap (λ t. outcome f c .reported k ++ t) (both-reported (outcome f c .floor) cs ds k) ∙ sym (append-assoc (outcome f c .reported k) _ _)
-
 list-covered : (f : Floor) (before : List Call) (l : List Booking) (after : List Call) → length l ≤ 64 → Covered f before l after
 list-covered f before l after h =
     let here = floorAfter f before in
@@ -123,9 +114,9 @@ list-covered f before l after h =
       next = listAnswer here l .floor;
       is-next = refl;
       same-floor = after-both f before (callsOf l ++ after) ∙ after-both here (callsOf l) after ∙ ap (λ (g : Floor). floorAfter g after) e;
-      same-booked = both-booked f before (callsOf l ++ after) ∙ ap (λ t. bookedIn f before ++ t) (both-booked here (callsOf l) after ∙ (λ i. b i ++ bookedIn (e i) after));
-      same-reported = λ k. both-reported f before (callsOf l ++ after) k
-          ∙ ap (λ t. reportedIn f before k ++ t) (both-reported here (callsOf l) after k ∙ (λ i. S .none-reported k i ++ reportedIn (e i) after k));
+      same-booked = booked-both f before (callsOf l ++ after) ∙ ap (λ t. bookedIn f before ++ t) (booked-both here (callsOf l) after ∙ (λ i. b i ++ bookedIn (e i) after));
+      same-reported = λ k. reported-both f before (callsOf l ++ after) k
+          ∙ ap (λ t. reportedIn f before k ++ t) (reported-both here (callsOf l) after k ∙ (λ i. S .none-reported k i ++ reportedIn (e i) after k));
       promises = λ w ts us vs. demand3 f w (before ++ (callsOf l ++ after)) (all-append Typed before (callsOf l ++ after) ts (all-append Typed (callsOf l) after us vs));
     }
 

@@ -8,9 +8,14 @@ use borrow.Author.Tests.{ltb-false}
 use lib.ListN.{length, getD, set, take, drop}
 use Rattle.floor.specs.declared.Floor.{Floor}
 use Rattle.floor.specs.declared.Answer.{Answer}
+use Rattle.floor.specs.Memory.{zeroCanister}
 use Rattle.book_list.specs.declared.Booking.{Booking}
 use Rattle.book_list.specs.Listing.{floorSingly, entriesSingly, tooLong, listAnswer, listAfter}
 use Rattle.book_list.specs.Parts.{entryOf, entriesOf, answerOf}
+
+-- what is read where no entry is
+abbrev pub zeroBooking : Booking
+zeroBooking = record { tile = 0; canister = zeroCanister; answer = 0 }
 
 abbrev pub floorUpto : ℕ → Floor → List Booking → Floor
 floorUpto zero f xs = f

@@ -9,7 +9,8 @@ use lib.ListN.{length, take, drop}
 use Rattle.laws.specs.Every.{All}
 use Rattle.floor.specs.declared.Floor.{Floor}
 use Rattle.floor.specs.Well.{wellFormed}
-use Rattle.floor.specs.Demand3.{Call, book, Typed, outcome, floorAfter, bookedIn, reportedIn, Promises}
+use Rattle.floor.specs.Demand3.{Call, book, Typed, floorAfter, bookedIn, reportedIn, Promises}
+use Rattle.floor.specs.Together.{answersIn}
 use Rattle.book_list.specs.declared.Booking.{Booking}
 use Rattle.book_list.specs.Listing.{answered, listAnswer, listAfter}
 use Rattle.book_list.specs.Parts.{placesAnswer}
@@ -17,11 +18,6 @@ use Rattle.book_list.specs.Parts.{placesAnswer}
 -- the entries as single bookings, calls of demand 3
 abbrev pub callsOf : List Booking → List Call
 callsOf l = map (λ b. book (b .tile) (b .canister)) l
-
--- what a list of calls answers, in its order
-unfoldable pub answersIn : Floor → List Call → List ℕ
-answersIn f [] = []
-answersIn f (c ∷ cs) = outcome f c .refusal ∷ answersIn (outcome f c .floor) cs
 
 -- the numbers of the entries that were accepted, by the answers written in them
 abbrev pub acceptedIn : List Booking → List ℕ

@@ -1,10 +1,11 @@
 -- What stop, repair and fresh leave in memory is the changed value, packed.
-use mathlib.Core.Path.{_≡_, refl, ap, _∙_}
+use mathlib.Core.Path.{_≡_, ap, _∙_}
 use mathlib.Core.Bool.{true, false}
 use mathlib.Core.List.{List, []}
-use Prim.Native.Nat.{ℕ, zero, suc, _≤_, _<_}
+use Prim.Native.Nat.{ℕ, _≤_, _<_}
 use lib.ListN.{length, getD, set, replicate, length-replicate, getD-replicate}
 use Rattle.laws.specs.Filled.{Upto, From}
+use Rattle.laws.proofs.Tables.{zeros-at}
 use Rattle.floor.specs.declared.Settings.{Settings}
 use Rattle.floor.specs.declared.Tile.{Tile}
 use Rattle.floor.specs.declared.Floor.{Floor}
@@ -54,12 +55,7 @@ fresh-other s t e = rw e
 
 pub zero-tiles : (z : Floor) → z ≡ zeroFloor → (i : ℕ) → getD (z .tiles) i zeroTile ≡ zeroTile
 unfolding zeroFloor
-zero-tiles z e i = ap (λ (x : Floor). getD (x .tiles) i zeroTile) e ∙ same 64 i
-  where
-    same : (n i : ℕ) → getD (replicate n zeroTile) i zeroTile ≡ zeroTile
-    same zero i = refl
-    same (suc n) zero = refl
-    same (suc n) (suc i) = same n i
+zero-tiles z e i = ap (λ (x : Floor). getD (x .tiles) i zeroTile) e ∙ zeros-at zeroTile 64 i
 
 pub fresh-few : (s : Settings) → settingsPass s ≡ true → total s ≤ 64
 fresh-few s p = settings-fact s .0 p .few

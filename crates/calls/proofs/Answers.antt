@@ -1,5 +1,5 @@
 -- The answers of fresh and of reading, refused and accepted, and of a refused round, as the definitions give them.
-use mathlib.Core.Path.{_≡_, sym, ap}
+use mathlib.Core.Path.{_≡_, sym}
 use mathlib.Core.Logic.{_≢_}
 use mathlib.Core.Bool.{false}
 use mathlib.Core.List.{List, []}
@@ -13,7 +13,6 @@ use Rattle.floor.specs.declared.Tile.{Tile}
 use Rattle.floor.specs.declared.Floor.{Floor}
 use Rattle.floor.specs.declared.Answer.{Answer}
 use Rattle.floor.specs.declared.Reading.{Reading}
-use Rattle.floor.specs.declared.Report.{Report}
 use Rattle.floor.specs.declared.Rounded.{Rounded}
 use Rattle.floor.specs.Settings.{settingsRefusal}
 use Rattle.floor.specs.Model.{tileOf, membersOf}
@@ -44,6 +43,6 @@ unfolding readAnswer
 read-accepted f t h items e p q = rw (e, p, q)
 
 -- ---- a round
-pub round-refused : (f : Floor) (r : Report) → wellFormed f ≡ false → r ≡ zeroReport → _≡_ {A = Rounded} (record { refusal = 30; floor = f; report = r }) (roundAnswer f)
+pub round-refused : (f : Floor) → wellFormed f ≡ false → _≡_ {A = Rounded} (record { refusal = 30; floor = f; report = zeroReport }) (roundAnswer f)
 unfolding roundAnswer
-round-refused f r w e = rw (malformed f [] w) (ap (λ (x : Report). record { refusal = 30; floor = f; report = x }) e)
+round-refused f w = rw (malformed f [] w)

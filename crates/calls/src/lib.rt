@@ -1,6 +1,6 @@
 // The calls on a floor; book, book_anywhere, book_list and, by value, book_places, and keep, forget and recall come from crates of their own. Each takes any bytes, and its contract determines the whole answer on all of them.
 ghost use mathlib.Core.Path.{_≡_};
-ghost use Rattle.floor.specs.Calls.{freshAnswer, stopAnswer, repairAnswer, readAnswer, zeroReport, roundAnswer};
+ghost use Rattle.floor.specs.Calls.{freshAnswer, stopAnswer, repairAnswer, readAnswer, roundAnswer};
 ghost use Rattle.calls.specs.Refused.{unreadWith};
 pub use book_anywhere::book_anywhere;
 pub use book_call::book;
@@ -18,7 +18,6 @@ use check_floor::well_formed;
 use check_settings::settings_refusal;
 use floor::Answer;
 use floor::Canister;
-use floor::Delivery;
 use floor::Floor;
 use floor::Reading;
 use floor::Report;
@@ -133,29 +132,16 @@ pub fn read(floor: Floor, tile: u32) -> Reading
     }
 }
 
-// A report of zeros.
-fn no_report() -> Report
-    ensures { λ r. ⌜ r ≡ zeroReport ⌝ }
-{
-    Report {
-        grants: [0; 64],
-        reasons: [0; 64],
-        missing: [0; 64],
-        deliveries: [Delivery::ZERO; 4],
-    }
-}
-
 // One round: Route and Signal, then Move.
 pub fn round(floor: Floor) -> Rounded
     ensures { λ r. ⌜ r ≡ roundAnswer floor ⌝ }
 {
     let well = well_formed(floor);
     if !well {
-        let report = no_report();
         return Rounded {
             refusal: refusals::MALFORMED,
             floor: floor,
-            report: report,
+            report: Report::ZERO,
         };
     }
     run_round(floor)

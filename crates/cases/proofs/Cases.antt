@@ -3,25 +3,19 @@ use mathlib.Core.Path.{_≡_, refl}
 use mathlib.Core.Bool.{true}
 use mathlib.Core.List.{List, [], _∷_, map}
 use Prim.Native.Nat.{ℕ, _-_, _^_}
-use lib.ListN.{set, replicate}
-use Rattle.floor.specs.declared.Canister.{Canister}
+use lib.ListN.{replicate}
 use Rattle.floor.specs.declared.Settings.{Settings}
-use Rattle.floor.specs.declared.Tile.{Tile}
-use Rattle.floor.specs.declared.Floor.{Floor}
 use Rattle.floor.specs.Settings.{settingsTests}
-use Rattle.floor.specs.Memory.{zeroFloor, view, retiled, refilled}
+use Rattle.floor.specs.Memory.{zeroFloor, view, refitted}
 use Rattle.floor.specs.Calls.{freshAnswer, bookTests, bookAnswer, stopTests, stopAnswer, repairTests, repairAnswer, readTests, readAnswer}
 use Rattle.floor.proofs.Calling.{got, settings, fresh, can, book, stop, repair, rounds, flat, on, tile, counted, setUp, refused, refusedRound, refusedReading, Table, holds}
+use Rattle.cases.proofs.Changed.{asked, head, withHead, withPlace, withCounts, seen}
 
 -- W, H, hopper, fill set; U, l, r, v
 unfoldable made : ℕ → ℕ → ℕ → ℕ → ℕ → ℕ → ℕ → ℕ → Settings
 made W H hopper fill U l r v = record { columns = W; rows = H; hoppers = 2 ^ hopper; sources = fill; width = U; length = l; gap = r; travel = v }
 
 -- ---- fresh
--- refused: the number, then 1 where the answer has the all-zero floor
-unfoldable asked : Settings → List ℕ
-asked s = refused (freshAnswer s) zeroFloor
-
 unfoldable accepted : Settings → List ℕ
 accepted s = freshAnswer s .refusal ∷ []
 
@@ -160,39 +154,21 @@ unfolding holds otherCases
 other-cases = refl
 
 -- ---- well formed, clause by clause: a sound floor with one thing changed is 30 in a reading, and one of them in every call
-unfoldable head : ℕ → ℕ → ℕ → ℕ → ℕ → Tile
-head running distance next token count = record { running = running; distance = distance; next = record { code = next }; token = record { code = token }; count = count }
-
-unfoldable withHead : ℕ → Tile → Floor → Floor
-withHead t h f = retiled f (set (f .tiles) t h)
-
-unfoldable withPlace : ℕ → Canister → Floor → Floor
-withPlace k c f = refilled f (f .counters) (f .tiles) (set (f .canisters) k c)
-
-unfoldable withCounts : ℕ → ℕ → ℕ → Floor → Floor
-withCounts last booked delivered f = refilled f (record { last = last; booked = booked; delivered = delivered ∷ 0 ∷ 0 ∷ 0 ∷ [] }) (f .tiles) (f .canisters)
-
-unfoldable withSettings : Settings → Floor → Floor
-withSettings s f = record { settings = s; counters = f .counters; tiles = f .tiles; canisters = f .canisters; layouts = f .layouts }
-
-unfoldable seen : Floor → List ℕ
-seen f = readAnswer f 0 .refusal ∷ []
-
 unfoldable wellCases : Table
 wellCases =
     let f = book 8 40 0 2 (book 6 0 0 2 (book 5 0 0 1 (rounds 2 (fresh 3 1 0)))) in
-    let bad = withCounts 8 4 0 f in
+    let bad = withCounts 8 4 [] f in
     -- the sound floor: 5 on tile 1; 6 and 8 on tile 2; written anew it stays sound
     (tile 1 f, 0 ∷ 1 ∷ 1 ∷ 1 ∷ 0 ∷ 5 ∷ 0 ∷ 0 ∷ [])
     ∷ (tile 2 f, 0 ∷ 1 ∷ 2 ∷ 1 ∷ 0 ∷ 6 ∷ 0 ∷ 0 ∷ 8 ∷ 40 ∷ 0 ∷ [])
-    ∷ (seen (withHead 1 (head 1 1 1 0 1) (withPlace 16 (can 5 0 0) (withCounts 8 3 0 f))), 0 ∷ [])
+    ∷ (seen (withHead 1 (head 1 1 1 0 1) (withPlace 16 (can 5 0 0) (withCounts 8 3 [] f))), 0 ∷ [])
     -- settings
-    ∷ (seen (withSettings (settings 3 1 0 30) f), 30 ∷ [])
+    ∷ (seen (refitted f (settings 3 1 0 30)), 30 ∷ [])
     -- the hopper stopped; with a distance, an arrow, a canister; facing no tile
     ∷ (seen (withHead 0 (head 0 0 0 0 0) f), 30 ∷ [])
     ∷ (seen (withHead 0 (head 1 1 0 0 0) f), 30 ∷ [])
     ∷ (seen (withHead 0 (head 1 0 4 0 0) f), 30 ∷ [])
-    ∷ (seen (withHead 0 (head 1 0 0 0 1) (withPlace 0 (can 7 0 0) (withCounts 8 4 0 f))), 30 ∷ [])
+    ∷ (seen (withHead 0 (head 1 0 0 0 1) (withPlace 0 (can 7 0 0) (withCounts 8 4 [] f))), 30 ∷ [])
     ∷ (seen (withHead 0 (head 1 0 0 4 0) f), 0 ∷ [])
     ∷ (seen (withHead 0 (head 1 0 0 1 0) f), 30 ∷ [])
     -- a running tile: distance 0, distance C, an arrow without a distance, a distance without an arrow; none of both
@@ -225,9 +201,9 @@ wellCases =
     ∷ (seen (withPlace 16 (can 9 0 0) f), 30 ∷ [])
     ∷ (seen (withPlace 16 (can 0 0 0) f), 30 ∷ [])
     -- booked is not delivered and those on the floor; booked above the last, and equal to it
-    ∷ (seen (withCounts 8 3 1 f), 30 ∷ [])
-    ∷ (seen (withCounts 8 9 6 f), 30 ∷ [])
-    ∷ (seen (withCounts 8 8 5 f), 0 ∷ [])
+    ∷ (seen (withCounts 8 3 (1 ∷ []) f), 30 ∷ [])
+    ∷ (seen (withCounts 8 9 (6 ∷ []) f), 30 ∷ [])
+    ∷ (seen (withCounts 8 8 (5 ∷ []) f), 0 ∷ [])
     -- an unused place, a place of a tile from C on, such a tile
     ∷ (seen (withPlace 17 (can 0 0 1) f), 30 ∷ [])
     ∷ (seen (withPlace 1023 (can 0 1 0) f), 30 ∷ [])
@@ -241,5 +217,5 @@ wellCases =
     ∷ []
 
 well-cases : holds wellCases ≡ true
-unfolding holds head withHead withPlace withCounts withSettings seen wellCases
+unfolding holds head withHead withPlace withCounts seen wellCases
 well-cases = refl

@@ -1,24 +1,17 @@
 -- Cases with several hoppers, through the answers of the calls. A row is what the answers give, then what is due.
 use mathlib.Core.Path.{_≡_, refl}
 use mathlib.Core.Bool.{true}
-use mathlib.Core.List.{List, [], _∷_}
+use mathlib.Core.List.{[], _∷_}
 use Prim.Native.Nat.{ℕ}
-use lib.ListN.{set}
-use Rattle.floor.specs.declared.Canister.{Canister}
 use Rattle.floor.specs.declared.Floor.{Floor}
 use Rattle.floor.specs.declared.Settings.{Settings}
-use Rattle.floor.specs.declared.Tile.{Tile}
-use Rattle.floor.specs.Memory.{zeroFloor, retiled, refilled}
-use Rattle.floor.specs.Calls.{freshAnswer, bookAnswer, stopAnswer, readAnswer}
-use Rattle.floor.proofs.Calling.{got, several, can, book, stop, rounds, tile, distances, next, reportedTo, grant, counted, liveCount, refused, Table, holds}
+use Rattle.floor.specs.Calls.{freshAnswer, bookAnswer, stopAnswer}
+use Rattle.floor.proofs.Calling.{got, several, can, book, stop, rounds, tile, distances, next, reportedTo, grant, counted, liveCount, Table, holds}
+use Rattle.cases.proofs.Changed.{asked, head, withHead, withPlace, withCounts, seen}
 
 -- W, H and the hoppers' set; every other tile a fill tile
 unfoldable with : ℕ → ℕ → ℕ → Floor
 with W H hoppers = got (freshAnswer (several W H hoppers 20))
-
--- refused: the number, then 1 where the answer has the all-zero floor
-unfoldable asked : Settings → List ℕ
-asked s = refused (freshAnswer s) zeroFloor
 
 -- 4 × 1 with these fill tiles
 unfoldable filled : ℕ → ℕ → Settings
@@ -85,34 +78,19 @@ unfolding holds with roundCases
 round-cases = refl
 
 -- ---- well formed covers each hopper, and the counters beyond the last
-unfoldable head : ℕ → ℕ → ℕ → ℕ → ℕ → Tile
-head running distance next token count = record { running = running; distance = distance; next = record { code = next }; token = record { code = token }; count = count }
-
-unfoldable withHead : ℕ → Tile → Floor → Floor
-withHead t h f = retiled f (set (f .tiles) t h)
-
-unfoldable withPlace : ℕ → Canister → Floor → Floor
-withPlace k c f = refilled f (f .counters) (f .tiles) (set (f .canisters) k c)
-
-unfoldable withCounts : ℕ → ℕ → List ℕ → Floor → Floor
-withCounts last booked delivered f = refilled f (record { last = last; booked = booked; delivered = delivered }) (f .tiles) (f .canisters)
-
-unfoldable seen : Floor → List ℕ
-seen f = readAnswer f 0 .refusal ∷ []
-
 unfoldable wellCases : Table
 wellCases =
     let f = with 4 1 9 in
-    (seen (withCounts 9 9 (4 ∷ 5 ∷ 0 ∷ 0 ∷ []) f), 0 ∷ [])
+    (seen (withCounts 9 9 (4 ∷ 5 ∷ []) f), 0 ∷ [])
     -- a counter beyond the last hopper; the sum, not one of them; a sum beyond 32 bits
-    ∷ (seen (withCounts 9 9 (4 ∷ 4 ∷ 1 ∷ 0 ∷ []) f), 30 ∷ [])
-    ∷ (seen (withCounts 9 9 (9 ∷ 9 ∷ 0 ∷ 0 ∷ []) f), 30 ∷ [])
-    ∷ (seen (withCounts 4294967295 0 (2147483648 ∷ 2147483648 ∷ 0 ∷ 0 ∷ []) f), 30 ∷ [])
+    ∷ (seen (withCounts 9 9 (4 ∷ 4 ∷ 1 ∷ []) f), 30 ∷ [])
+    ∷ (seen (withCounts 9 9 (9 ∷ 9 ∷ []) f), 30 ∷ [])
+    ∷ (seen (withCounts 4294967295 0 (2147483648 ∷ 2147483648 ∷ []) f), 30 ∷ [])
     -- the second hopper stopped; with a distance, an arrow, a canister
     ∷ (seen (withHead 3 (head 0 0 0 0 0) f), 30 ∷ [])
     ∷ (seen (withHead 3 (head 1 1 0 0 0) f), 30 ∷ [])
     ∷ (seen (withHead 3 (head 1 0 1 0 0) f), 30 ∷ [])
-    ∷ (seen (withHead 3 (head 1 0 0 0 1) (withPlace 48 (can 1 0 0) (withCounts 1 1 (0 ∷ 0 ∷ 0 ∷ 0 ∷ []) f))), 30 ∷ [])
+    ∷ (seen (withHead 3 (head 1 0 0 0 1) (withPlace 48 (can 1 0 0) (withCounts 1 1 [] f))), 30 ∷ [])
     ∷ (seen (withHead 3 (head 1 0 0 1 0) f), 0 ∷ [])
     -- a hopper's head on another tile
     ∷ (seen (withHead 2 (head 1 0 0 0 0) f), 30 ∷ [])

@@ -1,3 +1,4 @@
+pub mod Changed
 pub mod Cases
 pub mod CasesRound
 pub mod CasesHoppers

@@ -27,7 +27,7 @@ Keyed f n keys = Upto n (λ i. getD (numbers (f .canisters)) i 0) 0 keys × From
 
 module _ (f : Floor) where
   pub keyed-start : Keyed f 0 (replicate 1024 0)
-  keyed-start = (λ i k. absurd (omega arith), λ i k. zeros-at 1024 i)
+  keyed-start = (λ i k. absurd (omega arith), λ i k. zeros-at 0 1024 i)
 
   keyed-same : (n m : ℕ) (keys : List ℕ) → n ≡ m → Keyed f n keys → Keyed f m keys
   keyed-same n m keys e p = (λ i k. p .0 i (omega (arith, e)), λ i k. p .1 i (omega (arith, e)))

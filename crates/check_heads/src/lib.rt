@@ -3,8 +3,7 @@ ghost use mathlib.Core.Path.{_≡_};
 ghost use Prim.Native.Nat.{_<_};
 ghost use Rattle.floor.specs.Settings.{total, Ranged};
 ghost use Rattle.floor.specs.Memory.{isZeroTile, headFits};
-ghost use Rattle.floor.specs.Well.{hopperSound, runningSound, stoppedSound, faces, headSound};
-ghost use Rattle.check_heads.specs.Head.{stateSound};
+ghost use Rattle.floor.specs.Well.{hopperSound, runningSound, stoppedSound, ownSound, faces, headSound};
 use floor::DISTANCE_NONE;
 use floor::Settings;
 use floor::Side;
@@ -54,8 +53,8 @@ pub fn faces_ok(s: Settings, t: usize, side: Side) -> bool
 }
 
 // A tile without the sides that it faces.
-pub fn state_ok(s: Settings, t: usize, h: Tile) -> bool
-    ensures { λ r. ⌜ r ≡ stateSound s t h ⌝ }
+pub fn own_ok(s: Settings, t: usize, h: Tile) -> bool
+    ensures { λ r. ⌜ r ≡ ownSound s t h ⌝ }
 {
     if holds(s.hoppers, t) {
         return hopper_ok(h);
@@ -71,12 +70,12 @@ pub fn head_ok(s: Settings, t: usize, h: Tile) -> bool
     requires { ⌜ Ranged s × (t < total s) ⌝ }
     ensures { λ r. ⌜ r ≡ headSound s t h ⌝ }
 {
-    let state = state_ok(s, t, h);
+    let own = own_ok(s, t, h);
     let next = h.next;
     let token = h.token;
     let ahead = faces_ok(s, t, next);
     let turn = faces_ok(s, t, token);
-    state & (ahead & turn)
+    own & (ahead & turn)
 }
 
 // At most sixteen canisters; a tile that the floor doesn't have is zero.

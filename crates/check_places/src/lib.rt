@@ -40,7 +40,7 @@ pub fn stands_apart(s: Settings, x: Canister, y: Canister) -> bool
 }
 
 // Two canisters of one tile, by rising number and far enough apart.
-pub fn in_order(s: Settings, x: Canister, y: Canister) -> bool
+pub fn pair_ok(s: Settings, x: Canister, y: Canister) -> bool
     ensures { λ r. ⌜ r ≡ inOrder s x y ⌝ }
 {
     let apart = stands_apart(s, x, y);
@@ -98,7 +98,7 @@ pub fn pairs_ok(s: Settings, items: [Canister; 16], n: usize) -> bool
     for j in 0usize..n {
         let y = items[j];
         for i in 0usize..j {
-            let one = in_order(s, items[i], y);
+            let one = pair_ok(s, items[i], y);
             ok = ok & one;
         }
     }

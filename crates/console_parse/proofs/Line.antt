@@ -177,4 +177,4 @@ name-copied w all n few len e up off = rw (le-ltb 8 (length w) few) (filled 8 (�
         go (no l) = off i (omega arith) ∙ sym (List·getD-eq-default w 0 (omega arith))
 
 pub name-start : From {A = ℕ} 0 (λ _. 0) 0 (replicate 8 0)
-name-start i h = zeros-at 8 i
+name-start i h = zeros-at 0 8 i

@@ -1,6 +1,6 @@
 -- Words and numbers, one step of a loop each.
 use mathlib.Core.Path.{_≡_, refl, sym, ap, _∙_}
-use mathlib.Core.Bool.{Bool, true, false, _&&_}
+use mathlib.Core.Bool.{_&&_, and-false}
 use mathlib.Core.List.{List, [], _∷_, _++_, append-assoc, append-nil}
 use Prim.Native.Nat.{ℕ, zero, suc, _+_, _*_, _-_, _≤_, _<_}
 use native.Mathlib.Numerals.{add-one}
@@ -98,10 +98,6 @@ unfolding nthWord
 nth-here s at from n w v z p q r = q ∙ ap word p ∙ (rw z at r)
 
 -- ---- numbers
-and-not : (b : Bool) → (b && false) ≡ false
-and-not true = refl
-and-not false = refl
-
 -- the number that the digits write after those of n, if they are digits and it stays within 32 bits
 unfoldable pub numberAfter : ℕ → List ℕ → Parsed
 numberAfter n s = valueIf (onlyDigits s && leb (valueAfter n s) 4294967295) (valueAfter n s)
@@ -130,7 +126,7 @@ module _ (s : List ℕ) (i n b : ℕ) (h : i < length s) (e : b ≡ getD s i 0) 
 
   pub number-high : 57 < b → numberAfter n (drop i s) ≡ Unreadable
   unfolding numberAfter onlyDigits valueIf
-  number-high hi = rw (starts, lt-leb b 57 hi, and-not (leb 48 b))
+  number-high hi = rw (starts, lt-leb b 57 hi, and-false (leb 48 b))
 
 value-grows : (n : ℕ) (s : List ℕ) → n ≤ valueAfter n s
 unfolding valueAfter
@@ -141,7 +137,7 @@ pub number-over : (n : ℕ) (s : List ℕ) → 4294967295 < n → numberAfter n 
 unfolding numberAfter valueIf
 number-over n s h =
     let k : 4294967295 < valueAfter n s = omega (arith, value-grows n s) in
-    rw (lt-leb (valueAfter n s) 4294967295 k, and-not (onlyDigits s))
+    rw (lt-leb (valueAfter n s) 4294967295 k, and-false (onlyDigits s))
 
 pub number-whole : (s : List ℕ) (i n : ℕ) → length s ≤ i → n ≤ 4294967295 → numberAfter n (drop i s) ≡ Value n
 unfolding numberAfter onlyDigits valueAfter valueIf

@@ -22,15 +22,17 @@ pub formed : (f : Floor) (tests : List (Bool × ℕ)) (n : ℕ) → wellFormed f
 unfolding refusalOf refusal
 formed f tests n w e = rw w (sym e)
 
--- ---- book, stop, repair
-pub answer-refused : (f : Floor) (tests : List (Bool × ℕ)) (m : Model) (n : ℕ) → refusalOf f tests ≡ n → n ≢ 0 → _≡_ {A = Answer} (record { refusal = n; floor = f }) (answer f tests m)
-unfolding answer
-answer-refused f tests m n e z = rw (e, ne-eqb n 0 z)
+-- ---- book, stop, repair, keep, forget, recall: the answer by the tests and the floor that the call leaves
+module _ (f : Floor) (tests : List (Bool × ℕ)) (m : Model) where
+  pub answer-malformed : wellFormed f ≡ false → _≡_ {A = Answer} (record { refusal = 30; floor = f }) (answer f tests m)
+  unfolding answer
+  answer-malformed w = rw (malformed f tests w)
 
-pub answer-accepted : (f g : Floor) (tests : List (Bool × ℕ)) (m : Model) → refusalOf f tests ≡ 0 → g ≡ pack m → _≡_ {A = Answer} (record { refusal = 0; floor = g }) (answer f tests m)
-unfolding answer
-answer-accepted f g tests m e p = rw (e, p)
+  module _ (w : wellFormed f ≡ true) (n : ℕ) (e : n ≡ refusal tests) where
+    pub answer-refused : n ≢ 0 → _≡_ {A = Answer} (record { refusal = n; floor = f }) (answer f tests m)
+    unfolding answer
+    answer-refused z = rw (formed f tests n w e, ne-eqb n 0 z)
 
-pub answer-by : (f g : Floor) (tests : List (Bool × ℕ)) (m : Model) (n : ℕ) → refusalOf f tests ≡ n → n ≡ 0 → g ≡ pack m → _≡_ {A = Answer} (record { refusal = n; floor = g }) (answer f tests m)
-unfolding answer
-answer-by f g tests m n e z p = rw (e, z, p)
+    pub answer-accepted : n ≡ 0 → (g : Floor) → g ≡ pack m → _≡_ {A = Answer} (record { refusal = n; floor = g }) (answer f tests m)
+    unfolding answer
+    answer-accepted z g p = rw (formed f tests n w e, z, p)

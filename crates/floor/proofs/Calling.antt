@@ -1,10 +1,11 @@
 -- The calls by their answers, and what of an answer is compared: for the tables of Trials and Cases. What is read begins with the answer's refusal number.
-use mathlib.Core.Bool.{Bool, true, false, cond, _&&_}
+use mathlib.Core.Bool.{Bool, cond, _&&_}
 use mathlib.Core.List.{List, [], _∷_, _++_, map}
 use Prim.Native.Nat.{ℕ, zero, suc, _-_, _*_, _^_}
 use lib.Dec.{eqb}
 use lib.ListN.{getD, take, replicate}
 use Rattle.laws.specs.Define.{tab, cat, allOf, anyOf, pairsOf, allBelow, keep, firstOf, sum, bit, bitsBelow, join, refusal}
+use Rattle.laws.proofs.Lists.{same}
 use Rattle.floor.specs.declared.Canister.{Canister}
 use Rattle.floor.specs.declared.Settings.{Settings}
 use Rattle.floor.specs.declared.Counters.{Counters}
@@ -124,13 +125,6 @@ counts c = c .last ∷ c .booked ∷ c .delivered
 -- those of a floor, after the refusal of reading it
 unfoldable pub counted : Floor → List ℕ
 counted f = readAnswer f 0 .refusal ∷ counts (f .counters)
-
--- whether two lists of numbers are equal
-unfoldable pub same : List ℕ → List ℕ → Bool
-same [] [] = true
-same [] (y ∷ ys) = false
-same (x ∷ xs) [] = false
-same (x ∷ xs) (y ∷ ys) = eqb x y && same xs ys
 
 -- ---- whole floors, field by field
 unfoldable pub setUp : Settings → List ℕ

@@ -162,19 +162,22 @@ module _ (m : Model) (S : Sound m) where
   abbrev live : ℕ → Bool
   live = connected (m .settings) (runsOf m)
 
+  -- of two running neighbours both have a live path or neither
+  pub same-live : (u k : ℕ) → List·Memᴰ k sides → runsOf m u ≡ true → runsOf m (neighbour (m .settings) k u) ≡ true → live (neighbour (m .settings) k u) ≡ live u
+  same-live u k mk r q =
+      let x = neighbour (m .settings) k u in
+      let L = laid m S in
+      let both = live-neighbours (m .settings) (runsOf m) L (S .measured .rows-pos) mk u r q in
+      same-test (live x) (live u)
+      (λ h. live-iff (m .settings) (runsOf m) L u .0 (both .1 (live-iff (m .settings) (runsOf m) L x .1 h)))
+      (λ h. live-iff (m .settings) (runsOf m) L x .0 (both .0 (live-iff (m .settings) (runsOf m) L u .1 h)))
+
   mark : ℕ → ℕ
   mark t = cond (live t) 1 0
 
   live-slope : Slope (graphOf m) mark
   unfolding mark
-  live-slope u k mk r q =
-      let x = neighbour (m .settings) k u in
-      let L = laid m S in
-      let both = live-neighbours (m .settings) (runsOf m) L (S .measured .rows-pos) mk u r q in
-      let same : live x ≡ live u = same-test (live x) (live u)
-      (λ h. live-iff (m .settings) (runsOf m) L u .0 (both .1 (live-iff (m .settings) (runsOf m) L x .1 h)))
-      (λ h. live-iff (m .settings) (runsOf m) L x .0 (both .0 (live-iff (m .settings) (runsOf m) L u .1 h))) in
-      omega (arith, ap (λ (b : Bool). cond {A = ℕ} b 1 0) same)
+  live-slope u k mk r q = omega (arith, ap (λ (b : Bool). cond {A = ℕ} b 1 0) (same-live u k mk r q))
 
   count-is : (n : ℕ) → connectedCount (rounds n m) (runsOf m) ≡ weight mark (rounds n m)
   unfolding connectedCount weight mark

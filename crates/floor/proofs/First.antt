@@ -68,7 +68,7 @@ fresh-sound s M = sound-of (freshFloor s) M (tab-length (total s) (freshTile s))
     none-laid = refl
 
     counted : Counted (freshFloor s)
-    counted = rw none ((tt, tt), (refl, (λ k _. zeros-at 4 k, omega arith)))
+    counted = rw none ((tt, tt), (refl, (λ k _. zeros-at 0 4 k, omega arith)))
 
 pub fresh-well : (s : Settings) → settingsRefusal s ≡ 0 → wellFormed (freshAnswer s .floor) ≡ true
 unfolding freshAnswer settingsPass
@@ -85,6 +85,14 @@ pub pack-view-well : (f : Floor) → wellFormed f ≡ true → pack (view f) ≡
 pack-view-well f h = pack-view f (well-few f h) (well-fits f h)
 
 -- ---- widths
+pub flag-small : (x : ℕ) → (x ≡ 1) ⊎ (x ≡ 0) → x < 256
+flag-small x (inl e) = omega arith
+flag-small x (inr e) = omega arith
+
+pub distance-small : (x n : ℕ) → n ≤ 64 → (x < n) ⊎ (x ≡ 255) → x < 256
+distance-small x n h (inl e) = omega arith
+distance-small x n h (inr e) = omega arith
+
 pub record Widths (f : Floor) : Type 0 where
   pub number-fits : (i : ℕ) → getD (f .canisters) i zeroCanister .number < 2 ^ 32
   pub a-fits : (i : ℕ) → getD (f .canisters) i zeroCanister .a < 2 ^ 16
@@ -160,16 +168,8 @@ module _ (f : Floor) (w : wellFormed f ≡ true) where
       S : Sound (view f)
       S = well-sound f w
 
-      flag : (x : ℕ) → (x ≡ 1) ⊎ (x ≡ 0) → x < 256
-      flag x (inl e) = omega arith
-      flag x (inr e) = omega arith
-
-      far : (x : ℕ) → (x < C) ⊎ (x ≡ 255) → x < 256
-      far x (inl e) = omega (arith, well-few f w)
-      far x (inr e) = omega arith
-
       on : t < C → Narrow (head (tileOf (view f) t))
-      on l = (flag _ (S .flag t), (far _ (S .capped t), (omega (arith, faces-le (f .settings) t _ (S .next-faces t)), (omega (arith, faces-le (f .settings) t _ (S .token-faces t)), omega (arith, sound-small (view f) S t)))))
+      on l = (flag-small _ (S .flag t), (distance-small _ C (well-few f w) (S .capped t), (omega (arith, faces-le (f .settings) t _ (S .next-faces t)), (omega (arith, faces-le (f .settings) t _ (S .token-faces t)), omega (arith, sound-small (view f) S t)))))
 
       zero-narrow : Narrow zeroTile
       zero-narrow = omega arith

@@ -2,7 +2,7 @@
 use mathlib.Core.Path.{_≡_, refl, sym, ap, _∙_, subst, fun-ext}
 use mathlib.Core.Logic.{_≢_}
 use mathlib.Core.Bool.{Bool, true, false, cond, not, _&&_, true≢false, false≢true}
-use mathlib.Core.List.{List, [], _∷_, _++_}
+use mathlib.Core.List.{List, [], _∷_, _++_, append-assoc}
 use Prim.Native.Nat.{ℕ, zero, suc, _+_, _≤_, _<_}
 use native.Mathlib.Omega.{arith}
 use native.Mathlib.Decide.{decLe}
@@ -44,6 +44,16 @@ pub after-both : (f : Floor) (cs ds : List Call) → floorAfter f (cs ++ ds) ≡
 unfolding floorAfter
 after-both f [] ds = refl
 after-both f (c ∷ cs) ds = after-both (outcome f c .floor) cs ds
+
+pub booked-both : (f : Floor) (cs ds : List Call) → bookedIn f (cs ++ ds) ≡ bookedIn f cs ++ bookedIn (floorAfter f cs) ds
+unfolding floorAfter bookedIn
+booked-both f [] ds = refl
+booked-both f (c ∷ cs) ds = ap (λ l. outcome f c .booked ++ l) (booked-both (outcome f c .floor) cs ds) ∙ sym (append-assoc (outcome f c .booked) _ _)
+
+pub reported-both : (f : Floor) (cs ds : List Call) (k : ℕ) → reportedIn f (cs ++ ds) k ≡ reportedIn f cs k ++ reportedIn (floorAfter f cs) ds k
+unfolding floorAfter reportedIn
+reported-both f [] ds k = refl
+reported-both f (c ∷ cs) ds k = ap (λ l. outcome f c .reported k ++ l) (reported-both (outcome f c .floor) cs ds k) ∙ sym (append-assoc (outcome f c .reported k) _ _)
 
 -- from f to g, with the numbers that came and went
 abbrev pub KeepsWell : Floor → Floor → List ℕ → (ℕ → List ℕ) → Type 0

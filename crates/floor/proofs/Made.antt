@@ -6,6 +6,7 @@ use Prim.Native.Nat.{ℕ, zero, suc}
 use lib.Dec.{eqb}
 use lib.ListN.{getD, take}
 use Rattle.laws.specs.Define.{tab, allOf, sum, join, refusal}
+use Rattle.laws.proofs.Lists.{same}
 use Rattle.laws.specs.Every.{All}
 use Rattle.laws.proofs.Tests.{and-left, and-right, and-true}
 use Rattle.floor.specs.declared.Settings.{Settings}
@@ -20,14 +21,14 @@ use Rattle.floor.specs.Reports.{listedAt}
 use Rattle.floor.specs.Bound.{bound}
 use Rattle.floor.specs.Live.{connectedCount}
 use Rattle.floor.specs.Demand3.{Call, book as booking, anywhere as placing, stop as stopping, repair as repairing, round, keep as keeping, forget as forgetting, recall as recalling, Typed, outcome, bookedIn as bookedOn, reportedIn as reportedOn, runsAfter as runsOn}
-use Rattle.floor.specs.Together.{Said, placeTo, saidIn}
+use Rattle.floor.specs.Together.{Said, placeTo, answersIn, saidIn}
 use Rattle.floor.specs.Fairness.{grantsIn}
 use Rattle.floor.proofs.Well.{settings-fact}
 use Rattle.floor.proofs.Capacity.{view-packed, sound-well}
 use Rattle.floor.proofs.First.{fresh-sound}
 use Rattle.floor.proofs.Shown.{Shows, testsOf, changed, refusalBy, placeBy, valueBy, readBy, shows-refusal, shows-place, shows-call, shows-read, shows-relaid, shows-round, shows-report}
-use Rattle.floor.proofs.Walked.{isTyped, typed, all-typed, answers as answersOn, valueAfter, answersBy, bookedOf, bookedBy, reportBy, saidBy, reportedOf, reportedBy, grantsBy, answers-same, booked-same, said-same, reported-same, grants-same, runs-same}
-use Rattle.floor.proofs.Calling.{got, settings, can, flat, same, counts, on as onFloor, distances as distancesOn, next as nextOn, reportedTo as reportedFrom, grant as grantOn, why as whyOn, layoutNumbers, laid as laidOn, has, whole as wholeOf, counted as countedOn, liveCount as liveOn, boundOf as boundOn}
+use Rattle.floor.proofs.Walked.{isTyped, typed, all-typed, valueAfter, answersBy, bookedOf, bookedBy, reportBy, saidBy, reportedOf, reportedBy, grantsBy, answers-same, booked-same, said-same, reported-same, grants-same, runs-same}
+use Rattle.floor.proofs.Calling.{got, settings, can, flat, counts, on as onFloor, distances as distancesOn, next as nextOn, reportedTo as reportedFrom, grant as grantOn, why as whyOn, layoutNumbers, laid as laidOn, has, whole as wholeOf, counted as countedOn, liveCount as liveOn, boundOf as boundOn}
 
 -- ---- how a floor was made: fresh, then call after call
 pub data Made : Type 0 where
@@ -113,7 +114,7 @@ seen (liveCount e) = liveOn (floorOf e) ∷ []
 seen (boundOf e) = boundOn (floorOf e) ∷ []
 seen (answered c e) = outcome (floorOf e) c .refusal ∷ []
 seen (told c e) = let p = placeTo (floorOf e) c in outcome (floorOf e) c .refusal ∷ p .0 ∷ p .1 ∷ []
-seen (answers cs e) = answersOn (floorOf e) cs
+seen (answers cs e) = answersIn (floorOf e) cs
 seen (booked cs e) = bookedOn (floorOf e) cs
 seen (reportedIn k cs e) = reportedOn (floorOf e) cs k
 seen (said g cs e) = map g (saidIn (floorOf e) cs)

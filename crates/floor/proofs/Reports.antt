@@ -1,6 +1,6 @@
 -- Every round's report lists rising numbers, at most four, and zeros after them. The statement is specs/Reports.
 use mathlib.Core.Path.{_≡_, refl, sym, ap, _∙_, subst}
-use mathlib.Core.List.{List, [], _∷_, _++_, append-nil, Permᴰ·symm}
+use mathlib.Core.List.{List, [], _∷_, append-nil, Permᴰ·symm}
 use Prim.Native.Nat.{ℕ, suc, _-_, _≤_, _<_}
 use native.Mathlib.Omega.{arith}
 use native.Mathlib.Decide.{decLe}
@@ -22,7 +22,7 @@ use Rattle.floor.proofs.Fields.{went, delivered-length}
 use Rattle.floor.proofs.Deliveries.{delivered-few, delivered-rising}
 use Rattle.floor.proofs.Calls.{round-keeps}
 use Rattle.floor.proofs.Lists.{round-report, report-at, listed-all}
-use Rattle.laws.proofs.Lists.{all-perm, cat-all}
+use Rattle.laws.proofs.Lists.{all-right, all-perm, cat-all}
 
 -- zeros after the numbers
 tail : (l : List ℕ) → length l ≤ 4 → drop (length l) (tab 4 (λ k. getD l k 0)) ≡ replicate (4 - length l) 0
@@ -33,10 +33,6 @@ tail (a ∷ b ∷ []) h = refl
 tail (a ∷ b ∷ c ∷ []) h = refl
 tail (a ∷ b ∷ c ∷ d ∷ []) h = refl
 tail (a ∷ b ∷ c ∷ d ∷ e ∷ l) h = absurd (omega arith)
-
-all-after : (P : ℕ → Type 0) (l k : List ℕ) → All P (l ++ k) → All P k
-all-after P [] k h = h
-all-after P (x ∷ l) k h = all-after P l k (h .1)
 
 spare : deliveryOf [] ≡ noDelivery
 unfolding deliveryOf tab
@@ -50,7 +46,7 @@ module _ (m : Model) (S : Sound m) where
       P n = 0 < n
 
       all : All P (cat 4 (went m))
-      all = all-after P (numbersOn (afterRound m)) (cat 4 (went m)) (all-perm P (Permᴰ·symm (round-keeps m S .nums)) (subst (All P) (sym (append-nil (numbersOn m))) (S .positive)))
+      all = all-right P (numbersOn (afterRound m)) (cat 4 (went m)) (all-perm P (Permᴰ·symm (round-keeps m S .nums)) (subst (All P) (sym (append-nil (numbersOn m))) (S .positive)))
 
       go : Dec (k < 4) → All P (went m k)
       go (yes h) = cat-all P 4 (went m) k h all

@@ -18,7 +18,7 @@ use Rattle.floor.specs.Memory.{view}
 use Rattle.floor.specs.Calls.{zeroReport, reportOf}
 use Rattle.floor.specs.Reports.{listedAt}
 use Rattle.floor.specs.Demand3.{Call, book, anywhere, stop, repair, round, keep, forget, recall, Typed, outcome, floorAfter, bookedIn, reportedIn, recallSet, recallMakes, runsAfter, isRound, changesRunning, disturbs, Quiet}
-use Rattle.floor.specs.Together.{reportTo, Said, saidIn}
+use Rattle.floor.specs.Together.{reportTo, Said, answersIn, saidIn}
 use Rattle.floor.specs.Fairness.{wants, Waiting, granted, grantsIn}
 use Rattle.floor.specs.Arrows.{Unpressed}
 use Rattle.floor.proofs.Lists.{list-runs}
@@ -50,11 +50,6 @@ pub all-typed : (cs : List Call) → allOf isTyped cs ≡ true → All Typed cs
 unfolding allOf
 all-typed [] h = tt
 all-typed (c ∷ cs) h = (typed c (and-left (isTyped c) _ h), all-typed cs (and-right (isTyped c) _ h))
-
--- ---- the answers' refusal numbers
-unfoldable pub answers : Floor → List Call → List ℕ
-answers f [] = []
-answers f (c ∷ cs) = outcome f c .refusal ∷ answers (outcome f c .floor) cs
 
 -- ---- by the value
 unfoldable pub valueAfter : Model → List Call → Model
@@ -220,8 +215,8 @@ unfolding floorAfter valueAfter
 shows-list f m s [] h = s
 shows-list f m s (c ∷ cs) h = shows-list (outcome f c .floor) (valueBy m c) (shows-call f m s c (h .0)) cs (h .1)
 
-pub answers-same : (f : Floor) (m : Model) → Shows f m → (cs : List Call) → All Typed cs → answers f cs ≡ answersBy m cs
-unfolding answers answersBy
+pub answers-same : (f : Floor) (m : Model) → Shows f m → (cs : List Call) → All Typed cs → answersIn f cs ≡ answersBy m cs
+unfolding answersIn answersBy
 answers-same f m s [] h = refl
 answers-same f m s (c ∷ cs) h = rw (shows-refusal f m s c, answers-same (outcome f c .floor) (valueBy m c) (shows-call f m s c (h .0)) cs (h .1))
 

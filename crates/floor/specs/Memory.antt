@@ -14,6 +14,9 @@ use Rattle.floor.specs.declared.Floor.{Floor}
 use Rattle.floor.specs.Settings.{total}
 use Rattle.floor.specs.Model.{TileState, Model}
 
+abbrev pub zeroSettings : Settings
+zeroSettings = record { columns = 0; rows = 0; hoppers = 0; sources = 0; width = 0; length = 0; gap = 0; travel = 0 }
+
 abbrev pub zeroCounters : Counters
 zeroCounters = record { last = 0; booked = 0; delivered = replicate 4 0 }
 
@@ -28,15 +31,13 @@ zeroLayout = record { name = 0; set = 0 }
 
 -- "the all-zero floor"
 unfoldable pub zeroFloor : Floor
-zeroFloor =
-    let s : Settings = record { columns = 0; rows = 0; hoppers = 0; sources = 0; width = 0; length = 0; gap = 0; travel = 0 } in
-    record {
-      settings = s;
-      counters = zeroCounters;
-      tiles = replicate 64 zeroTile;
-      canisters = replicate 1024 zeroCanister;
-      layouts = replicate 8 zeroLayout;
-    }
+zeroFloor = record {
+  settings = zeroSettings;
+  counters = zeroCounters;
+  tiles = replicate 64 zeroTile;
+  canisters = replicate 1024 zeroCanister;
+  layouts = replicate 8 zeroLayout;
+}
 
 -- ---- what memory shows: tile t, its canisters the first `count` of the sixteen places from 16 × t on
 abbrev pub headOf : Floor → ℕ → Tile

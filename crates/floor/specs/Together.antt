@@ -67,6 +67,11 @@ pub record EitherOrder (f : Floor) (c e : Call) : Type 0 where
   pub first-answer : said (outcome f e .floor) c ≡ said f c
   pub second-answer : said (outcome f c .floor) e ≡ said f e
 
+-- the refusal numbers of a list, in its order
+unfoldable pub answersIn : Floor → List Call → List ℕ
+answersIn f [] = []
+answersIn f (c ∷ cs) = outcome f c .refusal ∷ answersIn (outcome f c .floor) cs
+
 -- the answers of a list, in its order
 unfoldable pub saidIn : Floor → List Call → List Said
 saidIn f [] = []

@@ -33,10 +33,12 @@ stoppedSound h = eqb (h .running) 0 && (eqb (h .distance) 255 && (eqb (h .next .
 unfoldable pub faces : Settings → ℕ → ℕ → Bool
 faces s t k = eqb k 0 || ltb (neighbour s k t) (total s)
 
+-- a tile without the sides that it faces
+abbrev pub ownSound : Settings → ℕ → Tile → Bool
+ownSound s t h = cond (isHopper s t) (hopperSound h) (cond (eqb (h .running) 1) (runningSound s h) (stoppedSound h))
+
 unfoldable pub headSound : Settings → ℕ → Tile → Bool
-headSound s t h =
-    cond (isHopper s t) (hopperSound h) (cond (eqb (h .running) 1) (runningSound s h) (stoppedSound h))
-    && (faces s t (h .next .code) && faces s t (h .token .code))
+headSound s t h = ownSound s t h && (faces s t (h .next .code) && faces s t (h .token .code))
 
 -- "Canisters lie within their tile": "0 to U - l on each axis"
 unfoldable pub inside : Settings → Canister → Bool

@@ -245,6 +245,16 @@ pub struct Report {
     pub deliveries: [Delivery; 4],
 }
 
+impl Report {
+    // What a refused round reports.
+    pub const ZERO: Report = Report {
+        grants: [0; 64],
+        reasons: [0; 64],
+        missing: [0; 64],
+        deliveries: [Delivery::ZERO; 4],
+    };
+}
+
 // The answer of fresh, book, stop, repair, keep, forget, recall and load: the papers' refusal number, 0 where the call was accepted.
 // The number stands last: padding before the floor costs another copy of it.
 #[repr(C)]

@@ -6,10 +6,11 @@ use Prim.Native.Nat.{ℕ, zero, suc}
 use lib.ListN.{length, set, take, drop, replicate}
 use lib.Dec.{eqb}
 use Rattle.laws.specs.Define.{allOf}
+use Rattle.laws.proofs.Lists.{same}
 use Rattle.floor.specs.declared.Floor.{Floor}
 use Rattle.floor.specs.Memory.{view}
 use Rattle.floor.specs.Calls.{freshAnswer}
-use Rattle.floor.proofs.Calling.{got, several, fresh, stop, named, keeps, laid, same, sameFloor}
+use Rattle.floor.proofs.Calling.{got, several, fresh, stop, named, keeps, laid, sameFloor}
 use Rattle.image.specs.Image.{encode, loadAnswer}
 use Rattle.image.proofs.Trials.{shows}
 

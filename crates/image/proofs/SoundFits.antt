@@ -1,7 +1,6 @@
 -- A sound floor fits the image: every value its bytes.
 use mathlib.Core.Path.{_≡_}
 use mathlib.Core.Bool.{Bool, true, false, cond}
-use mathlib.Core.Logic.{_⊎_, inl, inr}
 use mathlib.Core.List.{[], _∷_}
 use Prim.Native.Nat.{ℕ, zero, suc, _^_, _≤_, _<_}
 use native.Mathlib.Omega.{arith}
@@ -20,7 +19,7 @@ use Rattle.floor.specs.Layouts.{nameOk, layoutOk}
 use Rattle.floor.specs.Model.{Model, noTile, tileOf, membersOf, numbers, numbersOn}
 use Rattle.floor.proofs.Sound.{Sound, Inside}
 use Rattle.floor.proofs.Well.{settings-fact, faces-le}
-use Rattle.floor.proofs.First.{part-le}
+use Rattle.floor.proofs.First.{part-le, flag-small, distance-small}
 use Rattle.floor.proofs.Capacity.{sound-small}
 use Rattle.floor.proofs.Laying.{laid-of}
 use Rattle.image.specs.Image.{hopperCount, several, settingsWidths, settingsValues, countersWidths, countersValues, canisterWidths, canisterValues, encode}
@@ -28,14 +27,6 @@ use Rattle.image.proofs.Hoppers.{single, lowest-small}
 use Rattle.image.proofs.Sizes.{encode-most}
 use Rattle.image.proofs.Layouts.{LayoutFits}
 use Rattle.image.proofs.WrittenLoads.{TileFits, Fits}
-
-flag-small : (x : ℕ) → (x ≡ 1) ⊎ (x ≡ 0) → x < 256
-flag-small x (inl e) = omega arith
-flag-small x (inr e) = omega arith
-
-distance-small : (x n : ℕ) → n ≤ 64 → (x < n) ⊎ (x ≡ 255) → x < 256
-distance-small x n h (inl e) = omega arith
-distance-small x n h (inr e) = omega arith
 
 row : (h : ℕ) (f : ℕ → ℕ) → ((k : ℕ) → f k < 2 ^ 32) → Fit (replicate h 4) (tab h f)
 unfolding tab

@@ -6,11 +6,12 @@ use Prim.Native.Nat.{ℕ, _+_}
 use lib.Dec.{eqb}
 use lib.ListN.{length, set, take, drop, replicate}
 use Rattle.laws.specs.Define.{tab, allOf, join}
+use Rattle.laws.proofs.Lists.{same}
 use Rattle.image_bytes.specs.Bytes.{le, bytes, fieldsOf, bytesOf}
 use Rattle.floor.specs.declared.Floor.{Floor}
 use Rattle.floor.specs.Memory.{zeroFloor, view}
 use Rattle.floor.specs.Calls.{freshAnswer}
-use Rattle.floor.proofs.Calling.{got, several, fresh, book, rounds, same, sameFloor, holds}
+use Rattle.floor.proofs.Calling.{got, several, fresh, book, rounds, sameFloor, holds}
 use Rattle.image.specs.Image.{lowest, oneTile, several as isSeveral, byteWrong, recordOf, settingsBody, countersBody, canistersBody, tileBody, layoutBody, layoutsBytes, tilesBytes, encode, settingsIn, countersIn, canisterIn, canistersIn, tileIn, tilesIn, layoutIn, isLayout, layoutsIn, afterLayouts, modelIn, settingsFaults, countersFaults, tileFaults, layoutFaults, endFaults, ownFaults, recordFault, endFault, tilesFault, laidFault, fault, answerBy, imageRefusal, imageAnswer, standard, loadAnswer, writeRefusal, writeAnswer, written}
 
 -- what loading and writing compute: a table's line names this alone

@@ -20,6 +20,7 @@ use Rattle.floor.specs.declared.Settings.{Settings}
 use Rattle.floor.specs.declared.Counters.{Counters}
 use Rattle.floor.specs.Settings.{total, settingsRefusal}
 use Rattle.floor.specs.Model.{TileState, Model}
+use Rattle.floor.specs.Move.{withDelivered}
 use Rattle.image.specs.Image.{lowest, oneTile, hopperCount, several, byteWrong, lengthIn, settingsWidths, settingsValues, countersWidths, countersValues, tileWidths, tileValues, canisterWidths, canisterValues, recordOf, settingsBody, countersBody, canistersBody, tileBody, layoutsBytes, tilesBytes, encode, kindIn, bodyIn, restIn, isLayout, layoutsIn, afterLayouts, settingsIn, countersIn, canisterIn, canistersIn, tileIn, tilesIn, modelIn, settingsFaults, countersFaults, tileFaults, endFaults, ownFaults, recordFault, orElse, endFault, tilesFault, fault}
 use Rattle.image.proofs.Hoppers.{none-spliced}
 use Rattle.image.proofs.Records.{record-length, length-in, kind-in, body-in, rest-in, fault-in, kind-take, cut-off, cut-after}
@@ -105,7 +106,7 @@ counters-back : (h : ℕ) (c : Counters) (ys : List ℕ) → Fit (countersWidths
 unfolding countersIn countersBody
 counters-back h c ys f four spare =
     rw (fields-bytes (countersWidths h) (countersValues h c) ys f)
-    (ap (λ (l : List ℕ). record { last = c .last; booked = c .booked; delivered = l }) (sym (filled 4 (λ k. getD (c .last ∷ c .booked ∷ tab h (λ k. getD (c .delivered) k 0)) (2 + k) 0) 0 (c .delivered) four (λ k _. sym (at k (decLe (suc k) h))))))
+    (ap (withDelivered c) (sym (filled 4 (λ k. getD (c .last ∷ c .booked ∷ tab h (λ k. getD (c .delivered) k 0)) (2 + k) 0) 0 (c .delivered) four (λ k _. sym (at k (decLe (suc k) h))))))
   where
     two : (k : ℕ) → getD (c .last ∷ c .booked ∷ tab h (λ k. getD (c .delivered) k 0)) (2 + k) 0 ≡ getD (tab h (λ k. getD (c .delivered) k 0)) k 0
     two k = let e : 2 + k ≡ suc (suc k) = omega arith in ap (λ (n : ℕ). getD (c .last ∷ c .booked ∷ tab h (λ k. getD (c .delivered) k 0)) n 0) e

@@ -277,21 +277,12 @@ module _ (xs : List ℕ) (r : Front) (F : FrontRead xs r) (z : frontFault xs ≡
     unfolding recordsAnswer recordsRefusal answerBy refusal
     good f = rw (fault-is ∙ y, sym all-are ∙ f)
 
-    pack-is : pack (modelIn xs) ≡ record {
-      settings = modelIn xs .settings;
-      counters = modelIn xs .counters;
-      tiles = tab 64 (λ t. head (getD (modelIn xs .tiles) t unused));
-      canisters = rows 64 0 (λ t. getD (modelIn xs .tiles) t unused);
-      layouts = layoutPlaces 8 (modelIn xs .layouts);
-    }
-    unfolding pack build
-    pack-is = refl
-
     pub answer-4 : (ts : List Tile) (cs : List Canister) (starts : List ℕ) → b ≡ true → Starts xs (drop (r .next) xs) starts c
         → ts ≡ tab 64 (λ t. head (getD (tilesIn c (drop (r .next) xs)) t unused)) → cs ≡ tab 1024 (canisterFrom xs starts c)
         → record { refusal = 0; floor = record { settings = r .settings; counters = r .counters; tiles = ts; canisters = cs; layouts = r .layouts } } ≡ recordsAnswer xs
+    unfolding pack build
     answer-4 ts cs starts f ss te ke =
         let vs = drop (r .next) xs in
         let t1 : ts ≡ tab 64 (λ t. head (getD (modelIn xs .tiles) t unused)) = te ∙ ap (λ (l : List TileState). tab 64 (λ t. head (getD l t unused))) tiles-same in
         let c1 : cs ≡ rows 64 0 (λ t. getD (modelIn xs .tiles) t unused) = ke ∙ canisters-are xs vs starts c ss ∙ ap (λ (l : List TileState). rows 64 0 (λ t. getD l t unused)) tiles-same in
-        (λ i. record { refusal = 0; floor = record { settings = F .settings i; counters = F .counters i; tiles = t1 i; canisters = c1 i; layouts = F .layouts i } }) ∙ rw (← pack-is) (good f)
+        (λ i. record { refusal = 0; floor = record { settings = F .settings i; counters = F .counters i; tiles = t1 i; canisters = c1 i; layouts = F .layouts i } }) ∙ good f

@@ -1,12 +1,13 @@
 -- Lists: what holds of all elements and of all pairs, a filter by a test, a sum, and the lists joined over the numbers below n; each with permutations.
 use mathlib.Core.Path.{_≡_, refl, sym, ap, _∙_, subst}
 use mathlib.Core.Logic.{_≢_}
-use mathlib.Core.Bool.{Bool, true, false, cond, not}
+use mathlib.Core.Bool.{Bool, true, false, cond, not, _&&_}
 use mathlib.Core.List.{List, [], _∷_, _++_, map, append-assoc, append-nil, List·Memᴰ, List·Memᴰ·head, List·Memᴰ·tail}
 use mathlib.Core.List.{List·Permᴰ, List·Permᴰ·nil, List·Permᴰ·cons, List·Permᴰ·swap, List·Permᴰ·trans, Permᴰ·refl, Permᴰ·symm, Permᴰ·append-left, Permᴰ·append-right, Permᴰ·middle}
 use Prim.Native.Nat.{ℕ, zero, suc, _+_, _*_, _≤_, _<_}
 use native.Mathlib.Omega.{arith}
 use native.Mathlib.Decide.{decLe, ℕ-discrete}
+use lib.Dec.{eqb}
 use lib.ListN.{length, getD}
 use Rattle.laws.specs.Define.{cat, allOf, keep, sum}
 use Rattle.laws.specs.Every.{All, Pairs}
@@ -408,3 +409,10 @@ cat-between R sy (suc n) f t u ht hu ne P {x} {y} p q = go (ℕ-discrete t n) (�
     go (yes a) (no b) ih = pairs-between R (f n) (cat n f) P (subst (λ i. List·Memᴰ x (f i)) a p) (mem-cat n f u (omega arith) q)
     go (no a) (yes b) ih = sy y x (pairs-between R (f n) (cat n f) P (subst (λ i. List·Memᴰ y (f i)) b q) (mem-cat n f t (omega arith) p))
     go (no a) (no b) ih = ih (omega arith) (omega arith)
+
+-- ---- whether two lists of numbers are equal, for tables
+unfoldable pub same : List ℕ → List ℕ → Bool
+same [] [] = true
+same [] (y ∷ k) = false
+same (x ∷ l) [] = false
+same (x ∷ l) (y ∷ k) = eqb x y && same l k

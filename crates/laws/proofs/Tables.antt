@@ -14,10 +14,10 @@ use Rattle.laws.proofs.Lists.{map-append, keep-append}
 use Rattle.laws.specs.Filled.{Upto, From, Shows}
 
 -- ---- a list of zeros, within it and beyond
-pub zeros-at : (n i : ℕ) → _≡_ {A = ℕ} (getD (replicate n 0) i 0) 0
-zeros-at zero i = refl
-zeros-at (suc n) zero = refl
-zeros-at (suc n) (suc i) = zeros-at n i
+pub zeros-at : {A : Type 0} (z : A) (n i : ℕ) → getD (replicate n z) i z ≡ z
+zeros-at z zero i = refl
+zeros-at z (suc n) zero = refl
+zeros-at z (suc n) (suc i) = zeros-at z n i
 
 -- ---- the table g 0, .., g (n - 1)
 pub tab-length : {A : Type 0} (n : ℕ) (g : ℕ → A) → length (tab n g) ≡ n

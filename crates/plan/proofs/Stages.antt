@@ -2,7 +2,7 @@
 use mathlib.Core.Path.{_≡_, refl, sym, ap, _∙_, subst}
 use mathlib.Core.Logic.{_⊎_, inl, inr, _≢_}
 use mathlib.Core.Bool.{Bool, true, false, cond, _||_, true≢false, false≢true}
-use mathlib.Core.List.{List, [], _∷_, _++_, map}
+use mathlib.Core.List.{List, [], _∷_, _++_, map, nil≢cons}
 use Prim.Native.Nat.{ℕ, zero, suc}
 use lib.Dec.{eqb}
 use lib.ListN.{take, drop}
@@ -48,6 +48,15 @@ held-byte e = go (eqb (e .stage) 0) (eqb (e .stage) 2)
     go false false = refl
 
 -- ---- a stage
+-- what does not wait and holds no number is delivered
+pub neither : (e : Entry) → waits e ≡ false → heldBy e ≡ [] → wasDelivered e ≡ true
+neither e a b = go (stageOf e) a b
+  where
+    go : (s : Stage) → isWaiting s ≡ false → numberIn s ≡ [] → isDelivered s ≡ true
+    go waiting a b = absurd (true≢false a)
+    go (booked n) a b = absurd (nil≢cons (sym b))
+    go delivered a b = refl
+
 pub booked-number : (e : Entry) (n : ℕ) → stageOf e ≡ booked n → e .number ≡ n
 unfolding stageOf
 booked-number e n h = go (eqb (e .stage) 0) (eqb (e .stage) 2) h

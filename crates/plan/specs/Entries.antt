@@ -66,12 +66,12 @@ held (e ∷ es) = heldBy e ++ held es
 
 -- ---- 30
 -- "an entry past waiting has a predecessor's label on an undelivered entry"
-unfoldable pub inOrder : List Entry → Entry → Bool
-inOrder es e = waits e || allOf (done es) (predecessors e)
+unfoldable pub afterPredecessors : List Entry → Entry → Bool
+afterPredecessors es e = waits e || allOf (done es) (predecessors e)
 
 -- "A plan is 30 if an entry past waiting has a predecessor's label on an undelivered entry, or two booked entries hold one number"; "A plan that claims more than 64 entries … is 30 too."
 unfoldable pub planSound : Plan → Bool
-planSound p = leb (p .count) 64 && (allOf (inOrder (used p)) (used p) && pairsOf (λ x y. not (eqb x y)) (held (used p)))
+planSound p = leb (p .count) 64 && (allOf (afterPredecessors (used p)) (used p) && pairsOf (λ x y. not (eqb x y)) (held (used p)))
 
 -- "or at release a booked number is 0 or above the last booked"
 unfoldable pub numbersUpto : ℕ → Plan → Bool

@@ -10,7 +10,7 @@ use Rattle.laws.specs.Define.{allOf, keep}
 use Rattle.laws.proofs.Tests.{and-yes}
 use Rattle.plan.specs.declared.Entry.{Entry}
 use Rattle.plan.proofs.Stages.{held-byte}
-use Rattle.plan.specs.Entries.{waits, heldBy, predecessors, done, present, inOrder, ready, entryFits}
+use Rattle.plan.specs.Entries.{waits, heldBy, predecessors, done, present, afterPredecessors, ready, entryFits}
 
 -- ---- the number held, as the code tests for it
 pub held-code : (e : Entry) → cond (not (eqb (e .stage) 0) && not (eqb (e .stage) 2)) (e .number ∷ []) [] ≡ heldBy e
@@ -36,8 +36,8 @@ both-pass p e = two (e .first) (e .second)
 
 -- what the code finds of an entry, from what its tables say of the two labels
 pub order-code : (es : List Entry) (e : Entry) {w a b r : Bool} → w ≡ waits e → a ≡ done es (e .first) → b ≡ done es (e .second)
-    → r ≡ ((eqb (e .first) 0 || a) && (eqb (e .second) 0 || b)) → (w || r) ≡ inOrder es e
-unfolding inOrder
+    → r ≡ ((eqb (e .first) 0 || a) && (eqb (e .second) 0 || b)) → (w || r) ≡ afterPredecessors es e
+unfolding afterPredecessors
 order-code es e q f g h = rw (q, h, f, g, both-pass (done es) e)
 
 pub ready-code : (es : List Entry) (e : Entry) {w a b r : Bool} → w ≡ waits e → a ≡ done es (e .first) → b ≡ done es (e .second)

@@ -56,9 +56,9 @@ pub fn done_table(plan: Plan) -> [bool; 256]
 }
 
 // Whether every entry past waiting has its predecessors delivered.
-pub fn in_order(plan: Plan) -> bool
+pub fn after_predecessors(plan: Plan) -> bool
     requires { ⌜ plan .count ≤ 64 ⌝ }
-    ensures { λ r. ⌜ r ≡ allOf (E.inOrder (used plan)) (used plan) ⌝ }
+    ensures { λ r. ⌜ r ≡ allOf (E.afterPredecessors (used plan)) (used plan) ⌝ }
 {
     let table = done_table(plan);
     let n = plan.count as usize;
@@ -133,7 +133,7 @@ pub fn sound(plan: Plan) -> bool
     if plan::MAX_ENTRIES < plan.count {
         return false;
     }
-    let ordered = in_order(plan);
+    let ordered = after_predecessors(plan);
     let numbers = booked_numbers(plan);
     let items = numbers.items;
     let differing = all_differ(items, numbers.count);

@@ -1,7 +1,7 @@
 -- A list of calls on a plan and a floor as a list of demand 3: `as-calls`. The statement is specs/Promises.
-use mathlib.Core.Path.{_≡_, refl, sym, ap, _∙_, subst}
+use mathlib.Core.Path.{_≡_, refl, ap, _∙_, subst}
 use mathlib.Core.Bool.{Bool, true, false, cond}
-use mathlib.Core.List.{List, [], _∷_, _++_, append-assoc, append-nil}
+use mathlib.Core.List.{List, [], _∷_, _++_, append-nil}
 use Prim.Native.Nat.{ℕ, _+_, _^_, _≤_, _<_}
 use lib.Dec.{ltb, eqb}
 use borrow.Author.Tests.{ltb-true}
@@ -16,24 +16,13 @@ use Rattle.floor.specs.Calls.{refusalOf, answer, booked}
 use Rattle.floor.specs.Anywhere.{anywhereTests, placedAt, anywhereAnswer}
 use Rattle.floor.specs.Demand3.{Call, anywhere, Typed, outcome, floorAfter, bookedIn, reportedIn}
 use Rattle.floor.proofs.Pack.{well-sound}
-use Rattle.floor.proofs.Lists.{after-both, list-keeps}
+use Rattle.floor.proofs.Lists.{after-both, booked-both, reported-both, list-keeps}
 use Rattle.floor.proofs.Theorem.{demand3}
 use Rattle.plan.specs.declared.Plan.{Plan}
 use Rattle.plan.specs.Entries.{used}
 use Rattle.plan.specs.Plans.{releaseTests, following, tileFor, releaseBooking, releaseAnswer}
 use Rattle.plan_floor.specs.Steps.{Step, call, offer, release, report, State, stepped, after, TypedStep, callsOf, callsIn, bookedOf, bookedBy, reportedOf, reportedBy}
 use Rattle.plan_floor.specs.Promises.{CallsPromise}
-
--- ---- one list of calls after another
-booked-both : (f : Floor) (cs ds : List Call) → bookedIn f (cs ++ ds) ≡ bookedIn f cs ++ bookedIn (floorAfter f cs) ds
-unfolding bookedIn floorAfter
-booked-both f [] ds = refl
-booked-both f (c ∷ cs) ds = ap (λ (l : List ℕ). outcome f c .booked ++ l) (booked-both (outcome f c .floor) cs ds) ∙ sym (append-assoc (outcome f c .booked) (bookedIn (outcome f c .floor) cs) (bookedIn (floorAfter (outcome f c .floor) cs) ds))
-
-reported-both : (f : Floor) (cs ds : List Call) (k : ℕ) → reportedIn f (cs ++ ds) k ≡ reportedIn f cs k ++ reportedIn (floorAfter f cs) ds k
-unfolding reportedIn floorAfter
-reported-both f [] ds k = refl
-reported-both f (c ∷ cs) ds k = ap (λ (l : List ℕ). outcome f c .reported k ++ l) (reported-both (outcome f c .floor) cs ds k) ∙ sym (append-assoc (outcome f c .reported k) (reportedIn (outcome f c .floor) cs k) (reportedIn (floorAfter (outcome f c .floor) cs) ds k))
 
 -- ---- a release
 -- a refused booking gives the floor back

@@ -2,31 +2,29 @@
 use mathlib.Core.Path.{_≡_, refl, sym, ap, _∙_, subst, fun-ext}
 use mathlib.Core.Logic.{_⊎_, inl, inr}
 use mathlib.Core.Bool.{Bool, true, false, cond}
-use mathlib.Core.List.{List, [], map, List·Memᴰ}
+use mathlib.Core.List.{List, [], map}
 use Prim.Native.Nat.{ℕ, zero, suc, _+_, _-_, _*_, _≤_, _<_}
 use native.Mathlib.Omega.{arith}
 use native.Mathlib.Nat.{mul-le-mul-left}
 use native.Mathlib.Decide.{decLe}
 use lib.ListN.{length, length-append, length-map}
 use Rattle.laws.specs.Define.{cat, sum}
-use Rattle.laws.proofs.Tests.{by-test, same-test}
+use Rattle.laws.proofs.Tests.{by-test}
 use Rattle.laws.proofs.Lists.{no-length, sum-const, sum-find, sum-part, cat-empty}
 use Rattle.floor.specs.declared.Canister.{Canister}
 use Rattle.floor.specs.declared.Settings.{Settings}
-use Rattle.floor.specs.Sides.{sides}
 use Rattle.floor.specs.Settings.{total}
-use Rattle.floor.specs.Grid.{neighbour}
 use Rattle.floor.specs.Model.{Model, runsOf, membersOf, numbers, numbersOn}
 use Rattle.floor.specs.Calls.{afterRound}
 use Rattle.floor.specs.Bound.{crossing, bound}
 use Rattle.floor.specs.Live.{connected, connectedCount}
 use Rattle.floor.proofs.Sound.{Sound}
 use Rattle.floor.proofs.Nearest.{laid}
-use Rattle.floor.proofs.Paths.{live-iff, live-neighbours}
+use Rattle.floor.proofs.Paths.{live-iff}
 use Rattle.floor.proofs.Fields.{round-settings, round-runs, round-last}
 use Rattle.floor.proofs.Kept.{round-sound}
 use Rattle.floor.proofs.Progress.{weight-falls}
-use Rattle.floor.proofs.Clearing.{rounds, rounds-settings, cleared}
+use Rattle.floor.proofs.Clearing.{rounds, rounds-settings, same-live, cleared}
 
 -- ---- rounds leave what runs, and the last number
 pub rounds-runs : (n : ℕ) (m : Model) → Sound m → runsOf (rounds n m) ≡ runsOf m
@@ -54,18 +52,9 @@ module _ (m : Model) (S : Sound m) where
   abbrev marks : Model → ℕ → List ℕ
   marks n t = map (λ _. mark t) (membersOf n t)
 
-  same-live : (u : ℕ) {k : ℕ} → List·Memᴰ k sides → runsOf m u ≡ true → runsOf m (neighbour (m .settings) k u) ≡ true → live (neighbour (m .settings) k u) ≡ live u
-  same-live u {k} mk r q =
-      let x = neighbour (m .settings) k u in
-      let L = laid m S in
-      let both = live-neighbours (m .settings) (runsOf m) L (S .measured .rows-pos) mk u r q in
-      same-test (live x) (live u)
-      (λ h. live-iff (m .settings) (runsOf m) L u .0 (both .1 (live-iff (m .settings) (runsOf m) L x .1 h)))
-      (λ h. live-iff (m .settings) (runsOf m) L x .0 (both .0 (live-iff (m .settings) (runsOf m) L u .1 h)))
-
   falls : sum (cat (total (m .settings)) (marks (afterRound m))) ≤ sum (cat (total (m .settings)) (marks m))
   unfolding mark
-  falls = weight-falls m S mark (λ u M. omega (arith, ap (λ (b : Bool). cond {A = ℕ} b 0 1) (same-live u (M .side) (M .runs) (M .ahead))))
+  falls = weight-falls m S mark (λ u M. omega (arith, ap (λ (b : Bool). cond {A = ℕ} b 0 1) (same-live m S u _ (M .side) (M .runs) (M .ahead))))
 
   none-marked : OnLive m → (t : ℕ) → t < total (m .settings) → sum (marks m t) ≡ 0
   unfolding mark sum

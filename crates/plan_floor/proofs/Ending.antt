@@ -1,8 +1,8 @@
 -- A plan ends: with the offered label released each time the floor is empty, and rounds enough after it, all are delivered: `ends`, `scheduled`. The statements are specs/Ending.
 use mathlib.Core.Path.{_≡_, refl, sym, ap, _∙_, subst, fun-ext}
 use mathlib.Core.Logic.{_⊎_, inl, inr, _≢_}
-use mathlib.Core.Bool.{Bool, true, false, cond, not, _||_, true≢false, false≢true}
-use mathlib.Core.List.{List, [], _∷_, _++_, map, append-nil, nil≢cons, List·Memᴰ, List·Memᴰ·head, List·Memᴰ·tail, List·Memᴰ·not-nil, List·Memᴰ·cases-cons, List·Memᴰ·append-cases, Memᴰ·append-left, List·Permᴰ, Permᴰ·symm}
+use mathlib.Core.Bool.{Bool, true, false, cond, not, _||_, false≢true}
+use mathlib.Core.List.{List, [], _∷_, _++_, map, append-nil, List·Memᴰ, List·Memᴰ·head, List·Memᴰ·tail, List·Memᴰ·not-nil, List·Memᴰ·cases-cons, List·Memᴰ·append-cases, Memᴰ·append-left, List·Permᴰ, Permᴰ·symm}
 use Prim.Native.Nat.{ℕ, zero, suc, _+_, _^_, _≤_, _<_}
 use native.Mathlib.Omega.{arith}
 use native.Mathlib.Decide.{decLe}
@@ -46,7 +46,7 @@ use Rattle.plan.specs.Entries.{Stage, waiting, booked as bookedUnder, delivered
 use Rattle.plan.specs.Plans.{offerTests, offerAnswer, releaseTests, following, tileFor, releaseBooking, releaseAnswer}
 use Rattle.plan_floor.specs.Steps.{Step, call, release, report, State, stepped, after, TypedStep, reportOfCall, reportsOf, callsOf, callsIn, reportedBy}
 use Rattle.plan_floor.specs.Ending.{waitingIn, Served, HandedIn, Cycle, releaseOffered, Cycles, afterCycles, refusalsIn, EndsPromise, handedRounds, schedule, SchedulePromise}
-use Rattle.plan.proofs.Stages.{booked-stage, reported-label, released-there, released-other, used-changed, changed-all, none-held}
+use Rattle.plan.proofs.Stages.{neither, booked-stage, reported-label, released-there, released-other, used-changed, changed-all, none-held}
 use Rattle.plan_floor.proofs.Written.{reported-plain}
 use Rattle.plan_floor.proofs.History.{accepted as passed, ready-entry, all-ready}
 use Rattle.plan_floor.proofs.Offering.{offer-fits, offers}
@@ -197,14 +197,6 @@ delivered-held e h = go (stageOf e) h
     go waiting h = refl
     go (bookedUnder n) h = absurd (false≢true h)
     go delivered h = refl
-
-neither : (e : Entry) → waits e ≡ false → heldBy e ≡ [] → wasDelivered e ≡ true
-neither e a b = go (stageOf e) a b
-  where
-    go : (s : Stage) → isWaiting s ≡ false → numberIn s ≡ [] → isDelivered s ≡ true
-    go waiting a b = absurd (true≢false a)
-    go (bookedUnder n) a b = absurd (nil≢cons (sym b))
-    go delivered a b = refl
 
 served-same : (f g : Floor) (t : ℕ) → g .settings ≡ f .settings → runsOf (view g) ≡ runsOf (view f) → Served f t → Served g t
 served-same f g t s r T = record {

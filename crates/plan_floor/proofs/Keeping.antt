@@ -12,7 +12,7 @@ use Rattle.laws.proofs.Tests.{by-test, not-both, and-right, and-left, or-case, 
 use Rattle.laws.proofs.Lists.{all-mem, all-of, all-imp, all-append, all-map, all-true, true-all, all-left, all-right, pairs-left, pairs-right, pairs-append, pairs-between}
 use Rattle.plan.specs.declared.Entry.{Entry}
 use Rattle.plan.specs.declared.Plan.{Plan}
-use Rattle.plan.specs.Entries.{Stage, waiting, booked, delivered, stageOf, isWaiting, isDelivered, numberIn, waits, wasDelivered, heldBy, used, predecessors, done, present, held, inOrder, entryFits, planFits, ready, readyLabel, changed, bookedAs, released, reported}
+use Rattle.plan.specs.Entries.{Stage, waiting, booked, delivered, stageOf, isWaiting, isDelivered, numberIn, waits, wasDelivered, heldBy, used, predecessors, done, present, held, afterPredecessors, entryFits, planFits, ready, readyLabel, changed, bookedAs, released, reported}
 use Rattle.plan.proofs.Stages.{marked, booked-stage, reported-stage, released-label, reported-label, released-there, released-other, used-changed}
 use Rattle.plan_floor.proofs.Written.{Plain, released-plain, reported-plain, same-predecessors}
 use Rattle.plan_floor.proofs.History.{ready-entry, all-ready}
@@ -85,15 +85,15 @@ delivered-waits e h = go (stageOf e) h
 
 -- ---- "an entry past waiting has a predecessor's label on an undelivered entry"
 abbrev pub Ordered : List Entry → Type 0
-Ordered es = All (λ e. inOrder es e ≡ true) es
+Ordered es = All (λ e. afterPredecessors es e ≡ true) es
 
-order : (es : List Entry) (e : Entry) → (waits e ≡ true) ⊎ All (λ j. done es j ≡ true) (predecessors e) → inOrder es e ≡ true
-unfolding inOrder
+order : (es : List Entry) (e : Entry) → (waits e ≡ true) ⊎ All (λ j. done es j ≡ true) (predecessors e) → afterPredecessors es e ≡ true
+unfolding afterPredecessors
 order es e (inl w) = or-left (waits e) (allOf (done es) (predecessors e)) w
 order es e (inr d) = or-right (waits e) (allOf (done es) (predecessors e)) (true-all (done es) (predecessors e) d)
 
-ordered-by : (es : List Entry) (e : Entry) → inOrder es e ≡ true → (waits e ≡ true) ⊎ All (λ j. done es j ≡ true) (predecessors e)
-unfolding inOrder
+ordered-by : (es : List Entry) (e : Entry) → afterPredecessors es e ≡ true → (waits e ≡ true) ⊎ All (λ j. done es j ≡ true) (predecessors e)
+unfolding afterPredecessors
 ordered-by es e h = go (or-case (waits e) (allOf (done es) (predecessors e)) h)
   where
     go : (waits e ≡ true) ⊎ (allOf (done es) (predecessors e) ≡ true) → (waits e ≡ true) ⊎ All (λ j. done es j ≡ true) (predecessors e)
@@ -126,15 +126,15 @@ module _ (p : Plan) (fits : planFits p ≡ true) (k n : ℕ) (is-ready : readyLa
 
   pub released-ordered : Ordered es → Ordered (map (released k n) es)
   unfolding ready
-  released-ordered h = all-map (λ e. inOrder (map (released k n) es) e ≡ true) (released k n) es (all-of (λ x. inOrder (map (released k n) es) (released k n x) ≡ true) es (λ x m. go x m (by-test (eqb (x .label) k))))
+  released-ordered h = all-map (λ e. afterPredecessors (map (released k n) es) e ≡ true) (released k n) es (all-of (λ x. afterPredecessors (map (released k n) es) (released k n x) ≡ true) es (λ x m. go x m (by-test (eqb (x .label) k))))
     where
-      was : (x : Entry) → x .label ≢ k → (waits x ≡ true) ⊎ All (λ j. done es j ≡ true) (predecessors x) → inOrder (map (released k n) es) (released k n x) ≡ true
+      was : (x : Entry) → x .label ≢ k → (waits x ≡ true) ⊎ All (λ j. done es j ≡ true) (predecessors x) → afterPredecessors (map (released k n) es) (released k n x) ≡ true
       was x q (inl w) = order (map (released k n) es) (released k n x) (inl (ap waits (released-other k n x q) ∙ w))
       was x q (inr d) = order (map (released k n) es) (released k n x) (inr (all-still x d))
 
-      go : (x : Entry) → List·Memᴰ x es → (eqb (x .label) k ≡ true) ⊎ (eqb (x .label) k ≡ false) → inOrder (map (released k n) es) (released k n x) ≡ true
+      go : (x : Entry) → List·Memᴰ x es → (eqb (x .label) k ≡ true) ⊎ (eqb (x .label) k ≡ false) → afterPredecessors (map (released k n) es) (released k n x) ≡ true
       go x m (inl q) = order (map (released k n) es) (released k n x) (inr (all-still x (all-true (done es) (predecessors x) (and-right (waits x) _ (all-ready p fits k is-ready x m (eqb-true (x .label) k q))))))
-      go x m (inr q) = was x (eqb-false (x .label) k q) (ordered-by es x (all-mem (λ e. inOrder es e ≡ true) m h))
+      go x m (inr q) = was x (eqb-false (x .label) k q) (ordered-by es x (all-mem (λ e. afterPredecessors es e ≡ true) m h))
 
 held-booked : (n : ℕ) (e : Entry) → heldBy (bookedAs n e) ≡ n ∷ []
 held-booked n e = ap numberIn (booked-stage n e)
@@ -196,8 +196,8 @@ reported-delivered l e h = ap isDelivered (reported-stage l e) ∙ go (stageOf e
 
 pub reported-ordered : (l : List ℕ) (es : List Entry) → Ordered es → Ordered (map (reported l) es)
 reported-ordered l es h =
-    all-map (λ e. inOrder (map (reported l) es) e ≡ true) (reported l) es
-    (all-imp (λ e. inOrder es e ≡ true) (λ x. inOrder (map (reported l) es) (reported l x) ≡ true) es (λ x i. order (map (reported l) es) (reported l x) (go x (ordered-by es x i))) h)
+    all-map (λ e. afterPredecessors (map (reported l) es) e ≡ true) (reported l) es
+    (all-imp (λ e. afterPredecessors es e ≡ true) (λ x. afterPredecessors (map (reported l) es) (reported l x) ≡ true) es (λ x i. order (map (reported l) es) (reported l x) (go x (ordered-by es x i))) h)
   where
     still : (j : ℕ) → done es j ≡ true → done (map (reported l) es) j ≡ true
     still j d = done-mapped (reported l) es j (λ x m q. reported-delivered l x (all-done es j d x m (sym (reported-label l x) ∙ q)))

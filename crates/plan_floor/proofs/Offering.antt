@@ -1,8 +1,8 @@
 -- What a plan offers: the lowest label that can go; none exactly where there is none; one while a label waits and no booked one is undelivered: `offers`. The statement is specs/Promises.
 use mathlib.Core.Path.{_≡_, refl, sym, ap, _∙_, subst}
 use mathlib.Core.Logic.{_⊎_, inl, inr, _↔_, _≢_}
-use mathlib.Core.Bool.{Bool, true, false, cond, not, _&&_, _||_, true≢false}
-use mathlib.Core.List.{List, [], _∷_, List·Memᴰ, List·Memᴰ·head, List·Memᴰ·tail, List·Memᴰ·not-nil, nil≢cons}
+use mathlib.Core.Bool.{Bool, true, false, cond, not, _&&_, _||_}
+use mathlib.Core.List.{List, [], _∷_, List·Memᴰ, List·Memᴰ·head, List·Memᴰ·tail, List·Memᴰ·not-nil}
 use Prim.Native.Nat.{ℕ, zero, suc, _≤_, _<_}
 use native.Mathlib.Omega.{arith}
 use lib.Dec.{leb, ltb, eqb}
@@ -14,8 +14,9 @@ use Rattle.laws.proofs.Lists.{all-mem, all-of, all-imp, true-all}
 use Rattle.laws.proofs.Search.{any-find, any-mem, first-mem, first-none}
 use Rattle.plan.specs.declared.Entry.{Entry}
 use Rattle.plan.specs.declared.Plan.{Plan}
-use Rattle.plan.specs.Entries.{Stage, waiting, booked, delivered, stageOf, isWaiting, isDelivered, numberIn, waits, wasDelivered, heldBy, used, predecessors, done, present, planSound, entryFits, planFits, ready, readyLabel}
+use Rattle.plan.specs.Entries.{waits, wasDelivered, heldBy, used, predecessors, done, present, planSound, entryFits, planFits, ready, readyLabel}
 use Rattle.plan.specs.Plans.{offerTests, offered, offerAnswer}
+use Rattle.plan.proofs.Stages.{neither}
 use Rattle.plan_floor.specs.Promises.{Offers, OfferPromise}
 use Rattle.plan_floor.proofs.History.{fits-entry, fits-predecessors, ready-entry}
 use Rattle.plan_floor.proofs.Soundness.{never-48}
@@ -114,18 +115,13 @@ module _ (p : Plan) (fits : planFits p ≡ true) where
         and-true {a = waits e} w (true-all (λ k. done es k) (predecessors e)
         (all-imp (λ k. (ltb k (e .label) && present es k) ≡ true) (λ k. done es k ≡ true) (predecessors e) (λ k h. below k (ltb-true k (e .label) (and-left (ltb k (e .label)) (present es k) h))) (fits-predecessors p fits e m)))
       where
-        past : (s : Stage) → isWaiting s ≡ false → numberIn s ≡ [] → isDelivered s ≡ true
-        past waiting a b = absurd (true≢false a)
-        past (booked n) a b = absurd (nil≢cons (sym b))
-        past delivered a b = refl
-
         at : (k : ℕ) → k < e .label → (x : Entry) → List·Memᴰ x es → (not (eqb (x .label) k) || wasDelivered x) ≡ true
         at k h x q = go (by-test (eqb (x .label) k)) (by-test (waits x))
           where
             go : (eqb (x .label) k ≡ true) ⊎ (eqb (x .label) k ≡ false) → (waits x ≡ true) ⊎ (waits x ≡ false) → (not (eqb (x .label) k) || wasDelivered x) ≡ true
             go (inr n) v = or-left (not (eqb (x .label) k)) (wasDelivered x) (ap not n)
             go (inl y) (inl v) = absurd (omega (arith, eqb-true (x .label) k y, low x q v))
-            go (inl y) (inr v) = or-right (not (eqb (x .label) k)) (wasDelivered x) (past (stageOf x) v (none-booked x q))
+            go (inl y) (inr v) = or-right (not (eqb (x .label) k)) (wasDelivered x) (neither x v (none-booked x q))
 
         below : (k : ℕ) → k < e .label → done es k ≡ true
         below k h = true-all (λ x. not (eqb (x .label) k) || wasDelivered x) es (all-of (λ x. (not (eqb (x .label) k) || wasDelivered x) ≡ true) es (at k h))

@@ -10,7 +10,7 @@ use Rattle.floor.specs.Reports.{listedAt}
 use Rattle.floor.specs.Demand3.{round, outcome, bookedIn}
 use Rattle.floor.proofs.Calling.{got, counted, Table, holds}
 use Rattle.floor.proofs.AnywhereSamples.{small}
-use Rattle.plan.specs.Entries.{stageOf, predecessors, done, present, held, inOrder, planSound, numbersUpto, entryFits, planFits, ready, readyLabel, released, reported}
+use Rattle.plan.specs.Entries.{stageOf, predecessors, done, present, held, afterPredecessors, planSound, numbersUpto, entryFits, planFits, ready, readyLabel, released, reported}
 use Rattle.plan.specs.Plans.{offerTests, offered, offerAnswer, releaseTests, following, tileFor, releaseBooking, releaseAnswer, numbersIn, reportTests, reportAnswer}
 use Rattle.plan.proofs.Samples.{entry, plan, two, entries, delivery, report}
 use Rattle.plan_floor.specs.Steps.{Step, call, offer, release, report as handed, State, stepped, after, Event, booking, listing, eventsOf, eventsIn, bookingsOf, bookingsIn, reportOfCall, reportsOf, FromRounds, callsOf, callsIn, bookedOf, bookedBy, reportedOf, reportedBy}
@@ -53,7 +53,7 @@ walking =
 
 walking-holds : holds walking ≡ true
 unfolding holds small entry plan two entries delivery report shown paired walking
-    stageOf predecessors done present held inOrder planSound numbersUpto entryFits planFits ready readyLabel released reported offerTests offered offerAnswer releaseTests following tileFor releaseBooking releaseAnswer numbersIn reportTests reportAnswer
+    stageOf predecessors done present held afterPredecessors planSound numbersUpto entryFits planFits ready readyLabel released reported offerTests offered offerAnswer releaseTests following tileFor releaseBooking releaseAnswer numbersIn reportTests reportAnswer
     outcome bookedIn stepped after eventsOf eventsIn bookingsOf bookingsIn callsOf callsIn bookedOf bookedBy listedAt reportedOf reportedBy afterCycles refusalsIn handedRounds schedule
 walking-holds = refl
 

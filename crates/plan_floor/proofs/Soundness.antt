@@ -20,7 +20,7 @@ use Rattle.floor.specs.Calls.{refusalOf, answer}
 use Rattle.floor.specs.Anywhere.{anywhereTests, anywhereAnswer}
 use Rattle.plan.specs.declared.Entry.{Entry}
 use Rattle.plan.specs.declared.Plan.{Plan}
-use Rattle.plan.specs.Entries.{waits, heldBy, used, predecessors, done, held, inOrder, planSound, numbersUpto, entryFits, planFits, ready, readyLabel, changed, released, reported}
+use Rattle.plan.specs.Entries.{waits, heldBy, used, predecessors, done, held, afterPredecessors, planSound, numbersUpto, entryFits, planFits, ready, readyLabel, changed, released, reported}
 use Rattle.plan.specs.Plans.{offerTests, offerAnswer, releaseTests, following, tileFor, releaseBooking, releaseAnswer, numbersIn, reportTests, reportAnswer}
 use Rattle.plan_floor.specs.Steps.{Step, call, offer, release, report, State, stepped, after, allWaiting, TypedStep, bookedOf}
 use Rattle.plan_floor.specs.Promises.{SoundPromise, WaitingPromise}
@@ -41,7 +41,7 @@ pub good-sound : (last : ℕ) (p : Plan) → Good last (p .count) (used p) → p
 unfolding planSound
 good-sound last p G =
     and-true (le-leb (p .count) 64 (G .few))
-    (and-true (true-all (inOrder (used p)) (used p) (G .ordered)) (r-pairs (λ x y. not (eqb x y)) (λ x y. x ≢ y) r-ne (held (used p)) .1 (G .differ)))
+    (and-true (true-all (afterPredecessors (used p)) (used p) (G .ordered)) (r-pairs (λ x y. not (eqb x y)) (λ x y. x ≢ y) r-ne (held (used p)) .1 (G .differ)))
 
 pub good-upto : (last : ℕ) (p : Plan) → Good last (p .count) (used p) → numbersUpto last p ≡ true
 unfolding numbersUpto
@@ -53,8 +53,8 @@ sound-good last p S U =
     let r = and-right (leb (p .count) 64) _ S in
     record {
       few = leb-true (p .count) 64 (and-left (leb (p .count) 64) _ S);
-      ordered = all-true (inOrder (used p)) (used p) (and-left (allOf (inOrder (used p)) (used p)) _ r);
-      differ = r-pairs (λ x y. not (eqb x y)) (λ x y. x ≢ y) r-ne (held (used p)) .0 (and-right (allOf (inOrder (used p)) (used p)) _ r);
+      ordered = all-true (afterPredecessors (used p)) (used p) (and-left (allOf (afterPredecessors (used p)) (used p)) _ r);
+      differ = r-pairs (λ x y. not (eqb x y)) (λ x y. x ≢ y) r-ne (held (used p)) .0 (and-right (allOf (afterPredecessors (used p)) (used p)) _ r);
       upto = r-all (λ n. ltb 0 n && leb n last) (λ n. (0 < n) × (n ≤ last)) (λ n. r-and (r-lt 0 n) (r-le n last)) (held (used p)) .0 U;
     }
 
@@ -150,13 +150,13 @@ list-fine s (c ∷ cs) t F = let A = step-fine s c (t .0) F in let B = list-fine
 
 -- ---- at first
 waiting-good : (last : ℕ) (p : Plan) → allWaiting p ≡ true → p .count ≤ 64 → Good last (p .count) (used p)
-unfolding allWaiting inOrder
+unfolding allWaiting afterPredecessors
 waiting-good last p h n =
     let W = all-true waits (used p) h in
     let e = none-held (used p) (all-imp (λ e. waits e ≡ true) (λ e. heldBy e ≡ []) (used p) waiting-held W) in
     record {
       few = n;
-      ordered = all-imp (λ e. waits e ≡ true) (λ e. inOrder (used p) e ≡ true) (used p) (λ e w. or-left (waits e) (allOf (done (used p)) (predecessors e)) w) W;
+      ordered = all-imp (λ e. waits e ≡ true) (λ e. afterPredecessors (used p) e ≡ true) (used p) (λ e w. or-left (waits e) (allOf (done (used p)) (predecessors e)) w) W;
       differ = subst (Pairs (λ x y. x ≢ y)) (sym e) tt;
       upto = subst (All (λ n. (0 < n) × (n ≤ last))) (sym e) tt;
     }

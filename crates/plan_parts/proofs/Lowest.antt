@@ -8,7 +8,7 @@ use lib.Dec.{leb, ltb, eqb}
 use lib.ListN.{length, take}
 use borrow.Author.Tests.{eq-eqb, ne-eqb, ltb-true, ltb-false, leb-true}
 use Rattle.laws.specs.Define.{tab, allOf, anyOf, firstOf}
-use Rattle.laws.proofs.Tests.{and-left, or-left, or-right}
+use Rattle.laws.proofs.Tests.{and-left, or-left, or-right, and-no}
 use Rattle.laws.proofs.Tables.{all-at}
 use Rattle.plan.specs.declared.Entry.{Entry}
 use Rattle.plan.specs.declared.Plan.{Plan}
@@ -73,11 +73,7 @@ lowest-turn es l k {b} {r} h s L w d = go (ready es (entryAt l k)) (ltb (entryAt
           none-lower = λ j u v. more j ∙ rw (L .none-lower j (omega arith) v, ne-eqb (entryAt l k .label) j (omega arith));
         })
     go true false p q = stays (e ∙ rw (p, q)) (λ j m. let n = ltb-false (entryAt l k .label) b q in rw (ne-eqb (entryAt l k .label) j (omega arith)))
-    go false t p q = stays (e ∙ rw p) (λ j m. rw p (off (eqb (entryAt l k .label) j)))
-      where
-        off : (a : Bool) → (a && false) ≡ false
-        off true = refl
-        off false = refl
+    go false t p q = stays (e ∙ rw p) (λ j m. rw p (and-no (eqb (entryAt l k .label) j)))
 
 -- ---- its end
 module _ (p : Plan) {b : ℕ} (L : Lowest (used p) (used p) b) where

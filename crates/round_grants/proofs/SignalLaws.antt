@@ -15,7 +15,7 @@ use Rattle.floor.specs.declared.Canister.{Canister}
 use Rattle.floor.specs.declared.Settings.{Settings}
 use Rattle.floor.specs.Sides.{opposite, after, following, chosen, inSet}
 use Rattle.floor.specs.Settings.{spacing}
-use Rattle.floor.specs.Signal.{Signal, requests, lack, missing, signalWith, signalBy}
+use Rattle.floor.specs.Signal.{Signal, requests, lack, missing, waiting, signalWith, signalBy}
 use Rattle.floor.proofs.SideTables.{setOf, set-of}
 
 -- ---- the sides that want: one side's bit where the neighbour there shows the opposite side
@@ -113,11 +113,11 @@ missing-none s (c ∷ l) = omega (arith, missing-none s l)
 
 -- ---- one tile
 module _ (s : Settings) (running : Bool) (token : ℕ) (l : List Canister) (p : ℕ → Bool) where
-  pub signal-stopped : running ≡ false → _≡_ {A = Signal} (record { token = token; grant = 0; turn = token; missing = 0 }) (signalBy s running token l p)
+  pub signal-stopped : running ≡ false → waiting token 0 ≡ signalBy s running token l p
   unfolding signalBy
   signal-stopped r = rw r
 
-  pub signal-none : running ≡ true → chosen p token ≡ 0 → _≡_ {A = Signal} (record { token = 0; grant = 0; turn = 0; missing = 0 }) (signalBy s running token l p)
+  pub signal-none : running ≡ true → chosen p token ≡ 0 → waiting 0 0 ≡ signalBy s running token l p
   unfolding signalBy signalWith
   signal-none r e = rw (r, e, missing-none s l)
 
@@ -126,6 +126,6 @@ module _ (s : Settings) (running : Bool) (token : ℕ) (l : List Canister) (p : 
     unfolding signalBy signalWith
     signal-grants q g = rw (q, r, e, lt-ltb 0 k (omega arith), g)
 
-    pub signal-stays : {n : ℕ} → n ≡ missing s k l → n ≢ 0 → _≡_ {A = Signal} (record { token = k; grant = 0; turn = k; missing = n }) (signalBy s running token l p)
+    pub signal-stays : {n : ℕ} → n ≡ missing s k l → n ≢ 0 → waiting k n ≡ signalBy s running token l p
     unfolding signalBy signalWith
     signal-stays q g = rw (q, r, e, lt-ltb 0 k (omega arith), ne-eqb (missing s k l) 0 (λ z. g (q ∙ z)))

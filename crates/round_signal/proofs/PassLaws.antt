@@ -36,7 +36,7 @@ module _ (s : Settings) (ts : List Tile) (cs items : List Canister) (t : ℕ) wh
 -- ---- a loop that gives the grants, one after another
 module _ (N : ℕ) (g : ℕ → ℕ) where
   pub granted-none : Granted N 0 g (replicate N 0)
-  granted-none = (length-replicate {A = ℕ} N 0, λ i h. absurd (omega arith), λ i h. zeros-at N i)
+  granted-none = (length-replicate {A = ℕ} N 0, λ i h. absurd (omega arith), λ i h. zeros-at 0 N i)
 
   pub granted-turn : (gs : List ℕ) (t v : ℕ) → t < N → Granted N t g gs → v ≡ g t → Granted N (t + 1) g (set gs t v)
   granted-turn gs t v h r e =

@@ -19,7 +19,7 @@ use Rattle.floor.specs.Sides.{opposite}
 use Rattle.floor.specs.Grid.{neighbour, around}
 use Rattle.floor.specs.Model.{TileState, Model, noTile, tileOf, runs, membersOf}
 use Rattle.floor.specs.Memory.{headOf, retiled, stateOf, block, view, head, pack, fits}
-use Rattle.floor.specs.Signal.{Signal, shownNext, shownOf, signalBy, signalTile, signalOf, grantOf, withToken, signal}
+use Rattle.floor.specs.Signal.{Signal, waiting, shownNext, shownOf, signalBy, signalTile, signalOf, grantOf, withToken, signal}
 use Rattle.floor.specs.Reasons.{reasonTests, aheadOf, reasonOf, missingOf}
 use Rattle.floor.proofs.Rows.{view-at}
 use Rattle.floor.proofs.Pack.{few-on, head-state, head-read, pack-heads}
@@ -87,12 +87,12 @@ module _ (f : Floor) (few : total (f .settings) ≤ 64) (ok : fits f ≡ true) w
   signal-pack ts gs r q = (tiles-view ts r, grants-view gs q)
 
   -- ---- why each tile stood
-  no-signal : (t : ℕ) → total (f .settings) ≤ t → signalOf (view f) t ≡ record { token = 0; grant = 0; turn = 0; missing = 0 }
+  no-signal : (t : ℕ) → total (f .settings) ≤ t → signalOf (view f) t ≡ waiting 0 0
   unfolding signalOf signalTile signalBy
   no-signal t h = ap (λ (x : TileState). around (view f .settings) (shownOf (view f)) t (signalTile (view f .settings) x)) (tile-off f t h)
 
   -- every tile's field of its signal, at the number of no tile too
-  signal-field : (p : Signal → ℕ) → p (record { token = 0; grant = 0; turn = 0; missing = 0 }) ≡ 0 → (u : ℕ) → within (total (f .settings)) (λ t. p (signalAt (f .settings) (f .tiles) (f .canisters) t)) 0 u ≡ p (signalOf (view f) u)
+  signal-field : (p : Signal → ℕ) → p (waiting 0 0) ≡ 0 → (u : ℕ) → within (total (f .settings)) (λ t. p (signalAt (f .settings) (f .tiles) (f .canisters) t)) 0 u ≡ p (signalOf (view f) u)
   unfolding within
   signal-field p z u = go (decLe (suc u) (total (f .settings)))
     where

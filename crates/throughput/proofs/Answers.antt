@@ -14,7 +14,7 @@ use Rattle.throughput.specs.declared.Feeding.{Feeding}
 use Rattle.throughput.specs.declared.Fed.{Fed}
 use Rattle.throughput.specs.declared.Fed.the-variants.{Open, Closed, Refused}
 use Rattle.throughput.specs.Rate.{rateOf}
-use Rattle.throughput.specs.Window.{ratesSound, inOrder, recordSound, feedRefusal, feedAnswer, opened, closedBy, toldBy, toldOf, feedTold}
+use Rattle.throughput.specs.Window.{ratesSound, ratesInOrder, recordSound, feedRefusal, feedAnswer, opened, closedBy, toldBy, toldOf, feedTold}
 use Rattle.throughput.specs.Lists.{feedAll, ratesTold, counted}
 use Rattle.throughput.specs.Feeds.{RefusedNothing}
 
@@ -24,7 +24,7 @@ answered t f = record { throughput = t; fed = f }
 pub sound-window : (t : Throughput) → recordSound t ≡ true → (t .rounds < 256) × (t .deliveries ≤ 4 * t .rounds)
 unfolding recordSound
 sound-window t h =
-    let rest = ratesSound (t .last) (t .least) (t .greatest) && inOrder (t .last) (t .least) (t .greatest) (t .closed) in
+    let rest = ratesSound (t .last) (t .least) (t .greatest) && ratesInOrder (t .last) (t .least) (t .greatest) (t .closed) in
     let k = and-right (ltb (t .rounds) 256) (leb (t .deliveries) (4 * t .rounds) && rest) h in
     (ltb-true _ _ (and-left (ltb (t .rounds) 256) (leb (t .deliveries) (4 * t .rounds) && rest) h), leb-true _ _ (and-left (leb (t .deliveries) (4 * t .rounds)) rest k))
 

@@ -1,15 +1,15 @@
 -- Cases of feeding, computed through the definitions: one table, one proof. A row is what is told and the record after it, then what is due; an f64 stands by its bits.
 use mathlib.Core.Path.{_≡_, refl}
-use mathlib.Core.Bool.{Bool, true, false, _&&_}
+use mathlib.Core.Bool.{Bool, true, _&&_}
 use mathlib.Core.List.{List, [], _∷_, _++_}
 use Prim.Native.Nat.{ℕ}
-use lib.Dec.{eqb}
 use lib.ListN.{replicate}
 use lib.Ieee.{binary64, div, lt, le, eq, ofInt, ofBits, toBits}
 use Rattle.laws.specs.Define.{refusal, allOf}
+use Rattle.laws.proofs.Lists.{same}
 use Rattle.throughput.specs.declared.Throughput.{Throughput}
 use Rattle.throughput.specs.Rate.{rateOf, rateSound}
-use Rattle.throughput.specs.Window.{ratesSound, inOrder, recordSound, feedRefusal, opened, lower, higher, closedBy, feedAnswer, toldOf, feedTold}
+use Rattle.throughput.specs.Window.{ratesSound, ratesInOrder, recordSound, feedRefusal, opened, lower, higher, closedBy, feedAnswer, toldOf, feedTold}
 use Rattle.throughput.specs.Lists.{zeroThroughput, feedAll}
 
 abbrev part : ℕ
@@ -44,14 +44,8 @@ held t = toBits binary64 (t .last) ∷ toBits binary64 (t .least) ∷ toBits bin
 
 -- refusal, kind, rounds and rate, then the record
 unfoldable pub fed : Throughput → ℕ → List ℕ
-unfolding held toBits feedTold toldOf feedAnswer feedRefusal refusal recordSound ratesSound rateSound inOrder le lt eq opened closedBy lower higher rateOf div ofInt ofBits
+unfolding held toBits feedTold toldOf feedAnswer feedRefusal refusal recordSound ratesSound rateSound ratesInOrder le lt eq opened closedBy lower higher rateOf div ofInt ofBits
 fed t n = let a = feedTold t n in a .refusal ∷ a .kind ∷ a .rounds ∷ toBits binary64 (a .rate) ∷ held (a .throughput)
-
-unfoldable pub same : List ℕ → List ℕ → Bool
-same [] [] = true
-same [] (y ∷ l) = false
-same (x ∷ k) [] = false
-same (x ∷ k) (y ∷ l) = eqb x y && same k l
 
 -- refused by k, and the record as it came
 unfoldable pub refused : ℕ → Throughput → List ℕ

@@ -10,7 +10,7 @@ use borrow.Author.Tests.{ltb-true, ltb-false, lt-ltb, le-leb}
 use Rattle.laws.proofs.Tests.{by-test, and-left, and-right, and-true}
 use Rattle.throughput.specs.declared.Throughput.{Throughput}
 use Rattle.throughput.specs.Rate.{rateOf, rateSound}
-use Rattle.throughput.specs.Window.{ratesSound, inOrder, recordSound, feedTold, opened, closedBy, lower, higher}
+use Rattle.throughput.specs.Window.{ratesSound, ratesInOrder, recordSound, feedTold, opened, closedBy, lower, higher}
 use Rattle.throughput.specs.Feeds.{Held64}
 use Rattle.throughput.proofs.Exact.{rate-fits, sound-rate}
 use Rattle.throughput.proofs.Order.{rate-lower, rate-higher}
@@ -20,10 +20,10 @@ use Rattle.throughput.proofs.Records.{held-sound}
 abbrev Kept : Throughput → Type 0
 Kept r = Held64 r × (recordSound r ≡ true)
 
-pub rest-sound : (r : Throughput) → recordSound r ≡ true → (ratesSound (r .last) (r .least) (r .greatest) && inOrder (r .last) (r .least) (r .greatest) (r .closed)) ≡ true
+pub rest-sound : (r : Throughput) → recordSound r ≡ true → (ratesSound (r .last) (r .least) (r .greatest) && ratesInOrder (r .last) (r .least) (r .greatest) (r .closed)) ≡ true
 unfolding recordSound
 rest-sound r h =
-    let rest = ratesSound (r .last) (r .least) (r .greatest) && inOrder (r .last) (r .least) (r .greatest) (r .closed) in
+    let rest = ratesSound (r .last) (r .least) (r .greatest) && ratesInOrder (r .last) (r .least) (r .greatest) (r .closed) in
     and-right (leb (r .deliveries) (4 * r .rounds)) rest (and-right (ltb (r .rounds) 256) (leb (r .deliveries) (4 * r .rounds) && rest) h)
 
 open-keeps : (r : Throughput) (n : ℕ) → n ≤ 4 → r .rounds + 1 < 256 → Held64 r → recordSound r ≡ true → Kept (opened r n)
@@ -37,7 +37,7 @@ unfolding closedBy ratesSound
 close-keeps r m h f s = go (by-test (eqb (r .closed) 0))
   where
     three : ratesSound (r .last) (r .least) (r .greatest) ≡ true
-    three = and-left (ratesSound (r .last) (r .least) (r .greatest)) (inOrder (r .last) (r .least) (r .greatest) (r .closed)) (rest-sound r s)
+    three = and-left (ratesSound (r .last) (r .least) (r .greatest)) (ratesInOrder (r .last) (r .least) (r .greatest) (r .closed)) (rest-sound r s)
 
     both : (rateSound (r .least) ≡ true) × (rateSound (r .greatest) ≡ true)
     both = let e = and-right (rateSound (r .last)) (rateSound (r .least) && rateSound (r .greatest)) three in (and-left (rateSound (r .least)) (rateSound (r .greatest)) e, and-right (rateSound (r .least)) (rateSound (r .greatest)) e)

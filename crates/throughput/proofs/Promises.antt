@@ -18,7 +18,7 @@ use Rattle.laws.proofs.Lists.{all-of, all-imp, all-keep}
 use Rattle.throughput.specs.declared.Throughput.{Throughput}
 use Rattle.throughput.specs.declared.Told.{Told}
 use Rattle.throughput.specs.Rate.{rateOf, rateSound, deliveriesOf}
-use Rattle.throughput.specs.Window.{zero64, ratesSound, inOrder, recordSound, closedBy, feedTold}
+use Rattle.throughput.specs.Window.{zero64, ratesSound, ratesInOrder, recordSound, closedBy, feedTold}
 use Rattle.throughput.specs.Lists.{zeroThroughput, feedAll, ratesTold, counted, windows, openRounds, openDeliveries, lastOf, leastOf, greatestOf, recordOf}
 use Rattle.throughput.specs.Feeds.{IsRate, Held64, SoundRecord, SoundIs, Opens, Closes, FeedIs, Feeds}
 use Rattle.throughput.proofs.Exact.{cut as cut-back, rate-exact, rate-fits, value-sound, sound-value, sound-rate, times}
@@ -72,12 +72,12 @@ module _ (t : Throughput) where
   zeros = eq (t .last) zero64 && (eq (t .least) zero64 && eq (t .greatest) zero64)
 
   sound-facts : Held64 t → recordSound t ≡ true → SoundRecord t
-  unfolding ratesSound inOrder a b zeros
+  unfolding ratesSound ratesInOrder a b zeros
   sound-facts f h =
       let w = sound-window t h in
       let r = rest-sound t h in
-      let three = and-left (ratesSound (t .last) (t .least) (t .greatest)) (inOrder (t .last) (t .least) (t .greatest) (t .closed)) r in
-      let order = and-right (ratesSound (t .last) (t .least) (t .greatest)) (inOrder (t .last) (t .least) (t .greatest) (t .closed)) r in
+      let three = and-left (ratesSound (t .last) (t .least) (t .greatest)) (ratesInOrder (t .last) (t .least) (t .greatest) (t .closed)) r in
+      let order = and-right (ratesSound (t .last) (t .least) (t .greatest)) (ratesInOrder (t .last) (t .least) (t .greatest) (t .closed)) r in
       let s1 = and-left (rateSound (t .last)) (rateSound (t .least) && rateSound (t .greatest)) three in
       let s23 = and-right (rateSound (t .last)) (rateSound (t .least) && rateSound (t .greatest)) three in
       let s2 = and-left (rateSound (t .least)) (rateSound (t .greatest)) s23 in
@@ -100,7 +100,7 @@ module _ (t : Throughput) where
       }
 
   facts-sound : SoundRecord t → recordSound t ≡ true
-  unfolding recordSound ratesSound inOrder
+  unfolding recordSound ratesSound ratesInOrder
   facts-sound R =
       and-true (lt-ltb (t .rounds) 256 (R .open-rounds))
       (and-true (le-leb (t .deliveries) (4 * t .rounds) (R .open-deliveries))

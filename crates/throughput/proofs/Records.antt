@@ -12,7 +12,7 @@ use Rattle.laws.specs.Every.{All}
 use Rattle.laws.proofs.Tests.{by-test}
 use Rattle.throughput.specs.declared.Throughput.{Throughput}
 use Rattle.throughput.specs.Rate.{rateOf, rateSound}
-use Rattle.throughput.specs.Window.{ratesSound, inOrder, recordSound, opened, closedBy, zero64}
+use Rattle.throughput.specs.Window.{ratesSound, ratesInOrder, recordSound, opened, closedBy, zero64}
 use Rattle.throughput.specs.Lists.{feedAll, ratesTold, lastOf, leastOf, greatestOf, held, recordOf}
 use Rattle.throughput.proofs.Answers.{told-open, told-close}
 use Rattle.throughput.proofs.Order.{rate-le, rate-is-sound, rate-lower, rate-higher}
@@ -29,8 +29,8 @@ Window k s = (k < 256) × (s ≤ 4 * k)
 abbrev pub Three : ℕ → ℕ → ℕ → Type 0
 Three z a g = (a ≤ z) × (z ≤ g) × (g ≤ 1024)
 
-zeros-sound : (ratesSound zero64 zero64 zero64 && inOrder zero64 zero64 zero64 0) ≡ true
-unfolding ratesSound rateSound inOrder le eq
+zeros-sound : (ratesSound zero64 zero64 zero64 && ratesInOrder zero64 zero64 zero64 0) ≡ true
+unfolding ratesSound rateSound ratesInOrder le eq
 zeros-sound = refl
 
 pub start-sound : (k s : ℕ) → Window k s → recordSound (start k s) ≡ true
@@ -38,7 +38,7 @@ unfolding recordSound
 start-sound k s w = rw (lt-ltb k 256 (w .0), le-leb s (4 * k) (w .1)) zeros-sound
 
 pub held-sound : (z a g k s : ℕ) → Three z a g → Window k s → recordSound (held z a g k s) ≡ true
-unfolding recordSound ratesSound inOrder
+unfolding recordSound ratesSound ratesInOrder
 held-sound z a g k s t w =
     rw (
       lt-ltb k 256 (w .0),

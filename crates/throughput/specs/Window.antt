@@ -22,8 +22,8 @@ unfoldable pub ratesSound : Float → Float → Float → Bool
 ratesSound last least greatest = rateSound last && (rateSound least && rateSound greatest)
 
 -- "or not least ≤ last ≤ greatest, or a rate isn't 0 before the first close"; ≤ and = are f64's own
-unfoldable pub inOrder : Float → Float → Float → ℕ → Bool
-inOrder last least greatest closed =
+unfoldable pub ratesInOrder : Float → Float → Float → ℕ → Bool
+ratesInOrder last least greatest closed =
     le least last && (le last greatest && (not (eqb closed 0) || (eq last zero64 && (eq least zero64 && eq greatest zero64))))
 
 -- "A record is 30 if its open window has 256 rounds or more or over four deliveries a round, or …": what passes all of it
@@ -31,7 +31,7 @@ unfoldable pub recordSound : Throughput → Bool
 recordSound t =
     ltb (t .rounds) 256
     && (leb (t .deliveries) (4 * t .rounds)
-    && (ratesSound (t .last) (t .least) (t .greatest) && inOrder (t .last) (t .least) (t .greatest) (t .closed)))
+    && (ratesSound (t .last) (t .least) (t .greatest) && ratesInOrder (t .last) (t .least) (t .greatest) (t .closed)))
 
 -- "A record is 30 if …"; "41, a count above 4, checked after 30"
 unfoldable pub feedRefusal : Throughput → ℕ → ℕ

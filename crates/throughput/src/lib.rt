@@ -3,7 +3,7 @@ ghost use mathlib.Core.Path.{_≡_};
 ghost use Prim.Native.Nat.{_≤_};
 ghost use Rattle.throughput.specs.Rate.{rateOf, rateSound, deliveriesOf};
 ghost use Rattle.throughput.specs.Lists.{zeroThroughput};
-ghost use Rattle.throughput.specs.Window.{ratesSound, inOrder, recordSound, lower, higher, closedBy, feedAnswer, toldOf, feedTold};
+ghost use Rattle.throughput.specs.Window.{ratesSound, ratesInOrder, recordSound, lower, higher, closedBy, feedAnswer, toldOf, feedTold};
 
 // "A record is 30 if …"
 pub const UNSOUND: u8 = 30;
@@ -88,8 +88,8 @@ fn rates_sound(last: f64, least: f64, greatest: f64) -> bool
 }
 
 // Whether they stand in order, and are 0 before the first close.
-fn in_order(last: f64, least: f64, greatest: f64, closed: u8) -> bool
-    ensures { λ b. ⌜ b ≡ inOrder last least greatest closed ⌝ }
+fn rates_in_order(last: f64, least: f64, greatest: f64, closed: u8) -> bool
+    ensures { λ b. ⌜ b ≡ ratesInOrder last least greatest closed ⌝ }
 {
     if least <= last {
         if last <= greatest {
@@ -121,7 +121,7 @@ fn sound(t: Throughput) -> bool
     if !a {
         return false;
     }
-    in_order(t.last, t.least, t.greatest, t.closed)
+    rates_in_order(t.last, t.least, t.greatest, t.closed)
 }
 
 // The lesser of two rates, and the greater.

@@ -6,17 +6,9 @@ use floor::Floor;
 use floor::zero_floor;
 use trials_tally::Tally;
 use trials_tally::floors;
+use trials_tally::floors::canister;
+use trials_tally::same_bytes;
 use trials_tally::trial;
-
-fn same_bytes(x: &[u8; 128], y: &[u8; 128]) -> bool {
-    let mut all = true;
-    let mut k: usize = 0;
-    while k < 128 {
-        all = all & (x[k] == y[k]);
-        k += 1;
-    }
-    all
-}
 
 // 1 where two floors have the same image.
 fn same(x: Floor, y: Floor) -> u64
@@ -61,14 +53,6 @@ fn some(allowance: u32) -> Barge {
 fn near(allowance: u32) -> Barge {
     let f = floors::booked(floors::fresh(2, 1, 1, 1), 0, 5, 70, 0);
     four(f, f, f, f, allowance)
-}
-
-fn canister(number: u32, a: u16, b: u16) -> Canister {
-    Canister {
-        number: number,
-        a: a,
-        b: b,
-    }
 }
 
 fn book(b: Barge, floor: u32, tile: u32, c: Canister) -> u64 {

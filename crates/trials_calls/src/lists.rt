@@ -1,6 +1,5 @@
 // A list of bookings in one call, its entries by value.
 use book_list::Booking;
-use floor::Canister;
 use floor::Floor;
 use trials_tally::Tally;
 use trials_tally::floors;
@@ -12,11 +11,7 @@ use trials_tally::trial;
 fn entry(tile: u32, number: u32, a: u16, b: u16) -> Booking {
     Booking {
         tile: tile,
-        canister: Canister {
-            number: number,
-            a: a,
-            b: b,
-        },
+        canister: floors::canister(number, a, b),
         answer: 99,
     }
 }

@@ -31,15 +31,9 @@ fn refused(p: Plan, f: Floor, label: u32) -> u64 {
     1000
 }
 
-// The report of a round that delivers nothing.
-fn no_report() -> Report {
-    let round = calls::round(floors::fresh(2, 1, 1, 1));
-    round.report
-}
-
-// It with a list for the second hopper.
+// A report with nothing but a list for the second hopper.
 fn report_of(count: u8, numbers: [u32; 4]) -> Report {
-    let mut given = no_report();
+    let mut given = Report::ZERO;
     given.deliveries[1] = Delivery {
         numbers: numbers,
         count: count,
@@ -62,7 +56,7 @@ fn unmarked(p: Plan, given: Report) -> u64 {
 fn thrice(p: Plan) -> u64 {
     let n = offered(p);
     let release = refused(p, floors::fresh(2, 1, 1, 1), 1);
-    let report = unmarked(p, no_report());
+    let report = unmarked(p, Report::ZERO);
     if (release == n) & (report == n) {
         return n;
     }
@@ -215,7 +209,7 @@ fn numbers(t: Tally) -> Tally {
             refused(last, f, 1),
             refused(last, malformed, 48),
             offered(zero),
-            unmarked(above, no_report()),
+            unmarked(above, Report::ZERO),
         ],
         [30, 30, 40, 30, 100, 0],
     )

@@ -5,6 +5,7 @@ use trials_tally::Tally;
 use trials_tally::floors;
 use trials_tally::floors::place;
 use trials_tally::floors::wide;
+use trials_tally::same_bytes;
 use trials_tally::trial;
 
 fn fresh(columns: u8, rows: u8, hoppers: u64, sources: u64) -> Floor {
@@ -131,16 +132,6 @@ fn cut_off(t: Tally) -> Tally {
         gave,
         [1, place(5, 10, 0), 4, 5, 0, 1],
     )
-}
-
-fn same_bytes(x: &[u8; 94], y: &[u8; 94]) -> bool {
-    let mut all = true;
-    let mut k: usize = 0;
-    while k < 94 {
-        all = all & (x[k] == y[k]);
-        k += 1;
-    }
-    all
 }
 
 // 5 was delivered to hopper 0, 6 is still on tile 1.

@@ -7,6 +7,7 @@ use trials_tally::floors::kept;
 use trials_tally::floors::name;
 use trials_tally::floors::place;
 use trials_tally::floors::wide;
+use trials_tally::same_bytes;
 use trials_tally::trial;
 
 fn stopped(f: Floor, tile: u32) -> Floor {
@@ -170,16 +171,6 @@ fn freed(t: Tally) -> Tally {
         gave,
         [45, 0, 46, 0, 16655, 16911],
     )
-}
-
-fn same_bytes(x: &[u8; 134], y: &[u8; 134]) -> bool {
-    let mut all = true;
-    let mut k: usize = 0;
-    while k < 134 {
-        all = all & (x[k] == y[k]);
-        k += 1;
-    }
-    all
 }
 
 // The floor of 94 bytes with two hoppers, and two layouts of 20 bytes each.

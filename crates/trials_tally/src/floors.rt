@@ -46,14 +46,17 @@ pub fn several(columns: u8, rows: u8, hoppers: u64, sources: u64) -> Answer {
     calls::fresh(s)
 }
 
-// What booking canister `number` at (a, b) answers.
-pub fn book(f: Floor, tile: u32, number: u32, a: u16, b: u16) -> Answer {
-    let c = Canister {
+pub fn canister(number: u32, a: u16, b: u16) -> Canister {
+    Canister {
         number: number,
         a: a,
         b: b,
-    };
-    calls::book(f, tile, c)
+    }
+}
+
+// What booking canister `number` at (a, b) answers.
+pub fn book(f: Floor, tile: u32, number: u32, a: u16, b: u16) -> Answer {
+    calls::book(f, tile, canister(number, a, b))
 }
 
 pub fn booked(f: Floor, tile: u32, number: u32, a: u16, b: u16) -> Floor {

@@ -36,6 +36,20 @@ fn same(xs: [u64; 6], ys: [u64; 6]) -> bool {
     all
 }
 
+// Whether two buffers hold the same bytes.
+pub fn same_bytes(x: &[u8], y: &[u8]) -> bool {
+    if x.len() != y.len() {
+        return false;
+    }
+    let mut all = true;
+    let mut k: usize = 0;
+    while k < x.len() {
+        all = all & (x[k] == y[k]);
+        k += 1;
+    }
+    all
+}
+
 pub fn count(t: Tally, ok: bool) -> Tally {
     let mut next = t;
     if ok {

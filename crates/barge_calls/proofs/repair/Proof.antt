@@ -1,16 +1,10 @@
-use mathlib.Core.Path.{_≡_, sym, ap, _∙_}
-use mathlib.Core.List.{[]}
-use Rattle.laws.specs.Define.{refusal}
-use Rattle.floor.specs.declared.Floor.{Floor}
-use Rattle.floor.specs.declared.Answer.{Answer}
+use mathlib.Core.Path.{sym, _∙_}
 use Rattle.floor.specs.Model.{tileOf, withTile}
-use Rattle.floor.specs.Memory.{view}
 use Rattle.floor.specs.Calls.{repairTests, repaired, repairAnswer}
-use Rattle.floor.proofs.Answers.{formed, answer-refused, answer-by}
-use Rattle.barge.specs.Barges.{floorAt, withFloor, bargeRefusal, bargeRepair}
+use Rattle.barge.specs.Barges.{bargeRepair}
 use Rattle.barge.proofs.Sized.{floors-length}
-use Rattle.barge_parts.proofs.Joint.{readAt, read-is, read-well, begun-on}
-use Rattle.barge_calls.proofs.Answers.{by-first, by-own, by-last, refused, accepted}
+use Rattle.barge_parts.proofs.Joint.{begun-on}
+use Rattle.barge_calls.proofs.Presses.{press-begins, press-refused, press-accepted}
 use borrow.Author.Needs.{needs}
 use Rattle.barge_calls.proofs.repair.Statement.{statement}
 use Rattle.barge_calls.proofs.repair.Tie as tie
@@ -27,74 +21,61 @@ mul-old : tie.Need-mul-old
 mul-old c = search needs
 
 element-copy-out-old : tie.Need-element-copy-out-old
-element-copy-out-old c = let g = c .before .before .args in
+element-copy-out-old c =
+    let g = c .before .before .args in
     let i = c .before .begin in
-    let o = begun-on g.barge g.floor (i .result .refusal) (i .ensures .0) (c .if1 .taken) in
-    o .1
+    let B = begun-on g.barge g.floor (i .result .refusal) (floors-length g.barge _ (c .before .before .good .0)) (i .ensures .0) (c .if1 .taken) in
+    B .named
 
 repair-refusal-requires : tie.Need-repair-refusal-requires
-repair-refusal-requires c κs = let g = c .before .before .before .args in
+repair-refusal-requires c κs =
+    let g = c .before .before .before .args in
     let i = c .before .before .begin in
-    let o = begun-on g.barge g.floor (i .result .refusal) (i .ensures .0) (c .before .if1 .taken) in
-    let four = floors-length g.barge _ (c .before .before .before .good .0) in
-    read-well g.barge four (o .0) g.floor (o .1)
+    let B = begun-on g.barge g.floor (i .result .refusal) (floors-length g.barge _ (c .before .before .before .good .0)) (i .ensures .0) (c .before .if1 .taken) in
+    B .well
 
 repaired-floor-requires : tie.Need-repaired-floor-requires
-repaired-floor-requires c κs = let g = c .before .before .before .before .before .args in
+repaired-floor-requires c κs =
+    let g = c .before .before .before .before .before .args in
     let i = c .before .before .before .before .begin in
-    let o = begun-on g.barge g.floor (i .result .refusal) (i .ensures .0) (c .before .before .before .if1 .taken) in
-    let four = floors-length g.barge _ (c .before .before .before .before .before .good .0) in
-    (read-well g.barge four (o .0) g.floor (o .1), sym (c .before .repair-refusal .ensures) ∙ c .if2 .taken)
+    let B = begun-on g.barge g.floor (i .result .refusal) (floors-length g.barge _ (c .before .before .before .before .before .good .0)) (i .ensures .0) (c .before .before .before .if1 .taken) in
+    (B .well, sym (c .before .repair-refusal .ensures) ∙ c .if2 .taken)
 
 mul-repaired : tie.Need-mul-repaired
 mul-repaired c = search needs
 
 element-set-from-repaired : tie.Need-element-set-from-repaired
-element-set-from-repaired c = let g = c .before .before .before .before .before .before .args in
+element-set-from-repaired c =
+    let g = c .before .before .before .before .before .before .args in
     let i = c .before .before .before .before .before .begin in
-    let o = begun-on g.barge g.floor (i .result .refusal) (i .ensures .0) (c .before .before .before .before .if1 .taken) in
-    o .1
+    let B = begun-on g.barge g.floor (i .result .refusal) (floors-length g.barge _ (c .before .before .before .before .before .before .good .0)) (i .ensures .0) (c .before .before .before .before .if1 .taken) in
+    B .named
 
 returns : tie.Need-returns
-unfolding bargeRepair repairAnswer refusal
-returns c = let g = c .before .before .before .before .before .before .args in
+unfolding bargeRepair repairAnswer
+returns c =
+    let g = c .before .before .before .before .before .before .args in
     let i = c .before .before .before .before .before .begin in
-    let o = begun-on g.barge g.floor (i .result .refusal) (i .ensures .0) (c .before .before .before .before .if1 .taken) in
-    let four = floors-length g.barge _ (c .before .before .before .before .before .before .good .0) in
-    let w = read-well g.barge four (o .0) g.floor (o .1) in
+    let B = begun-on g.barge g.floor (i .result .refusal) (floors-length g.barge _ (c .before .before .before .before .before .before .good .0)) (i .ensures .0) (c .before .before .before .before .if1 .taken) in
     let n = c .before .before .repair-refusal in
-    let f = readAt g.barge g.floor in
-    let l = repairAnswer (floorAt g.barge g.floor) g.tile in
-    let same = ap (λ (x : Floor). repairAnswer x g.tile) (read-is g.barge g.floor four (o .1)) in
-    let after = withTile (view f) g.tile (repaired (tileOf (view f) g.tile)) in
-    let q = formed f (repairTests (view f) g.tile) (n .result) w (n .ensures) in
     let p = c .repaired-floor in
-    let e : _≡_ {A = Answer} (record { refusal = n .result; floor = p .result }) l = answer-by f (p .result) (repairTests (view f) g.tile) after (n .result) q (c .before .if2 .taken) (p .ensures) ∙ same in
-    ap (λ (r : Answer). record { barge = withFloor g.barge g.floor (r .floor); refusal = n .result }) e ∙ accepted g.barge g.floor (l .floor) (bargeRefusal g.barge g.floor (l .refusal) []) (n .result) (by-last g.barge g.floor (l .refusal) [] (o .0) (o .1) (sym (ap (λ (r : Answer). r .refusal) e) ∙ c .before .if2 .taken) (n .result) (c .before .if2 .taken)) (c .before .if2 .taken)
+    press-accepted (λ m. repairTests m g.tile) (λ m. withTile m g.tile (repaired (tileOf m g.tile))) g.barge g.floor B (n .result) (n .ensures) (c .before .if2 .taken) (p .result) (p .ensures)
 
 returns-2 : tie.Need-returns-2
 unfolding bargeRepair repairAnswer
-returns-2 c = let g = c .before .before .before .before .before .args in
+returns-2 c =
+    let g = c .before .before .before .before .before .args in
     let i = c .before .before .before .before .begin in
-    let o = begun-on g.barge g.floor (i .result .refusal) (i .ensures .0) (c .before .before .before .if1 .taken) in
-    let four = floors-length g.barge _ (c .before .before .before .before .before .good .0) in
-    let w = read-well g.barge four (o .0) g.floor (o .1) in
+    let B = begun-on g.barge g.floor (i .result .refusal) (floors-length g.barge _ (c .before .before .before .before .before .good .0)) (i .ensures .0) (c .before .before .before .if1 .taken) in
     let n = c .before .repair-refusal in
-    let f = readAt g.barge g.floor in
-    let l = repairAnswer (floorAt g.barge g.floor) g.tile in
-    let same = ap (λ (x : Floor). repairAnswer x g.tile) (read-is g.barge g.floor four (o .1)) in
-    let after = withTile (view f) g.tile (repaired (tileOf (view f) g.tile)) in
-    let q = formed f (repairTests (view f) g.tile) (n .result) w (n .ensures) in
-    let e : _≡_ {A = Answer} (record { refusal = n .result; floor = f }) l = answer-refused f (repairTests (view f) g.tile) after (n .result) q (c .if2 .left) ∙ same in
-    let h = ap (λ (r : Answer). r .refusal) e in
-    refused g.barge g.floor (l .floor) (bargeRefusal g.barge g.floor (l .refusal) []) (n .result) (by-own g.barge g.floor (l .refusal) [] (o .0) (o .1) (λ z. c .if2 .left (h ∙ z)) ∙ sym h) (c .if2 .left)
+    press-refused (λ m. repairTests m g.tile) (λ m. withTile m g.tile (repaired (tileOf m g.tile))) g.barge g.floor B (n .result) (n .ensures) (c .if2 .left)
 
 returns-3 : tie.Need-returns-3
 unfolding bargeRepair repairAnswer
-returns-3 c = let g = c .before .before .args in
+returns-3 c =
+    let g = c .before .before .args in
     let i = c .before .begin in
-    let l = repairAnswer (floorAt g.barge g.floor) g.tile in
-    refused g.barge g.floor (l .floor) (bargeRefusal g.barge g.floor (l .refusal) []) (i .result .refusal) (by-first g.barge g.floor (l .refusal) [] (i .result .refusal) (i .ensures .0) (c .if1 .left)) (c .if1 .left)
+    press-begins (λ m. repairTests m g.tile) (λ m. withTile m g.tile (repaired (tileOf m g.tile))) g.barge g.floor (i .result .refusal) (i .ensures .0) (c .if1 .left)
 
 pub repair-spec : {M : Type 1} → statement M
 repair-spec =

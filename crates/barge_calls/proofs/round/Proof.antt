@@ -3,81 +3,73 @@ use mathlib.Core.Bool.{true}
 use mathlib.Core.List.{[]}
 use Rattle.laws.specs.Define.{refusal}
 use Rattle.floor.specs.declared.Floor.{Floor}
-use Rattle.floor.specs.declared.Report.{Report}
 use Rattle.floor.specs.declared.Rounded.{Rounded}
 use Rattle.floor.specs.Well.{wellFormed}
-use Rattle.floor.specs.Calls.{roundAnswer}
+use Rattle.floor.specs.Calls.{zeroReport, roundAnswer}
 use Rattle.barge.specs.Barges.{floorAt, withFloor, bargeRefusal, bargeRound}
+use Rattle.barge.proofs.Answers.{round-passes}
 use Rattle.barge.proofs.Sized.{floors-length}
-use Rattle.barge_parts.proofs.Joint.{read-is, read-well, begun-on}
-use Rattle.barge_calls.proofs.Answers.{by-first, by-last, round-passes, rounded-refused, rounded-accepted}
+use Rattle.barge_parts.proofs.Joint.{begun-on}
+use Rattle.barge_calls.proofs.Answers.{by-first, by-last, rounded-refused, rounded-accepted}
 use borrow.Author.Needs.{needs}
 use Rattle.barge_calls.proofs.round.Statement.{statement}
 use Rattle.barge_calls.proofs.round.Tie as tie
 use Rattle.barge_calls.proofs.round.Reads as reads
 use Rattle.barge_calls.proofs.round.Lts as lts
 use Rattle.barge_parts.proofs.begin.Reads as begin-reads
-use Rattle.barge_parts.proofs.no_report.Reads as no-report-reads
 use Rattle.round_move.proofs.run_round.Reads as run-round-reads
 
 begin-requires : tie.Need-begin-requires
 begin-requires c κs = search needs
 
-no-report-requires : tie.Need-no-report-requires
-no-report-requires c κs = search needs
-
 mul-old : tie.Need-mul-old
 mul-old c = search needs
 
 element-copy-out-old : tie.Need-element-copy-out-old
-element-copy-out-old c = let g = c .before .before .before .before .args in
-    let i = c .before .before .before .begin in
-    let o = begun-on g.barge g.floor (i .result .refusal) (i .ensures .0) (c .if1 .taken) in
-    o .1
+element-copy-out-old c = let g = c .before .before .before .args in
+    let i = c .before .before .begin in
+    let B = begun-on g.barge g.floor (i .result .refusal) (floors-length g.barge _ (c .before .before .before .good .0)) (i .ensures .0) (c .if1 .taken) in
+    B .named
 
 run-round-requires : tie.Need-run-round-requires
-run-round-requires c κs = let g = c .before .before .before .before .before .args in
-    let i = c .before .before .before .before .begin in
-    let o = begun-on g.barge g.floor (i .result .refusal) (i .ensures .0) (c .before .if1 .taken) in
-    let four = floors-length g.barge _ (c .before .before .before .before .before .good .0) in
-    read-well g.barge four (o .0) g.floor (o .1)
+run-round-requires c κs = let g = c .before .before .before .before .args in
+    let i = c .before .before .before .begin in
+    let B = begun-on g.barge g.floor (i .result .refusal) (floors-length g.barge _ (c .before .before .before .before .good .0)) (i .ensures .0) (c .before .if1 .taken) in
+    B .well
 
 mul-moved : tie.Need-mul-moved
 mul-moved c = search needs
 
 element-set-from-moved : tie.Need-element-set-from-moved
-element-set-from-moved c = let g = c .before .before .before .before .before .before .before .args in
-    let i = c .before .before .before .before .before .before .begin in
-    let o = begun-on g.barge g.floor (i .result .refusal) (i .ensures .0) (c .before .before .before .if1 .taken) in
-    o .1
+element-set-from-moved c = let g = c .before .before .before .before .before .before .args in
+    let i = c .before .before .before .before .before .begin in
+    let B = begun-on g.barge g.floor (i .result .refusal) (floors-length g.barge _ (c .before .before .before .before .before .before .good .0)) (i .ensures .0) (c .before .before .before .if1 .taken) in
+    B .named
 
 returns : tie.Need-returns
 unfolding bargeRound refusal
-returns c = let g = c .before .before .before .before .before .before .before .before .args in
-    let i = c .before .before .before .before .before .before .before .begin in
-    let o = begun-on g.barge g.floor (i .result .refusal) (i .ensures .0) (c .before .before .before .before .if1 .taken) in
-    let four = floors-length g.barge _ (c .before .before .before .before .before .before .before .before .good .0) in
+returns c = let g = c .before .before .before .before .before .before .before .args in
+    let i = c .before .before .before .before .before .before .begin in
+    let B = begun-on g.barge g.floor (i .result .refusal) (floors-length g.barge _ (c .before .before .before .before .before .before .before .good .0)) (i .ensures .0) (c .before .before .before .before .if1 .taken) in
     let r = c .before .before .run-round in
     let l = roundAnswer (floorAt g.barge g.floor) in
-    let e : r .result ≡ l = r .ensures ∙ ap roundAnswer (read-is g.barge g.floor four (o .1)) in
+    let e : r .result ≡ l = r .ensures ∙ ap roundAnswer (B .is) in
     let z = c .before .before .before .before .if1 .taken in
     ap (λ (x : Rounded). record { barge = withFloor g.barge g.floor (x .floor); report = x .report; refusal = i .result .refusal }) e
-    ∙ rounded-accepted g.barge g.floor (l .floor) (bargeRefusal g.barge g.floor (l .refusal) []) (i .result .refusal) (by-last g.barge g.floor (l .refusal) [] (o .0) (o .1) (round-passes (floorAt g.barge g.floor) (subst (λ (f : Floor). wellFormed f ≡ true) (read-is g.barge g.floor four (o .1)) (read-well g.barge four (o .0) g.floor (o .1)))) (i .result .refusal) z) (l .report) z
+    ∙ rounded-accepted g.barge g.floor (l .floor) (bargeRefusal g.barge g.floor (l .refusal) []) (i .result .refusal) (by-last g.barge g.floor (l .refusal) [] B (round-passes (floorAt g.barge g.floor) (subst (λ (f : Floor). wellFormed f ≡ true) (B .is) (B .well))) (i .result .refusal) z) (l .report) z
 
 returns-2 : tie.Need-returns-2
-unfolding bargeRound
-returns-2 c = let g = c .before .before .before .before .args in
-    let i = c .before .before .before .begin in
+unfolding bargeRound zeroReport
+returns-2 c = let g = c .before .before .before .args in
+    let i = c .before .before .begin in
     let l = roundAnswer (floorAt g.barge g.floor) in
-    ap (λ (x : Report). record { barge = g.barge; report = x; refusal = i .result .refusal }) (c .before .before .no-report .ensures)
-    ∙ rounded-refused g.barge g.floor (l .floor) (bargeRefusal g.barge g.floor (l .refusal) []) (i .result .refusal) (by-first g.barge g.floor (l .refusal) [] (i .result .refusal) (i .ensures .0) (c .if1 .left)) (l .report) (c .if1 .left)
+    rounded-refused g.barge g.floor (l .floor) (bargeRefusal g.barge g.floor (l .refusal) []) (i .result .refusal) (by-first g.barge g.floor (l .refusal) [] (i .result .refusal) (i .ensures .0) (c .if1 .left)) (l .report) (c .if1 .left)
 
 pub round-spec : {M : Type 1} → statement M
 round-spec =
     tie.close
     (tie.spec
     begin-requires
-    no-report-requires
     mul-old
     element-copy-out-old
     run-round-requires

@@ -84,7 +84,7 @@ returns c =
     let four : l .k ≡ 4 = omega arith in
     let s : l .sound ≡ bargeSound g.t1 = l .inv .checked ∙ ap (λ (k : ℕ). allowanceSound (g.t1 .allowance) && allBelow (wellAt g.t1) k) four ∙ sound-by g.t1 (l .inv .floors-length) in
     let e = n .ensures ∙ ap (λ (x : Bool). refusal ((not x, 30) ∷ (leb 4 g.floor, 49) ∷ [])) s in
-    (e, λ z. l .inv .totalled ∙ ap (counted g.t1) four ∙ counted-all g.t1 (l .inv .floors-length) (begun-on g.t1 g.floor (n .result) e z .0))
+    (e, λ z. l .inv .totalled ∙ ap (counted g.t1) four ∙ counted-all g.t1 (l .inv .floors-length) (begun-on g.t1 g.floor (n .result) (l .inv .floors-length) e z .sound))
 
 pub begin-spec : {M : Type 1} → statement M
 begin-spec = tie.close (tie.spec Inv-loop μ-loop loop-holds mul-each element-copy-out-each well-formed-requires on-floor-requires add-total add-k loop-less loop-again first-refusal-requires returns)

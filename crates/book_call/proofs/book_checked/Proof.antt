@@ -6,10 +6,10 @@ use native.Mathlib.Omega.{arith}
 use Rattle.laws.specs.Define.{refusal}
 use Rattle.floor.specs.declared.Floor.{Floor}
 use Rattle.floor.specs.Memory.{view}
-use Rattle.floor.specs.Calls.{refusalOf, bookAnswer, bookTests, booked}
+use Rattle.floor.specs.Calls.{bookAnswer, bookTests, booked}
 use Rattle.floor.proofs.Pack.{well-few, well-measured}
 use Rattle.floor.proofs.Sized.{tiles-length, items-length}
-use Rattle.floor.proofs.Answers.{malformed, formed, answer-refused, answer-by}
+use Rattle.floor.proofs.Answers.{answer-malformed, answer-refused, answer-accepted}
 use Rattle.book_call.proofs.Tests.{book-fits}
 use Rattle.book_call.proofs.Loops.{PlacesRead, read-none, read-turn, all-read, PlacesPut, put-none, put-turn, all-put}
 use Rattle.book_call.proofs.Booking.{own-few, book-number, book-ready, booked-pack}
@@ -50,12 +50,12 @@ module _ (s : tie.After-loop Inv-loop μ-loop Inv-loop2 μ-loop2) where
   own = all-read (s .before .loop .inv) (omega arith)
 
 -- the number found is the floor's
-number-is : (s : tie.After-book-refusal Inv-loop μ-loop Inv-loop2 μ-loop2) → refusalOf (floor (s .before)) (tests (s .before)) ≡ s .book-refusal .result
-number-is s = let p = own (s .before) in formed _ _ _ (p .well) (book-number p _ _ (s .book-refusal .ensures))
+number-is : (s : tie.After-book-refusal Inv-loop μ-loop Inv-loop2 μ-loop2) → s .book-refusal .result ≡ refusal (tests (s .before))
+number-is s = book-number (own (s .before)) _ _ (s .book-refusal .ensures)
 
 -- the booking is accepted
 accepted : (s : tie.Then2 Inv-loop μ-loop Inv-loop2 μ-loop2) → refusal (tests (s .before .before)) ≡ 0
-accepted s = sym (book-number (own (s .before .before)) _ _ (s .before .book-refusal .ensures)) ∙ s .if2 .taken
+accepted s = sym (number-is (s .before)) ∙ s .if2 .taken
 
 -- ---- the code in its order
 cast-t : tie.Need-cast-t Inv-loop μ-loop Inv-loop2 μ-loop2
@@ -155,7 +155,7 @@ returns c =
     let s = c .before .before .before .before .before .before in
     let r = s .before .before in
     let g = start r .args in
-    answer-by g.floor _ (tests r) (booked (view g.floor) g.tile g.canister) _ (number-is (s .before)) (s .if2 .taken)
+    answer-accepted g.floor (tests r) (booked (view g.floor) g.tile g.canister) (own r .well) _ (number-is (s .before)) (s .if2 .taken) _
     (booked-pack (own r) g.canister (accepted s) (m .result) (l .changed) _ _ (m .ensures) (all-put (l .inv) (omega arith)) (c .before .with-count .ensures) (c .with-booking .ensures))
 
 returns-2 : tie.Need-returns-2 Inv-loop μ-loop Inv-loop2 μ-loop2
@@ -163,14 +163,14 @@ unfolding bookAnswer
 returns-2 c =
     let r = c .before .before in
     let g = start r .args in
-    answer-refused g.floor (tests r) (booked (view g.floor) g.tile g.canister) _ (number-is (c .before)) (c .if2 .left)
+    answer-refused g.floor (tests r) (booked (view g.floor) g.tile g.canister) (own r .well) _ (number-is (c .before)) (c .if2 .left)
 
 returns-3 : tie.Need-returns-3 Inv-loop μ-loop Inv-loop2 μ-loop2
 unfolding bookAnswer
 returns-3 c =
     let g = c .before .args in
     let t = bookTests (view g.floor) g.tile g.canister in
-    answer-refused g.floor t (booked (view g.floor) g.tile g.canister) 30 (malformed g.floor t (sym (c .before .pre) ∙ c .if1 .left)) (omega arith)
+    answer-malformed g.floor t (booked (view g.floor) g.tile g.canister) (sym (c .before .pre) ∙ c .if1 .left)
 
 pub book-checked-spec : {M : Type 1} → statement M
 book-checked-spec =

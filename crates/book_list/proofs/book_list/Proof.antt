@@ -55,7 +55,7 @@ use Rattle.book_list.specs.declared.Begun.{Begun}
 use Rattle.floor.specs.Well.{wellFormed}
 use Rattle.book_list.specs.Parts.{entryOf, entriesOf, begunOf, answerOf}
 use Rattle.book_list.proofs.Kept.{begun-well}
-use Rattle.book_list.proofs.Upto.{floorUpto, listUpto, list-length, list-step, floor-step, entries-most, done-list, done-answer}
+use Rattle.book_list.proofs.Upto.{zeroBooking, floorUpto, listUpto, list-length, list-step, floor-step, entries-most, done-list, done-answer}
 use Rattle.book_list.proofs.Booking as S
 use Rattle.book_list.proofs.Booking.Laws as S′
 use Rattle.floor.proofs.Floor as Z
@@ -106,9 +106,6 @@ valD = LL.val D.the-type D′.the-laws
 
 abbrev valE : Begun → Val
 valE = LL.val E.the-type E′.the-laws
-
-abbrev zb : Booking
-zb = record { tile = 0; canister = record { number = 0; a = 0; b = 0 }; answer = 0 }
 
 -- what one entry's booking ensures
 abbrev Booked : Floor → Booking → Done → Type 0
@@ -241,7 +238,7 @@ module _ {M : Type 1} (𝓤 : URA M) (H : Heap 𝓤) (A : Atoms 𝓤) (W : Given
         assigns ! (bin ! (load ! (from ! (stop !)) (look ! 13 refl)) (lit ! tt) (record { fits = scaled })) (from ! (stop !)) (init ! 8 refl (tt, record { fits = scaled })) $
         assigns ! (bin ! (load ! (from ! (fld ! refl (stop !))) (look-in ! 16 (sub ! 0 refl (whole !)))) (load ! (from ! (stop !)) (look ! 8 refl)) tt) (from ! (stop !)) (init ! 7 refl (tt, tt)) $
         rewrite ! 7 (λ (k : ℕ). ‵ (fat fullShare tyPtr l₁₁ 0 (vptr b k))) (sym (place-is 16 o i)) refl $
-        elem-out ! S.the-row (Is S.the-row) (shows 𝓤 H A S.the-row) (LL.vals S.the-type S′.the-laws) (LL.tells S.the-type S′.the-laws) fullShare (listUpto i s xs) i zb b o inside (λ was.
+        elem-out ! S.the-row (Is S.the-row) (shows 𝓤 H A S.the-row) (LL.vals S.the-type S′.the-laws) (LL.tells S.the-type S′.the-laws) fullShare (listUpto i s xs) i zeroBooking b o inside (λ was.
         -- [the element; what it owns; the others; the open borrow; obs; auth; the floor's; _13; .. ; _0; ..]
         assigns ! (of-opd ! (load ! (from ! (hop ! (look ! 9 refl) (stop !))) (look-raw ! 0 refl))) (from ! (stop !)) (init ! 8 refl (typedB y (valB y) was)) $
         assigns ! (of-opd ! (load ! (from ! (stop !)) (look ! 8 refl))) (from ! (stop !)) (init ! 14 refl (typedB y (valB y) was)) $
@@ -264,7 +261,7 @@ module _ {M : Type 1} (𝓤 : URA M) (H : Heap 𝓤) (A : Atoms 𝓤) (W : Given
         forget ! 4 refl $ forget ! 5 refl $ forget ! 6 refl $ forget ! 7 refl $ forget ! 8 refl $ forget ! 10 refl $ forget ! 11 refl $
         owned ! Z.the-row (Is Z.the-row) (LL.makes Z.the-type Z′.the-plain 𝓤 H A) (r .floor) (valZ (r .floor) ∷ []) (is-z r v is) $ move ! (1 ∷ 2 ∷ 3 ∷ 4 ∷ []) $
         rewrite ! 13 (λ (j : ℕ). ‵ (fat fullShare word l₅ 0 (vint w64 j))) (add-one i) refl $
-        rewrite ! 0 (λ (ws : List Booking). ‵ (row S.the-row fullShare ws b o)) (ap (λ (t : Done). set (listUpto i s xs) i (t .booking)) (e .0) ∙ list-step i s xs zb small) refl $
+        rewrite ! 0 (λ (ws : List Booking). ‵ (row S.the-row fullShare ws b o)) (ap (λ (t : Done). set (listUpto i s xs) i (t .booking)) (e .0) ∙ list-step i s xs zeroBooking small) refl $
         rewrite ! 4 (λ (t : Floor). ‵ (Z.the-row .own t (valZ t ∷ []))) (next r (e .0)) refl $
         rewrite ! 14 (λ (t : Floor). ‵ (fat fullShare Z′.mir l₄ 0 (valZ t))) (next r (e .0)) refl $ by ! (k (again r e)))))))
       where
@@ -275,7 +272,7 @@ module _ {M : Type 1} (𝓤 : URA M) (H : Heap 𝓤) (A : Atoms 𝓤) (W : Given
         z = floorUpto i s xs
 
         y : Booking
-        y = getD (listUpto i s xs) i zb
+        y = getD (listUpto i s xs) i zeroBooking
 
         w : Bool
         w = start .well
@@ -293,7 +290,7 @@ module _ {M : Type 1} (𝓤 : URA M) (H : Heap 𝓤) (A : Atoms 𝓤) (W : Given
         next-fits = omega (arith, small, g .0)
 
         next : (r : Done) → r ≡ entryOf z y → r .floor ≡ floorUpto (suc i) s xs
-        next r e = ap (λ (t : Done). t .floor) e ∙ floor-step i s xs zb small
+        next r e = ap (λ (t : Done). t .floor) e ∙ floor-step i s xs zeroBooking small
 
         again : (r : Done) → Booked z y r → Kept (suc i)
         again r e = ap wellFormed (sym (next r (e .0))) ∙ e .1 ∙ kept

@@ -10,7 +10,7 @@ use Rattle.book_list.specs.declared.Begun.{Begun}
 use Rattle.book_list.specs.declared.Done.{Done}
 use Rattle.book_list.specs.Listing.{floorSingly, entriesSingly}
 use Rattle.book_list.specs.Parts.{entryOf, entriesOf, placesAnswer}
-use Rattle.book_list.proofs.Upto.{floorUpto, listUpto, list-step, floor-step, upto-floor, upto-list, entries-few}
+use Rattle.book_list.proofs.Upto.{zeroBooking, floorUpto, listUpto, list-step, floor-step, upto-floor, upto-list, entries-few}
 use Rattle.book_list.proofs.Kept.{begun-well}
 use Rattle.book_list.proofs.Loops.{EntriesBooked}
 use borrow.Author.Needs.{needs}
@@ -21,9 +21,6 @@ use Rattle.book_list.proofs.book_places.Lts as lts
 use Rattle.book_list.proofs.answer_of.Reads as answer-of-reads
 use Rattle.book_list.proofs.begin_list.Reads as begin-list-reads
 use Rattle.book_list.proofs.book_entry.Reads as book-entry-reads
-
-abbrev zb : Booking
-zb = record { tile = 0; canister = record { number = 0; a = 0; b = 0 }; answer = 0 }
 
 abbrev Inv-loop : tie.InvT-loop
 Inv-loop n entries well now₀ places₀ i₀ now places i = EntriesBooked now₀ places₀ entries well now places i
@@ -74,14 +71,14 @@ loop-again c =
     let g = c .before .before .before .before .before .before .before .args in
     let r = c .before .before .book-entry in
     let small : l .i < length (g.list) = omega arith in
-    let e : r .result ≡ entryOf (floorUpto (l .i) g.floor g.list) (getD (listUpto (l .i) g.floor g.list) (l .i) zb) =
-    r .ensures .0 ∙ (λ j. entryOf (l .inv .floored j) (getD (l .inv .answered j) (l .i) zb)) in
+    let e : r .result ≡ entryOf (floorUpto (l .i) g.floor g.list) (getD (listUpto (l .i) g.floor g.list) (l .i) zeroBooking) =
+    r .ensures .0 ∙ (λ j. entryOf (l .inv .floored j) (getD (l .inv .answered j) (l .i) zeroBooking)) in
     record {
       below = omega arith;
       few = l .inv .few;
       list-length = l .inv .list-length;
-      answered = (λ j. set (l .inv .answered j) (l .i) (e j .booking)) ∙ list-step (l .i) g.floor g.list zb small ∙ ap (λ (k : ℕ). listUpto k g.floor g.list) (sym (add-one (l .i)));
-      floored = ap (λ (d : Done). d .floor) e ∙ floor-step (l .i) g.floor g.list zb small ∙ ap (λ (k : ℕ). floorUpto k g.floor g.list) (sym (add-one (l .i)));
+      answered = (λ j. set (l .inv .answered j) (l .i) (e j .booking)) ∙ list-step (l .i) g.floor g.list zeroBooking small ∙ ap (λ (k : ℕ). listUpto k g.floor g.list) (sym (add-one (l .i)));
+      floored = ap (λ (d : Done). d .floor) e ∙ floor-step (l .i) g.floor g.list zeroBooking small ∙ ap (λ (k : ℕ). floorUpto k g.floor g.list) (sym (add-one (l .i)));
       known = λ h. l .inv .known (omega arith) ∙ sym (r .ensures .1);
     }
 

@@ -1,10 +1,9 @@
-use mathlib.Core.Path.{sym, _∙_}
-use native.Mathlib.Omega.{arith}
+use mathlib.Core.Path.{refl, sym, _∙_}
 use borrow.Author.Tests.{not-true, not-false}
 use Rattle.floor.specs.Model.{tileOf, withTile}
 use Rattle.floor.specs.Memory.{view}
 use Rattle.floor.specs.Calls.{repairAnswer, repairTests, repaired}
-use Rattle.floor.proofs.Answers.{malformed, formed, answer-refused, answer-accepted}
+use Rattle.floor.proofs.Answers.{answer-malformed, answer-refused, answer-accepted}
 use borrow.Author.Needs.{needs}
 use Rattle.calls.proofs.repair.Statement.{statement}
 use Rattle.calls.proofs.repair.Tie as tie
@@ -21,7 +20,7 @@ returns : tie.Need-returns
 unfolding repairAnswer
 returns c = let g = c .before .before .args in
     let w = sym (c .before .well-formed .ensures) ∙ not-true _ (c .if1 .taken) in
-    answer-refused g.floor (repairTests (view g.floor) g.tile) (withTile (view g.floor) g.tile (repaired (tileOf (view g.floor) g.tile))) 30 (malformed g.floor (repairTests (view g.floor) g.tile) w) (omega arith)
+    answer-malformed g.floor (repairTests (view g.floor) g.tile) (withTile (view g.floor) g.tile (repaired (tileOf (view g.floor) g.tile))) w
 
 repair-refusal-requires : tie.Need-repair-refusal-requires
 repair-refusal-requires c κs = sym (c .before .well-formed .ensures) ∙ not-false _ (c .if1 .left)
@@ -31,7 +30,7 @@ unfolding repairAnswer
 returns-2 c = let g = c .before .before .before .before .args in
     let w = sym (c .before .before .before .well-formed .ensures) ∙ not-false _ (c .before .before .if1 .left) in
     let n = c .before .repair-refusal in
-    answer-refused g.floor (repairTests (view g.floor) g.tile) (withTile (view g.floor) g.tile (repaired (tileOf (view g.floor) g.tile))) (n .result) (formed g.floor (repairTests (view g.floor) g.tile) (n .result) w (n .ensures)) (c .if2 .taken)
+    answer-refused g.floor (repairTests (view g.floor) g.tile) (withTile (view g.floor) g.tile (repaired (tileOf (view g.floor) g.tile))) w (n .result) (n .ensures) (c .if2 .taken)
 
 repaired-floor-requires : tie.Need-repaired-floor-requires
 repaired-floor-requires c κs = let g = c .before .before .before .before .args in
@@ -45,7 +44,7 @@ returns-3 c = let g = c .before .before .before .before .before .args in
     let w = sym (c .before .before .before .before .well-formed .ensures) ∙ not-false _ (c .before .before .before .if1 .left) in
     let n = c .before .before .repair-refusal in
     let a = c .repaired-floor in
-    answer-accepted g.floor (a .result) (repairTests (view g.floor) g.tile) (withTile (view g.floor) g.tile (repaired (tileOf (view g.floor) g.tile))) (formed g.floor (repairTests (view g.floor) g.tile) (n .result) w (n .ensures) ∙ c .before .if2 .left) (a .ensures)
+    answer-accepted g.floor (repairTests (view g.floor) g.tile) (withTile (view g.floor) g.tile (repaired (tileOf (view g.floor) g.tile))) w 0 (sym (c .before .if2 .left) ∙ n .ensures) refl (a .result) (a .ensures)
 
 pub repair-spec : {M : Type 1} → statement M
 repair-spec =

@@ -1,26 +1,22 @@
 use mathlib.Core.Path.{sym, _∙_}
 use borrow.Author.Tests.{not-true, not-false}
+use Rattle.floor.specs.Calls.{zeroReport}
 use Rattle.calls.proofs.Answers.{round-refused}
 use borrow.Author.Needs.{needs}
 use Rattle.calls.proofs.round.Statement.{statement}
 use Rattle.calls.proofs.round.Tie as tie
 use Rattle.calls.proofs.round.Reads as reads
 use Rattle.calls.proofs.round.Lts as lts
-use Rattle.calls.proofs.no_report.Reads as no-report-reads
 use Rattle.round_move.proofs.run_round.Reads as run-round-reads
 use Rattle.check_floor.proofs.well_formed.Reads as well-formed-reads
 
 well-formed-requires : tie.Need-well-formed-requires
 well-formed-requires c κs = search needs
 
-no-report-requires : tie.Need-no-report-requires
-no-report-requires c κs = search needs
-
 returns : tie.Need-returns
-returns c = let g = c .before .before .before .args in
-    let w = sym (c .before .before .well-formed .ensures) ∙ not-true _ (c .before .if1 .taken) in
-    let r = c .no-report in
-    round-refused g.floor (r .result) w (r .ensures)
+unfolding zeroReport
+returns c = let g = c .before .before .args in
+    round-refused g.floor (sym (c .before .well-formed .ensures) ∙ not-true _ (c .if1 .taken))
 
 run-round-requires : tie.Need-run-round-requires
 run-round-requires c κs = sym (c .before .well-formed .ensures) ∙ not-false _ (c .if1 .left)
@@ -33,7 +29,6 @@ round-spec =
     tie.close
     (tie.spec
     well-formed-requires
-    no-report-requires
     returns
     run-round-requires
     returns-2)

@@ -1,15 +1,14 @@
 use Rattle.floor.specs.Well.{headSound}
-use Rattle.check_heads.specs.Head.{stateSound}
 use borrow.Author.Needs.{needs}
 use Rattle.check_heads.proofs.head_ok.Statement.{statement}
 use Rattle.check_heads.proofs.head_ok.Tie as tie
 use Rattle.check_heads.proofs.head_ok.Reads as reads
 use Rattle.check_heads.proofs.head_ok.Lts as lts
 use Rattle.check_heads.proofs.faces_ok.Reads as faces-ok-reads
-use Rattle.check_heads.proofs.state_ok.Reads as state-ok-reads
+use Rattle.check_heads.proofs.own_ok.Reads as own-ok-reads
 
-state-ok-requires : tie.Need-state-ok-requires
-state-ok-requires c κs = search needs
+own-ok-requires : tie.Need-own-ok-requires
+own-ok-requires c κs = search needs
 
 faces-ok-requires : tie.Need-faces-ok-requires
 faces-ok-requires c κs = c .before .before .before .pre
@@ -18,8 +17,8 @@ faces-ok-requires-2 : tie.Need-faces-ok-requires-2
 faces-ok-requires-2 c κs = c .before .before .before .before .pre
 
 returns : tie.Need-returns
-unfolding headSound stateSound
+unfolding headSound
 returns c = cc
 
 pub head-ok-spec : {M : Type 1} → statement M
-head-ok-spec = tie.close (tie.spec state-ok-requires faces-ok-requires faces-ok-requires-2 returns)
+head-ok-spec = tie.close (tie.spec own-ok-requires faces-ok-requires faces-ok-requires-2 returns)

@@ -13,7 +13,7 @@ use Rattle.check_places.proofs.pairs_ok.Statement.{statement}
 use Rattle.check_places.proofs.pairs_ok.Tie as tie
 use Rattle.check_places.proofs.pairs_ok.Reads as reads
 use Rattle.check_places.proofs.pairs_ok.Lts as lts
-use Rattle.check_places.proofs.in_order.Reads as in-order-reads
+use Rattle.check_places.proofs.pair_ok.Reads as pair-ok-reads
 
 abbrev Inv-loop2 : tie.InvT-loop2
 Inv-loop2 s n items ok₀ j y i₀ ok i = PairedWith s n items j y ok i
@@ -53,14 +53,14 @@ loop2-holds c =
       ordered = with-zero (λ x. inOrder g.s x (getD g.t2 (l .j) zeroCanister)) g.t2 (l .inv .ordered);
     }
 
-mul-in-order : tie.Need-mul-in-order Inv-loop2 μ-loop2 Inv-loop μ-loop
-mul-in-order c = search needs
+mul-pair-ok : tie.Need-mul-pair-ok Inv-loop2 μ-loop2 Inv-loop μ-loop
+mul-pair-ok c = search needs
 
-array-copy-out-in-order : tie.Need-array-copy-out-in-order Inv-loop2 μ-loop2 Inv-loop μ-loop
-array-copy-out-in-order c = search needs
+array-copy-out-pair-ok : tie.Need-array-copy-out-pair-ok Inv-loop2 μ-loop2 Inv-loop μ-loop
+array-copy-out-pair-ok c = search needs
 
-in-order-requires : tie.Need-in-order-requires Inv-loop2 μ-loop2 Inv-loop μ-loop
-in-order-requires c κs = search needs
+pair-ok-requires : tie.Need-pair-ok-requires Inv-loop2 μ-loop2 Inv-loop μ-loop
+pair-ok-requires c κs = search needs
 
 add-i : tie.Need-add-i Inv-loop2 μ-loop2 Inv-loop μ-loop
 add-i c = search needs
@@ -78,7 +78,7 @@ loop2-again c =
       here = l .inv .here;
       few = l .inv .few;
       items-length = l .inv .items-length;
-      ordered = with-step (pairsOf (inOrder g.s) (take (o .j) g.t2)) (λ x. inOrder g.s x (getD g.t2 (o .j) zeroCanister)) g.t2 (l .i) zeroCanister (omega arith) (l .inv .ordered) (c .in-order .ensures);
+      ordered = with-step (pairsOf (inOrder g.s) (take (o .j) g.t2)) (λ x. inOrder g.s x (getD g.t2 (o .j) zeroCanister)) g.t2 (l .i) zeroCanister (omega arith) (l .inv .ordered) (c .pair-ok .ensures);
     }
 
 add-j : tie.Need-add-j Inv-loop2 μ-loop2 Inv-loop μ-loop
@@ -118,9 +118,9 @@ pairs-ok-spec =
     mul-y
     array-copy-out-y
     loop2-holds
-    mul-in-order
-    array-copy-out-in-order
-    in-order-requires
+    mul-pair-ok
+    array-copy-out-pair-ok
+    pair-ok-requires
     add-i
     loop2-less
     loop2-again

@@ -38,7 +38,7 @@ loop-holds c =
       inside = S .pre .0;
       delivered-length = refl;
       read = λ i h. absurd (omega arith);
-      zeros = λ i h. zeros-at 4 i;
+      zeros = λ i h. zeros-at 0 4 i;
     }
 
 add-u32-at-2 : tie.Need-add-u32-at-2 Inv-loop μ-loop

@@ -1,9 +1,8 @@
 use mathlib.Core.Path.{_≡_, sym, ap, _∙_}
 use mathlib.Core.Bool.{true}
-use native.Mathlib.Omega.{arith}
 use Rattle.floor.specs.Layouts.{nameNumber, nameOk}
 use Rattle.floor.specs.Memory.{view, usedLayouts}
-use Rattle.floor.proofs.Answers.{malformed, formed, answer-refused, answer-by}
+use Rattle.floor.proofs.Answers.{answer-malformed, answer-refused, answer-accepted}
 use Rattle.floor.specs.Calls.{keepTests, keptUnder, keepAnswer}
 use Rattle.floor.proofs.Pack.{well-few}
 use Rattle.layout_calls.proofs.Packed.{keep-named, laid-fit, keep-same, kept-pack}
@@ -44,9 +43,8 @@ returns c =
     let N = c .before .before .before .before .before .before .before .name-number in
     let n = N .result in
     let K = c .before .before .before .before .before .keep-refusal in
-    let number = formed f (keepTests (view f .layouts) n) (K .result) w (K .ensures ∙ keep-same f w n) in
     let ok : nameOk n ≡ true = keep-named (usedLayouts (f .layouts)) n (sym (K .ensures) ∙ c .before .before .before .before .if2 .taken) in
-    answer-by f _ (keepTests (view f .layouts) n) (keptUnder (view f) n) (K .result) number (c .before .before .before .before .if2 .taken)
+    answer-accepted f (keepTests (view f .layouts) n) (keptUnder (view f) n) w (K .result) (K .ensures ∙ keep-same f w n) (c .before .before .before .before .if2 .taken) _
     (kept-pack f w n (c .before .running-set .result) ok (c .before .running-set .ensures) (c .keep-in .result) (c .keep-in .ensures))
     ∙ ap (keepAnswer f) (N .ensures)
 
@@ -58,8 +56,7 @@ returns-2 c =
     let N = c .before .before .before .name-number in
     let n = N .result in
     let K = c .before .keep-refusal in
-    let number = formed f (keepTests (view f .layouts) n) (K .result) w (K .ensures ∙ keep-same f w n) in
-    answer-refused f (keepTests (view f .layouts) n) (keptUnder (view f) n) (K .result) number (c .if2 .left) ∙ ap (keepAnswer f) (N .ensures)
+    answer-refused f (keepTests (view f .layouts) n) (keptUnder (view f) n) w (K .result) (K .ensures ∙ keep-same f w n) (c .if2 .left) ∙ ap (keepAnswer f) (N .ensures)
 
 returns-3 : tie.Need-returns-3
 unfolding keepAnswer
@@ -67,7 +64,7 @@ returns-3 c =
     let f = c .before .before .args .floor in
     let w = sym (c .before .well-formed .ensures) ∙ c .if1 .left in
     let n = nameNumber (c .before .before .args .name .letters) in
-    answer-refused f (keepTests (view f .layouts) n) (keptUnder (view f) n) 30 (malformed f (keepTests (view f .layouts) n) w) (omega arith)
+    answer-malformed f (keepTests (view f .layouts) n) (keptUnder (view f) n) w
 
 pub keep-spec : {M : Type 1} → statement M
 keep-spec =

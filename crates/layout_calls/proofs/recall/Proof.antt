@@ -1,9 +1,8 @@
 use mathlib.Core.Path.{_≡_, sym, ap, _∙_}
 use mathlib.Core.Bool.{true}
-use native.Mathlib.Omega.{arith}
 use Rattle.floor.specs.Layouts.{nameNumber, nameOk, setOf}
 use Rattle.floor.specs.Memory.{view, usedLayouts}
-use Rattle.floor.proofs.Answers.{malformed, formed, answer-refused, answer-by}
+use Rattle.floor.proofs.Answers.{answer-malformed, answer-refused, answer-accepted}
 use Rattle.floor.specs.Calls.{heldTests, recalled, recallAnswer}
 use Rattle.floor.proofs.Pack.{well-few}
 use Rattle.layout_calls.proofs.Packed.{held-named, laid-fit, held-same, recalled-pack}
@@ -44,9 +43,8 @@ returns c =
     let N = c .before .before .before .before .before .before .before .name-number in
     let n = N .result in
     let K = c .before .before .before .before .before .held-refusal in
-    let number = formed f (heldTests (view f .layouts) n) (K .result) w (K .ensures ∙ held-same f w n) in
     let ok : nameOk n ≡ true = held-named (usedLayouts (f .layouts)) n (sym (K .ensures) ∙ c .before .before .before .before .if2 .taken) in
-    answer-by f _ (heldTests (view f .layouts) n) (recalled (view f) (setOf (view f .layouts) n)) (K .result) number (c .before .before .before .before .if2 .taken)
+    answer-accepted f (heldTests (view f .layouts) n) (recalled (view f) (setOf (view f .layouts) n)) w (K .result) (K .ensures ∙ held-same f w n) (c .before .before .before .before .if2 .taken) _
     (recalled-pack f w n (c .before .set-under .result) ok (c .before .set-under .ensures) (c .recall-tiles .result) (c .recall-tiles .ensures))
     ∙ ap (recallAnswer f) (N .ensures)
 
@@ -58,8 +56,7 @@ returns-2 c =
     let N = c .before .before .before .name-number in
     let n = N .result in
     let K = c .before .held-refusal in
-    let number = formed f (heldTests (view f .layouts) n) (K .result) w (K .ensures ∙ held-same f w n) in
-    answer-refused f (heldTests (view f .layouts) n) (recalled (view f) (setOf (view f .layouts) n)) (K .result) number (c .if2 .left) ∙ ap (recallAnswer f) (N .ensures)
+    answer-refused f (heldTests (view f .layouts) n) (recalled (view f) (setOf (view f .layouts) n)) w (K .result) (K .ensures ∙ held-same f w n) (c .if2 .left) ∙ ap (recallAnswer f) (N .ensures)
 
 returns-3 : tie.Need-returns-3
 unfolding recallAnswer
@@ -67,7 +64,7 @@ returns-3 c =
     let f = c .before .before .args .floor in
     let w = sym (c .before .well-formed .ensures) ∙ c .if1 .left in
     let n = nameNumber (c .before .before .args .name .letters) in
-    answer-refused f (heldTests (view f .layouts) n) (recalled (view f) (setOf (view f .layouts) n)) 30 (malformed f (heldTests (view f .layouts) n) w) (omega arith)
+    answer-malformed f (heldTests (view f .layouts) n) (recalled (view f) (setOf (view f .layouts) n)) w
 
 pub recall-spec : {M : Type 1} → statement M
 recall-spec =

@@ -7,14 +7,14 @@ use Rattle.plan_check.proofs.sound.Reads as reads
 use Rattle.plan_check.proofs.sound.Lts as lts
 use Rattle.plan_check.proofs.all_differ.Reads as all-differ-reads
 use Rattle.plan_check.proofs.booked_numbers.Reads as booked-numbers-reads
-use Rattle.plan_check.proofs.in_order.Reads as in-order-reads
+use Rattle.plan_check.proofs.after_predecessors.Reads as after-predecessors-reads
 
 returns : tie.Need-returns
 unfolding planSound
 returns c = rw (lt-leb (c .before .before .args .plan .count) 64 (c .if1 .taken))
 
-in-order-requires : tie.Need-in-order-requires
-in-order-requires c κs = search needs
+after-predecessors-requires : tie.Need-after-predecessors-requires
+after-predecessors-requires c κs = search needs
 
 booked-numbers-requires : tie.Need-booked-numbers-requires
 booked-numbers-requires c κs = search needs
@@ -26,9 +26,9 @@ returns-2 : tie.Need-returns-2
 unfolding planSound
 returns-2 c =
     let m = c .before .before .booked-numbers in
-    rw (le-leb (c .before .before .before .before .before .before .args .plan .count) 64 (c .before .before .before .before .if1 .left), c .before .before .before .in-order .ensures, c .all-differ .ensures, m .ensures .1)
+    rw (le-leb (c .before .before .before .before .before .before .args .plan .count) 64 (c .before .before .before .before .if1 .left), c .before .before .before .after-predecessors .ensures, c .all-differ .ensures, m .ensures .1)
 
 pub sound-spec : {M : Type 1} → statement M
 sound-spec =
     tie.close
-    (tie.spec returns in-order-requires booked-numbers-requires all-differ-requires returns-2)
+    (tie.spec returns after-predecessors-requires booked-numbers-requires all-differ-requires returns-2)

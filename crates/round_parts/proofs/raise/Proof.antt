@@ -1,12 +1,12 @@
 use mathlib.Core.Path.{_≡_, refl, ap}
-use mathlib.Core.List.{List}
-use Prim.Native.Nat.{ℕ, _≤_, _-_, _+_}
+use Prim.Native.Nat.{_≤_, _-_, _+_}
 use native.Mathlib.Omega.{arith}
 use lib.ListN.{length, getD, length-set}
 use Rattle.laws.proofs.Lists.{get-same}
 use Rattle.laws.specs.Filled.{Upto}
 use Rattle.laws.proofs.Tables.{upto-turn, filled}
 use Rattle.floor.specs.declared.Delivery.{Delivery}
+use Rattle.floor.specs.Move.{withDelivered}
 use Rattle.floor.specs.Calls.{noDelivery}
 use Rattle.round_parts.proofs.Delivered.{beyond}
 use Rattle.floor.proofs.Sized.{delivered-length}
@@ -68,7 +68,7 @@ returns : tie.Need-returns Inv-loop μ-loop
 returns c =
     let l = c .before .loop in
     let g = c .before .before .before .args in
-    ap (λ (x : List ℕ). record { last = g .c .last; booked = g .c .booked; delivered = x }) (filled 4 (λ j. getD (g .c .delivered) j 0 + getD (g .t2) j noDelivery .count) 0 (l .sums) (l .inv .3) (λ i h. l .inv .5 i (omega arith)))
+    ap (withDelivered (g .c)) (filled 4 (λ j. getD (g .c .delivered) j 0 + getD (g .t2) j noDelivery .count) 0 (l .sums) (l .inv .3) (λ i h. l .inv .5 i (omega arith)))
 
 pub raise-spec : {M : Type 1} → statement M
 raise-spec =

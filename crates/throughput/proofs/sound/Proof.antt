@@ -6,7 +6,7 @@ use Rattle.throughput.proofs.sound.Statement.{statement}
 use Rattle.throughput.proofs.sound.Tie as tie
 use Rattle.throughput.proofs.sound.Reads as reads
 use Rattle.throughput.proofs.sound.Lts as lts
-use Rattle.throughput.proofs.in_order.Reads as in-order-reads
+use Rattle.throughput.proofs.rates_in_order.Reads as rates-in-order-reads
 use Rattle.throughput.proofs.rates_sound.Reads as rates-sound-reads
 
 returns : tie.Need-returns
@@ -27,14 +27,14 @@ returns-3 : tie.Need-returns-3
 unfolding recordSound
 returns-3 c = rw (lt-ltb _ _ (c .before .before .before .before .if1 .left), le-leb _ _ (c .before .before .if2 .left), sym (c .before .rates-sound .ensures) ∙ not-true _ (c .if3 .taken)) refl
 
-in-order-requires : tie.Need-in-order-requires
-in-order-requires c κs = search needs
+rates-in-order-requires : tie.Need-rates-in-order-requires
+rates-in-order-requires c κs = search needs
 
 returns-4 : tie.Need-returns-4
 unfolding recordSound
-returns-4 c = c .in-order .ensures ∙ rw (lt-ltb _ _ (c .before .before .before .before .before .if1 .left), le-leb _ _ (c .before .before .before .if2 .left), sym (c .before .before .rates-sound .ensures) ∙ not-false _ (c .before .if3 .left)) refl
+returns-4 c = c .rates-in-order .ensures ∙ rw (lt-ltb _ _ (c .before .before .before .before .before .if1 .left), le-leb _ _ (c .before .before .before .if2 .left), sym (c .before .before .rates-sound .ensures) ∙ not-false _ (c .before .if3 .left)) refl
 
 pub sound-spec : {M : Type 1} → statement M
 sound-spec =
     tie.close
-    (tie.spec returns mul-if2 returns-2 rates-sound-requires returns-3 in-order-requires returns-4)
+    (tie.spec returns mul-if2 returns-2 rates-sound-requires returns-3 rates-in-order-requires returns-4)

@@ -4,22 +4,22 @@ use native.Mathlib.Omega.{arith}
 use lib.ListN.{take}
 use Rattle.laws.specs.Define.{allOf}
 use Rattle.laws.proofs.Tables.{all-zero, all-step, ended}
-use Rattle.plan.specs.Entries.{used, done, inOrder}
+use Rattle.plan.specs.Entries.{used, done, afterPredecessors}
 use Rattle.plan_check.proofs.Sized.{entries-length}
 use Rattle.plan_check.proofs.Entries.{order-code}
 use Rattle.plan_check.proofs.Tables.{zeroEntry, entryAt}
 use Rattle.plan_check.proofs.Loops.{Tested}
 use borrow.Author.Needs.{needs}
-use Rattle.plan_check.proofs.in_order.Statement.{statement}
-use Rattle.plan_check.proofs.in_order.Tie as tie
-use Rattle.plan_check.proofs.in_order.Reads as reads
-use Rattle.plan_check.proofs.in_order.Lts as lts
+use Rattle.plan_check.proofs.after_predecessors.Statement.{statement}
+use Rattle.plan_check.proofs.after_predecessors.Tie as tie
+use Rattle.plan_check.proofs.after_predecessors.Reads as reads
+use Rattle.plan_check.proofs.after_predecessors.Lts as lts
 use Rattle.plan_check.proofs.both.Reads as both-reads
 use Rattle.plan_check.proofs.done_table.Reads as done-table-reads
 use Rattle.plan_check.proofs.waits.Reads as waits-reads
 
 abbrev Inv-loop : tie.InvT-loop
-Inv-loop plan table n ok₀ k₀ ok k = Tested plan (done (used plan)) (inOrder (used plan)) table n ok k
+Inv-loop plan table n ok₀ k₀ ok k = Tested plan (done (used plan)) (afterPredecessors (used plan)) table n ok k
 
 abbrev μ-loop : tie.MeasureT-loop
 μ-loop plan table n ok₀ k₀ ok k = n - k
@@ -40,7 +40,7 @@ loop-holds c =
       entries-length = entries-length (S .args .t1) _ (S .good .0);
       table-length = T .ok .1 .0 .1;
       tabled = T .ensures;
-      tested = sym (all-zero (inOrder (used (S .args .t1))) (S .args .t1 .entries));
+      tested = sym (all-zero (afterPredecessors (used (S .args .t1))) (S .args .t1 .entries));
     }
 
 mul-e : tie.Need-mul-e Inv-loop μ-loop
@@ -85,17 +85,17 @@ loop-again c =
       entries-length = l .inv .entries-length;
       table-length = l .inv .table-length;
       tabled = l .inv .tabled;
-      tested = all-step (inOrder (used p)) (p .entries) (l .k) zeroEntry (omega arith) (l .inv .tested) one;
+      tested = all-step (afterPredecessors (used p)) (p .entries) (l .k) zeroEntry (omega arith) (l .inv .tested) one;
     }
 
 returns : tie.Need-returns Inv-loop μ-loop
 returns c =
     let l = c .before .loop in
     let p = c .before .before .before .args .t1 in
-    ended (λ (k : ℕ). allOf (inOrder (used p)) (take k (p .entries))) (omega arith) (l .inv .below) (l .inv .tested)
+    ended (λ (k : ℕ). allOf (afterPredecessors (used p)) (take k (p .entries))) (omega arith) (l .inv .below) (l .inv .tested)
 
-pub in-order-spec : {M : Type 1} → statement M
-in-order-spec =
+pub after-predecessors-spec : {M : Type 1} → statement M
+after-predecessors-spec =
     tie.close
     (tie.spec
     Inv-loop

@@ -5,12 +5,11 @@ use Rattle.laws.proofs.Tests.{pick-yes, pick-no}
 use mathlib.Core.Bool.{cond}
 use Rattle.floor.specs.Settings.{isHopper}
 use Rattle.floor.specs.Well.{hopperSound, runningSound, stoppedSound}
-use Rattle.check_heads.specs.Head.{stateSound}
 use borrow.Author.Needs.{needs}
-use Rattle.check_heads.proofs.state_ok.Statement.{statement}
-use Rattle.check_heads.proofs.state_ok.Tie as tie
-use Rattle.check_heads.proofs.state_ok.Reads as reads
-use Rattle.check_heads.proofs.state_ok.Lts as lts
+use Rattle.check_heads.proofs.own_ok.Statement.{statement}
+use Rattle.check_heads.proofs.own_ok.Tie as tie
+use Rattle.check_heads.proofs.own_ok.Reads as reads
+use Rattle.check_heads.proofs.own_ok.Lts as lts
 use Rattle.sets.proofs.holds.Reads as holds-reads
 use Rattle.check_heads.proofs.hopper_ok.Reads as hopper-ok-reads
 use Rattle.check_heads.proofs.running_ok.Reads as running-ok-reads
@@ -23,7 +22,7 @@ hopper-ok-requires : tie.Need-hopper-ok-requires
 hopper-ok-requires c κs = search needs
 
 returns : tie.Need-returns
-unfolding stateSound isHopper
+unfolding isHopper
 returns c =
     let g = c .before .before .before .args in
     c .hopper-ok .ensures ∙ pick-yes (hopperSound g.h) (cond (eqb (g.h .running) 1) (runningSound g.s g.h) (stoppedSound g.h)) (sym (c .before .before .holds .ensures) ∙ c .before .if1 .taken)
@@ -32,7 +31,7 @@ running-ok-requires : tie.Need-running-ok-requires
 running-ok-requires c κs = search needs
 
 returns-2 : tie.Need-returns-2
-unfolding stateSound isHopper
+unfolding isHopper
 returns-2 c =
     let g = c .before .before .before .before .before .args in
     c .running-ok .ensures ∙ pick-yes (runningSound g.s g.h) (stoppedSound g.h) (eq-eqb (g.h .running) 1 (c .before .if2 .taken))
@@ -42,14 +41,14 @@ stopped-ok-requires : tie.Need-stopped-ok-requires
 stopped-ok-requires c κs = search needs
 
 returns-3 : tie.Need-returns-3
-unfolding stateSound isHopper
+unfolding isHopper
 returns-3 c =
     let g = c .before .before .before .before .before .args in
     c .stopped-ok .ensures ∙ pick-no (runningSound g.s g.h) (stoppedSound g.h) (ne-eqb (g.h .running) 1 (c .before .if2 .left))
     ∙ pick-no (hopperSound g.h) (cond (eqb (g.h .running) 1) (runningSound g.s g.h) (stoppedSound g.h)) (sym (c .before .before .before .before .holds .ensures) ∙ c .before .before .before .if1 .left)
 
-pub state-ok-spec : {M : Type 1} → statement M
-state-ok-spec =
+pub own-ok-spec : {M : Type 1} → statement M
+own-ok-spec =
     tie.close
     (tie.spec
     holds-requires

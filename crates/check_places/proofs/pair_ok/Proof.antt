@@ -1,0 +1,16 @@
+use Rattle.floor.specs.Well.{inOrder}
+use Rattle.check_places.proofs.pair_ok.Statement.{statement}
+use Rattle.check_places.proofs.pair_ok.Tie as tie
+use Rattle.check_places.proofs.pair_ok.Reads as reads
+use Rattle.check_places.proofs.pair_ok.Lts as lts
+use Rattle.check_places.proofs.stands_apart.Reads as stands-apart-reads
+
+stands-apart-requires : tie.Need-stands-apart-requires
+stands-apart-requires c κs = tt
+
+returns : tie.Need-returns
+unfolding inOrder
+returns c = rw (c .before .before .stands-apart .ensures)
+
+pub pair-ok-spec : {M : Type 1} → statement M
+pair-ok-spec = tie.close (tie.spec stands-apart-requires returns)
