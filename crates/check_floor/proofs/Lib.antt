@@ -1,3 +1,4 @@
+pub mod Tiles
 pub mod Branches
 pub mod Counts
 pub mod Joins

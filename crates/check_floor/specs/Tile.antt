@@ -1,4 +1,4 @@
--- The test of one tile in the words of the code: from a head and sixteen places.
+-- The tests of one tile in the words of the code: of its head, and of its sixteen places.
 use mathlib.Core.Bool.{Bool, not, _&&_, _||_}
 use mathlib.Core.List.{List}
 use Prim.Native.Nat.{ℕ}
@@ -9,7 +9,7 @@ use Rattle.floor.specs.declared.Canister.{Canister}
 use Rattle.floor.specs.declared.Settings.{Settings}
 use Rattle.floor.specs.declared.Tile.{Tile}
 use Rattle.floor.specs.Settings.{total}
-use Rattle.floor.specs.Memory.{isZeroCanister, headFits, tileFits}
+use Rattle.floor.specs.Memory.{isZeroCanister, headFits}
 use Rattle.floor.specs.Well.{headSound, inOrder}
 use Rattle.check_places.specs.Place.{memberSound}
 
@@ -17,11 +17,7 @@ use Rattle.check_places.specs.Place.{memberSound}
 unfoldable pub usedSound : Settings → ℕ → ℕ → List Canister → Bool
 usedSound s last n l = allOf (memberSound s last) (take n l) && pairsOf (inOrder s) (take n l)
 
--- one tile, from its head and its sixteen places
-unfoldable pub tileTest : Settings → ℕ → ℕ → Tile → List Canister → Bool
-tileTest s last t h l = tileFits s t h l && (not (ltb t (total s)) || (headSound s t h && usedSound s last (h .count) l))
-
--- its parts: the tile without its canisters
+-- a tile without its canisters
 unfoldable pub headTest : Settings → ℕ → Tile → Bool
 headTest s t h = headFits s t h && (not (ltb t (total s)) || headSound s t h)
 

@@ -1,3 +1,4 @@
+pub mod Pass
 pub mod Sizes
 pub mod Turn
 pub mod Lift
