@@ -15,7 +15,7 @@ use floor::Counters;
 use floor::refusals;
 
 // The canisters on a floor, by its counters; 0 where it is malformed.
-pub fn on_floor(c: Counters, well: bool) -> u64
+fn on_floor(c: Counters, well: bool) -> u64
     requires { ⌜ (well ≡ true → sum (c .delivered) ≤ c .booked) ⌝ }
     ensures { λ r. ⌜ (r ≡ cond well (c .booked - sum (c .delivered)) 0) × (r < 4294967296) ⌝ }
 {
@@ -27,7 +27,7 @@ pub fn on_floor(c: Counters, well: bool) -> u64
 }
 
 // 30 or 49; 0 where neither refuses.
-pub fn first_refusal(sound: bool, floor: u32) -> u8
+fn first_refusal(sound: bool, floor: u32) -> u8
     ensures { λ r. ⌜ r ≡ refusal ((not sound, 30) ∷ (leb 4 floor, 49) ∷ []) ⌝ }
 {
     if !sound {

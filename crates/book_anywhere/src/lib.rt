@@ -26,7 +26,7 @@ pub struct Found {
 }
 
 // The lowest of all places, 0, 0, is tried as a booking's, with its tests; only where it is too near to a canister is another searched for.
-pub fn find(s: Settings, last: u32, tile: u32, number: u32, running: u8, own: Members) -> Found
+fn find(s: Settings, last: u32, tile: u32, number: u32, running: u8, own: Members) -> Found
     requires { ⌜ (total s ≤ 64) × (s .length ≤ s .width) × (s .width ≤ 60000) × (tile < total s → own .count ≤ 16) ⌝ }
     ensures { λ r. ⌜ (r .refusal ≡ refusal (placingTests s last tile number running (take (own .count) (own .items)))) × (r .refusal ≡ 0 → r .canister ≡ record { number = number; a = placeA s (take (own .count) (own .items)); b = placeB s (take (own .count) (own .items)) }) ⌝ }
 {

@@ -28,7 +28,7 @@ pub struct Begun {
 }
 
 // All entries, or none where there are more than 64: then the floor is not looked at.
-pub fn begin_list(floor: Floor, n: usize) -> Begun
+fn begin_list(floor: Floor, n: usize) -> Begun
     ensures { λ r. ⌜ r ≡ begunOf floor n ⌝ }
 {
     if LONGEST_LIST < n {
@@ -51,7 +51,7 @@ pub struct Done {
 }
 
 // Books one entry where it is known whether the floor is well formed; it is afterwards if it was before.
-pub fn book_entry(floor: Floor, b: Booking, well: bool) -> Done
+fn book_entry(floor: Floor, b: Booking, well: bool) -> Done
     requires { ⌜ well ≡ wellFormed floor ⌝ }
     ensures { λ r. ⌜ (r ≡ entryOf floor b) × (wellFormed (r .floor) ≡ wellFormed floor) ⌝ }
 {
@@ -69,7 +69,7 @@ pub fn book_entry(floor: Floor, b: Booking, well: bool) -> Done
 }
 
 // The call's own answer.
-pub fn answer_of(n: usize, floor: Floor) -> Answer
+fn answer_of(n: usize, floor: Floor) -> Answer
     ensures { λ r. ⌜ r ≡ answerOf n floor ⌝ }
 {
     let mut number: u8 = 0;

@@ -17,7 +17,7 @@ pub struct Place {
 
 // The lowest a at b that keeps the spacing to the first n canisters; U - l + 1 where there is none.
 // A canister that is too near to a is too near up to its own a + d, where the search goes on.
-pub fn lowest_a(s: Settings, items: [Canister; 16], n: usize, b: u16) -> u16
+fn lowest_a(s: Settings, items: [Canister; 16], n: usize, b: u16) -> u16
     requires { ⌜ (n ≤ 16) × (s .length ≤ s .width) × (s .width ≤ 60000) ⌝ }
     ensures { λ r. ⌜ r ≡ lowestA (spacing s) (suc (span s)) (take n items) b ⌝ }
 {
@@ -48,7 +48,7 @@ pub fn lowest_a(s: Settings, items: [Canister; 16], n: usize, b: u16) -> u16
 }
 
 // The next b to look at where b has no place: the lowest at which a canister is left behind, U - l + 1 at most.
-pub fn next_b(s: Settings, items: [Canister; 16], n: usize, b: u16) -> u16
+fn next_b(s: Settings, items: [Canister; 16], n: usize, b: u16) -> u16
     requires { ⌜ (n ≤ 16) × (s .length ≤ s .width) × (s .width ≤ 60000) × (b ≤ span s) ⌝ }
     ensures { λ r. ⌜ (b < r) × (r ≤ suc (span s)) × All (λ c. b < c .b + spacing s → r ≤ c .b + spacing s) (take n items) ⌝ }
 {

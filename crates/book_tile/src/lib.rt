@@ -17,7 +17,7 @@ use floor::refusals;
 use sets::has;
 
 // Whether the canister stands apart from each of the first n places.
-pub fn has_room(s: Settings, c: Canister, items: [Canister; 16], n: usize) -> bool
+fn has_room(s: Settings, c: Canister, items: [Canister; 16], n: usize) -> bool
     requires { ⌜ n ≤ 16 ⌝ }
     ensures { λ r. ⌜ r ≡ allOf (apart (spacing s) c) (take n items) ⌝ }
 {

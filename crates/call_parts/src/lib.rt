@@ -20,7 +20,7 @@ use floor::zero_floor;
 use sets::holds;
 
 // A tile of a fresh floor.
-pub fn fresh_tile(s: Settings, t: usize) -> Tile
+fn fresh_tile(s: Settings, t: usize) -> Tile
     ensures { λ r. ⌜ r ≡ head (freshTile s t) ⌝ }
 {
     let none = Side::NONE;

@@ -24,7 +24,7 @@ use floor::Tile;
 use sets::size;
 
 // A tile without its canisters.
-pub fn head_test(s: Settings, t: usize, h: Tile) -> bool
+fn head_test(s: Settings, t: usize, h: Tile) -> bool
     requires { ⌜ Ranged s ⌝ }
     ensures { λ r. ⌜ r ≡ headTest s t h ⌝ }
 {
@@ -38,7 +38,7 @@ pub fn head_test(s: Settings, t: usize, h: Tile) -> bool
 }
 
 // The sixteen places of a tile that has canisters.
-pub fn places_test(s: Settings, last: u32, count: u8, items: [Canister; 16]) -> bool
+fn places_test(s: Settings, last: u32, count: u8, items: [Canister; 16]) -> bool
     requires { ⌜ s .length ≤ s .width ⌝ }
     ensures { λ r. ⌜ r ≡ placesTest s last count items ⌝ }
 {
@@ -53,7 +53,7 @@ pub fn places_test(s: Settings, last: u32, count: u8, items: [Canister; 16]) -> 
 }
 
 // How many canisters the tiles hold together.
-pub fn count_all(tiles: [Tile; 64]) -> u32
+fn count_all(tiles: [Tile; 64]) -> u32
     ensures { λ r. ⌜ r ≡ counted tiles 64 ⌝ }
 {
     let mut sum: u32 = 0;
@@ -73,7 +73,7 @@ fn wide(x: u32) -> u64
 }
 
 // The counters, with n canisters on the floor. The sum may exceed 32 bits.
-pub fn counters_ok(s: Settings, c: Counters, n: u32) -> bool
+fn counters_ok(s: Settings, c: Counters, n: u32) -> bool
     requires { ⌜ settingsPass s ≡ true ⌝ }
     ensures { λ r. ⌜ r ≡ countersSound (length (hoppersOf s)) c n ⌝ }
 {
@@ -92,7 +92,7 @@ pub fn counters_ok(s: Settings, c: Counters, n: u32) -> bool
 
 // Well formed but for the layouts, once the settings have passed. The places are read where they stand, and copied only where a
 // tile has canisters; where no canister is on the floor, no numbers are compared. A tile without canisters leaves its numbers zero.
-pub fn scan(f: Floor) -> bool
+fn scan(f: Floor) -> bool
     requires { ⌜ settingsPass (f .settings) ≡ true ⌝ }
     ensures { λ r. ⌜ r ≡ stateWell f ⌝ }
 {

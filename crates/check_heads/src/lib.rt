@@ -11,7 +11,7 @@ use floor::Tile;
 use sets::holds;
 
 // Whether a tile is one that the floor doesn't have.
-pub fn is_zero_tile(h: Tile) -> bool
+fn is_zero_tile(h: Tile) -> bool
     ensures { λ r. ⌜ r ≡ isZeroTile h ⌝ }
 {
     (h.running == 0)
@@ -19,14 +19,14 @@ pub fn is_zero_tile(h: Tile) -> bool
 }
 
 // A hopper.
-pub fn hopper_ok(h: Tile) -> bool
+fn hopper_ok(h: Tile) -> bool
     ensures { λ r. ⌜ r ≡ hopperSound h ⌝ }
 {
     (h.running == 1) & ((h.distance == 0) & ((h.next.code == 0) & (h.count == 0)))
 }
 
 // Another running tile.
-pub fn running_ok(s: Settings, h: Tile) -> bool
+fn running_ok(s: Settings, h: Tile) -> bool
     ensures { λ r. ⌜ r ≡ runningSound s h ⌝ }
 {
     let all = s.tile_count();
@@ -36,14 +36,14 @@ pub fn running_ok(s: Settings, h: Tile) -> bool
 }
 
 // A stopped tile.
-pub fn stopped_ok(h: Tile) -> bool
+fn stopped_ok(h: Tile) -> bool
     ensures { λ r. ⌜ r ≡ stoppedSound h ⌝ }
 {
     (h.running == 0) & ((h.distance == DISTANCE_NONE) & ((h.next.code == 0) & (h.token.code == 0)))
 }
 
 // Whether a side is none or faces a tile of the floor.
-pub fn faces_ok(s: Settings, t: usize, side: Side) -> bool
+fn faces_ok(s: Settings, t: usize, side: Side) -> bool
     requires { ⌜ Ranged s × (t < total s) ⌝ }
     ensures { λ r. ⌜ r ≡ faces s t (side .code) ⌝ }
 {
@@ -53,7 +53,7 @@ pub fn faces_ok(s: Settings, t: usize, side: Side) -> bool
 }
 
 // A tile without the sides that it faces.
-pub fn own_ok(s: Settings, t: usize, h: Tile) -> bool
+fn own_ok(s: Settings, t: usize, h: Tile) -> bool
     ensures { λ r. ⌜ r ≡ ownSound s t h ⌝ }
 {
     if holds(s.hoppers, t) {

@@ -42,7 +42,7 @@ pub fn name_ok(n: u64) -> bool
 }
 
 // A layout: its name, no bit for no tile, no hopper stopped.
-pub fn layout_ok(s: Settings, x: Layout) -> bool
+fn layout_ok(s: Settings, x: Layout) -> bool
     requires { ⌜ settingsPass s ≡ true ⌝ }
     ensures { λ r. ⌜ r ≡ layoutOk s x ⌝ }
 {
@@ -55,7 +55,7 @@ pub fn layout_ok(s: Settings, x: Layout) -> bool
 }
 
 // One of the places; `above` is the name in the place after it.
-pub fn place_ok(s: Settings, x: Layout, above: u64) -> bool
+fn place_ok(s: Settings, x: Layout, above: u64) -> bool
     requires { ⌜ settingsPass s ≡ true ⌝ }
     ensures { λ r. ⌜ r ≡ placeOk s x above ⌝ }
 {

@@ -12,7 +12,7 @@ fn wide(x: u16) -> usize
 
 // 1 where all numbers differ, 0 where two are equal, 2 where the steps ran out. heads[h] is 1 + the last place so far whose
 // number has the remainder h, prev[i] is 1 + the last one before place i with i's remainder; 0 where there is none.
-pub fn chained(keys: [u32; 1024]) -> u8
+fn chained(keys: [u32; 1024]) -> u8
     requires { ⌜ Runs keys ⌝ }
     ensures { λ r. ⌜ (r ≡ 0 → differ keys ≡ false) × (r ≡ 1 → differ keys ≡ true) ⌝ }
 {

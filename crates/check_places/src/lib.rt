@@ -19,7 +19,7 @@ pub fn is_zero_canister(c: Canister) -> bool
 }
 
 // A canister within its tile, its number from 1 to the last booked.
-pub fn member_ok(s: Settings, last: u32, c: Canister) -> bool
+fn member_ok(s: Settings, last: u32, c: Canister) -> bool
     requires { ⌜ s .length ≤ s .width ⌝ }
     ensures { λ r. ⌜ r ≡ memberSound s last c ⌝ }
 {
@@ -40,7 +40,7 @@ pub fn stands_apart(s: Settings, x: Canister, y: Canister) -> bool
 }
 
 // Two canisters of one tile, by rising number and far enough apart.
-pub fn pair_ok(s: Settings, x: Canister, y: Canister) -> bool
+fn pair_ok(s: Settings, x: Canister, y: Canister) -> bool
     ensures { λ r. ⌜ r ≡ inOrder s x y ⌝ }
 {
     let apart = stands_apart(s, x, y);
@@ -48,7 +48,7 @@ pub fn pair_ok(s: Settings, x: Canister, y: Canister) -> bool
 }
 
 // All sixteen places are unused.
-pub fn none_in(items: [Canister; 16]) -> bool
+fn none_in(items: [Canister; 16]) -> bool
     ensures { λ r. ⌜ r ≡ allOf isZeroCanister items ⌝ }
 {
     let mut ok = true;

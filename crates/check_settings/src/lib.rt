@@ -20,7 +20,7 @@ pub fn sizes_wrong(s: Settings) -> bool
 }
 
 // Refusal 2. The hoppers are counted only where all of them are on the floor.
-pub fn sets_wrong(s: Settings) -> bool
+fn sets_wrong(s: Settings) -> bool
     requires { ⌜ sizesWrong s ≡ false ⌝ }
     ensures { λ r. ⌜ r ≡ setsWrong s ⌝ }
 {
@@ -35,7 +35,7 @@ pub fn sets_wrong(s: Settings) -> bool
 }
 
 // The measures without the division.
-pub fn rules_wrong(s: Settings) -> bool
+fn rules_wrong(s: Settings) -> bool
     ensures { λ r. ⌜ r ≡ rulesWrong s ⌝ }
 {
     let d = s.spacing();
@@ -44,7 +44,7 @@ pub fn rules_wrong(s: Settings) -> bool
 }
 
 // Refusal 3. Where the rules hold, d is at least 1 and l is below U.
-pub fn measures_wrong(s: Settings) -> bool
+fn measures_wrong(s: Settings) -> bool
     ensures { λ r. ⌜ r ≡ measuresWrong s ⌝ }
 {
     if rules_wrong(s) {

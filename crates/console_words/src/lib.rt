@@ -49,7 +49,7 @@ pub fn skip_blanks(s: &[u8], at: usize) -> usize
 }
 
 // Where the word that begins at `at` ends.
-pub fn word_end(s: &[u8], at: usize) -> usize
+fn word_end(s: &[u8], at: usize) -> usize
     requires { ⌜ at ≤ length (now s) ⌝ }
     ensures { λ r. ⌜ (at ≤ r) × (r ≤ length (now (s .entry))) × (drop r (now (s .entry)) ≡ afterWord (drop at (now (s .entry)))) × (take (r - at) (drop at (now (s .entry))) ≡ word (drop at (now (s .entry)))) ⌝ }
 {

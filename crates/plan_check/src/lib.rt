@@ -19,7 +19,7 @@ pub fn waits(e: Entry) -> bool
     e.stage == plan::WAITING
 }
 
-pub fn was_delivered(e: Entry) -> bool
+fn was_delivered(e: Entry) -> bool
     ensures { λ r. ⌜ r ≡ E.wasDelivered e ⌝ }
 {
     e.stage == plan::DELIVERED
@@ -56,7 +56,7 @@ pub fn done_table(plan: Plan) -> [bool; 256]
 }
 
 // Whether every entry past waiting has its predecessors delivered.
-pub fn after_predecessors(plan: Plan) -> bool
+fn after_predecessors(plan: Plan) -> bool
     requires { ⌜ plan .count ≤ 64 ⌝ }
     ensures { λ r. ⌜ r ≡ allOf (E.afterPredecessors (used plan)) (used plan) ⌝ }
 {
@@ -111,7 +111,7 @@ pub fn booked_numbers(plan: Plan) -> Numbers
 }
 
 // Whether the first n numbers differ, every two of them.
-pub fn all_differ(items: [u32; 64], n: usize) -> bool
+fn all_differ(items: [u32; 64], n: usize) -> bool
     requires { ⌜ n ≤ 64 ⌝ }
     ensures { λ r. ⌜ r ≡ pairsOf (λ x y. not (eqb x y)) (take n items) ⌝ }
 {
@@ -146,7 +146,7 @@ pub struct Labels {
     pub differing: bool,
 }
 
-pub fn labels_in(plan: Plan) -> Labels
+fn labels_in(plan: Plan) -> Labels
     requires { ⌜ plan .count ≤ 64 ⌝ }
     ensures { λ r. ⌜ Upto 256 (present (used plan)) false (r .present) × (r .differing ≡ pairsOf (λ x y. not (eqb (x .label) (y .label))) (used plan)) ⌝ }
 {
@@ -167,7 +167,7 @@ pub fn labels_in(plan: Plan) -> Labels
 }
 
 // Whether one entry's labels fit, from whether its predecessors' labels are present.
-pub fn entry_fits(e: Entry, first: bool, second: bool) -> bool
+fn entry_fits(e: Entry, first: bool, second: bool) -> bool
     ensures { λ r. ⌜ r ≡ ((leb 1 (e .label) && leb (e .label) 64) && ((eqb (e .first) 0 || (ltb (e .first) (e .label) && first)) && (eqb (e .second) 0 || (ltb (e .second) (e .label) && second)))) ⌝ }
 {
     let labelled = (1 <= e.label) & (e.label <= 64);

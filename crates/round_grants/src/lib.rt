@@ -41,7 +41,7 @@ fn wanting(side: Side, shown: u8) -> u8
 }
 
 // The set of the sides that want, from what the neighbours show.
-pub fn requesting(west: u8, south: u8, north: u8, east: u8) -> u8
+fn requesting(west: u8, south: u8, north: u8, east: u8) -> u8
     ensures { λ r. ⌜ (r < 16) × (inSet r ≡ requests west south north east) ⌝ }
 {
     wanting(Side::WEST, west)
@@ -51,7 +51,7 @@ pub fn requesting(west: u8, south: u8, north: u8, east: u8) -> u8
 }
 
 // The turn, if it wants; else the first side that wants, strictly after it.
-pub fn chosen(set: u8, token: Side) -> Side
+fn chosen(set: u8, token: Side) -> Side
     requires { ⌜ (token .code ≤ 4) × (set < 16) ⌝ }
     ensures { λ r. ⌜ r .code ≡ S.chosen (inSet set) (token .code) ⌝ }
 {
@@ -76,7 +76,7 @@ fn worse(x: u32, y: u32) -> u32
 }
 
 // How many millimetres a canister is short of the gap at a side.
-pub fn lack(s: Settings, side: Side, c: Canister) -> u32
+fn lack(s: Settings, side: Side, c: Canister) -> u32
     ensures { λ r. ⌜ r ≡ G.lack s (side .code) c ⌝ }
 {
     let length = s.length as u32;
@@ -95,7 +95,7 @@ pub fn lack(s: Settings, side: Side, c: Canister) -> u32
 }
 
 // How many millimetres are missing at a side: the worst canister's, 0 for a gap.
-pub fn missing(s: Settings, side: Side, members: Members) -> u32
+fn missing(s: Settings, side: Side, members: Members) -> u32
     requires { ⌜ members .count ≤ 16 ⌝ }
     ensures { λ r. ⌜ r ≡ G.missing s (side .code) (take (members .count) (members .items)) ⌝ }
 {

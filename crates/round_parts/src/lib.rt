@@ -58,7 +58,7 @@ pub fn held(n: u8, items: [Canister; 16]) -> Members
 }
 
 // The numbers of the first four.
-pub fn first_numbers(m: Members) -> [u32; 4]
+fn first_numbers(m: Members) -> [u32; 4]
     ensures { λ r. ⌜ r ≡ tab 4 (λ k. getD (m .items) k zeroCanister .number) ⌝ }
 {
     let items = m.items;
@@ -71,7 +71,7 @@ pub fn first_numbers(m: Members) -> [u32; 4]
 }
 
 // What a hopper takes in, as a report lists it.
-pub fn delivery(m: Members) -> Delivery
+fn delivery(m: Members) -> Delivery
     ensures { λ r. ⌜ r ≡ record { numbers = tab 4 (λ k. getD (m .items) k zeroCanister .number); count = m .count } ⌝ }
 {
     let numbers = first_numbers(m);
@@ -82,7 +82,7 @@ pub fn delivery(m: Members) -> Delivery
 }
 
 // One more delivery, behind those found so far.
-pub fn added(came: Takings, more: Delivery) -> Takings
+fn added(came: Takings, more: Delivery) -> Takings
     requires { ⌜ came .found < 4 ⌝ }
     ensures { λ r. ⌜ (r .found ≡ came .found + 1) × (r .deliveries ≡ set (came .deliveries) (came .found) more) ⌝ }
 {
@@ -108,7 +108,7 @@ pub fn hopper_intake(s: Settings, t: usize, come: Side, others: Members, came: T
 }
 
 // The counters, each raised by what came to its hopper.
-pub fn raise(c: Counters, d: [Delivery; 4]) -> Counters
+fn raise(c: Counters, d: [Delivery; 4]) -> Counters
     requires { ⌜ ((k : ℕ) → k < 4 → getD (c .delivered) k 0 + getD d k noDelivery .count < 2 ^ 32) ⌝ }
     ensures { λ r. ⌜ r ≡ raisedBy c d ⌝ }
 {

@@ -23,7 +23,7 @@ pub struct Heading {
 }
 
 // The nearer of two; the earlier one where they are as near.
-pub fn nearer(b: Heading, distance: u8, side: Side) -> Heading
+fn nearer(b: Heading, distance: u8, side: Side) -> Heading
     ensures { λ r. ⌜ heading r ≡ R.nearer (heading b) distance (side .code) ⌝ }
 {
     if distance < b.distance {
@@ -36,7 +36,7 @@ pub fn nearer(b: Heading, distance: u8, side: Side) -> Heading
 }
 
 // The neighbour of least old distance. Ties: west, south, north, east.
-pub fn nearest(west: u8, south: u8, north: u8, east: u8) -> Heading
+fn nearest(west: u8, south: u8, north: u8, east: u8) -> Heading
     ensures { λ r. ⌜ heading r ≡ R.nearest west south north east ⌝ }
 {
     let first = Heading {
@@ -101,15 +101,7 @@ fn onward(all: u8, b: Heading) -> Heading
 }
 
 // One tile, from its own old arrow and its four neighbours' old distances. A hopper and a stopped tile stay as they are.
-pub fn route_tile(
-    s: Settings,
-    t: usize,
-    tile: Tile,
-    west: u8,
-    south: u8,
-    north: u8,
-    east: u8,
-) -> Tile
+fn route_tile(s: Settings, t: usize, tile: Tile, west: u8, south: u8, north: u8, east: u8) -> Tile
     requires { ⌜ total s ≤ 64 ⌝ }
     ensures { λ r. ⌜ r ≡ routedTile s t tile west south north east ⌝ }
 {
@@ -134,7 +126,7 @@ pub fn route_tile(
 }
 
 // The tiles' distances; none at the number of no tile.
-pub fn distances(s: Settings, tiles: [Tile; 64]) -> [u8; 65]
+fn distances(s: Settings, tiles: [Tile; 64]) -> [u8; 65]
     requires { ⌜ total s ≤ 64 ⌝ }
     ensures { λ r. ⌜ Upto 65 (within (total s) (distanceIn tiles) 255) 0 r ⌝ }
 {
