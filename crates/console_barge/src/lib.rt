@@ -1,5 +1,7 @@
 // A barge as it is typed: four floors, put there and taken from there, and their joint allowance.
+ghost use mathlib.Core.Path.{_≡_};
 ghost use Prim.Native.Nat.{_<_};
+ghost use Rattle.console_barge.specs.Aboard.{startBarge, sessionSet, bargeSet, placeOf, floorSet};
 use barge::Barge;
 use console_say::number;
 use console_say::small;
@@ -15,7 +17,9 @@ pub struct WithBarge {
 }
 
 // A barge without floors: a floor of zeros stands for one that isn't there.
-pub fn begin() -> WithBarge {
+pub fn begin() -> WithBarge
+    ensures { λ r. ⌜ r ≡ startBarge ⌝ }
+{
     let session = console_session::begin();
     let none = floor::zero_floor();
     let barge = Barge {
@@ -30,20 +34,26 @@ pub fn begin() -> WithBarge {
 }
 
 // With the session changed.
-pub fn with_session(a: WithBarge, session: Session) -> WithBarge {
+pub fn with_session(a: WithBarge, session: Session) -> WithBarge
+    ensures { λ r. ⌜ r ≡ sessionSet a session ⌝ }
+{
     let mut next = a;
     next.session = session;
     next
 }
 
 // With the barge changed.
-pub fn with_barge(a: WithBarge, barge: Barge) -> WithBarge {
+pub fn with_barge(a: WithBarge, barge: Barge) -> WithBarge
+    ensures { λ r. ⌜ r ≡ bargeSet a barge ⌝ }
+{
     let mut next = a;
     next.barge = barge;
     next
 }
 
-pub fn cannot(a: WithBarge, line: &[u8]) -> WithBarge {
+pub fn cannot(a: WithBarge, line: &[u8]) -> WithBarge
+    ensures { λ r. ⌜ r ≡ a ⌝ }
+{
     console_say::unreadable(a.session.lines, line);
     a
 }
@@ -64,13 +74,15 @@ pub fn allowance(a: WithBarge, line: &[u8]) -> WithBarge {
 
 // The place of a floor that the barge has; 0 for any other number.
 pub fn place(floor: u32) -> usize
-    ensures { λ r. ⌜ r < 4 ⌝ }
+    ensures { λ r. ⌜ (r ≡ placeOf floor) × (r < 4) ⌝ }
 {
     if floor < 4 { floor as usize } else { 0 }
 }
 
 // With another floor, or none, in the barge.
-fn with_floor(a: WithBarge, number: u32, floor: Floor) -> WithBarge {
+fn with_floor(a: WithBarge, number: u32, floor: Floor) -> WithBarge
+    ensures { λ r. ⌜ r ≡ floorSet a number floor ⌝ }
+{
     let k = place(number);
     let mut barge = a.barge;
     barge.floors[k] = floor;
@@ -194,7 +206,9 @@ fn tell(k: usize, f: Floor, rounds: u64) {
 }
 
 // Tells the allowance, the joint total, and each floor's counters.
-pub fn barge(a: WithBarge, line: &[u8]) -> WithBarge {
+pub fn barge(a: WithBarge, line: &[u8]) -> WithBarge
+    ensures { λ r. ⌜ r ≡ a ⌝ }
+{
     if !console_parse::ended(line, 1) {
         return cannot(a, line);
     }

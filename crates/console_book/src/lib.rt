@@ -1,11 +1,20 @@
 // Bookings as they are typed: one with its place, one without, and a list of them.
+ghost use mathlib.Core.Bool.{true};
+ghost use mathlib.Core.Path.{_≡_};
+ghost use Rattle.floor.specs.Calls.{bookAnswer};
+ghost use Rattle.floor.specs.Anywhere.{anywhereAnswer};
+ghost use Rattle.console_list.specs.Entries.{noEntries};
+ghost use Rattle.console_session.specs.Sessions.{withEntries};
+ghost use Rattle.console_book.specs.Typed.{canisterIn, afterPlaced, afterBooked, bookTyped, sent, entryTyped};
 use book_list::Booking;
 use console_parse::Numbers;
 use console_session::Session;
 use floor::Canister;
 
 // The canister that four numbers name after its tile.
-pub fn canister(n: Numbers) -> Canister {
+pub fn canister(n: Numbers) -> Canister
+    ensures { λ r. ⌜ r ≡ canisterIn n ⌝ }
+{
     Canister {
         number: n.at[1],
         a: console_parse::short(n.at[2]),
@@ -14,7 +23,9 @@ pub fn canister(n: Numbers) -> Canister {
 }
 
 // A booking without a place; the place found is told.
-fn anywhere(s: Session, tile: u32, number: u32) -> Session {
+fn anywhere(s: Session, tile: u32, number: u32) -> Session
+    ensures { λ r. ⌜ r ≡ afterPlaced s (anywhereAnswer (s .floor) tile number) ⌝ }
+{
     let floor = s.floor;
     let answer = calls::book_anywhere(floor, tile, number);
     if answer.refusal != 0 {
@@ -31,7 +42,9 @@ fn anywhere(s: Session, tile: u32, number: u32) -> Session {
 }
 
 // A booking.
-fn placed(s: Session, tile: u32, c: Canister) -> Session {
+fn placed(s: Session, tile: u32, c: Canister) -> Session
+    ensures { λ r. ⌜ r ≡ afterBooked s (bookAnswer (s .floor) tile c) ⌝ }
+{
     let floor = s.floor;
     let answer = calls::book(floor, tile, c);
     if answer.refusal == 0 {
@@ -40,7 +53,9 @@ fn placed(s: Session, tile: u32, c: Canister) -> Session {
     console_session::answered(s, b"book", answer)
 }
 
-pub fn book(s: Session, line: &[u8]) -> Session {
+pub fn book(s: Session, line: &[u8]) -> Session
+    ensures { λ r. ⌜ r ≡ bookTyped s (now (line .entry)) ⌝ }
+{
     let two = console_parse::arguments(line, 2);
     if two.good {
         return anywhere(s, two.at[0], two.at[1]);
@@ -54,7 +69,9 @@ pub fn book(s: Session, line: &[u8]) -> Session {
 }
 
 // Begins a list, or begins it again.
-pub fn list(s: Session) -> Session {
+pub fn list(s: Session) -> Session
+    ensures { λ r. ⌜ r ≡ withEntries s (noEntries true) ⌝ }
+{
     let mut next = s;
     let entries = console_list::none(true);
     next.entries = entries;
@@ -62,7 +79,9 @@ pub fn list(s: Session) -> Session {
 }
 
 // Sends the list that was typed, and tells each answer.
-fn send(s: Session) -> Session {
+fn send(s: Session) -> Session
+    ensures { λ r. ⌜ r ≡ sent s ⌝ }
+{
     let typed = s.entries;
     let list = typed.list;
     let mut next = s;
@@ -70,7 +89,7 @@ fn send(s: Session) -> Session {
     next.entries = closed;
     let floor = s.floor;
     let answer = calls::book_places(floor, list, typed.count);
-    if answer.refusal != 0 || !s.made {
+    if (answer.refusal != 0) | !s.made {
         return console_session::refused(next, b"list", answer.refusal);
     }
     let places = answer.list;
@@ -80,7 +99,9 @@ fn send(s: Session) -> Session {
 }
 
 // One more booking of the list.
-fn entry(s: Session, line: &[u8]) -> Session {
+fn entry(s: Session, line: &[u8]) -> Session
+    ensures { λ r. ⌜ r ≡ entryTyped s (now (line .entry)) ⌝ }
+{
     let n = console_parse::numbers_at(line, 0, 4);
     if !(n.good & console_parse::ended(line, 4)) {
         return console_session::cannot(s, line);

@@ -1,4 +1,5 @@
 // Floors as they are typed: made, shown, kept in a file and taken from one.
+ghost use mathlib.Core.Path.{_≡_};
 use console_parse::Numbers;
 use console_parse::Sources;
 use console_session::Session;
@@ -89,7 +90,9 @@ pub fn fresh(s: Session, line: &[u8], give_up: bool) -> Session {
 }
 
 // Keeps the floor in a file.
-pub fn save(s: Session, line: &[u8]) -> Session {
+pub fn save(s: Session, line: &[u8]) -> Session
+    ensures { λ r. ⌜ r ≡ s ⌝ }
+{
     if !console_parse::ended(line, 2) {
         return console_session::cannot(s, line);
     }
@@ -123,7 +126,9 @@ pub fn load(s: Session, line: &[u8], give_up: bool) -> Session {
 }
 
 // Shows the floor.
-pub fn show(s: Session) -> Session {
+pub fn show(s: Session) -> Session
+    ensures { λ r. ⌜ r ≡ s ⌝ }
+{
     let floor = s.floor;
     let answer = calls::read(floor, 0);
     if answer.refusal != 0 {

@@ -1,5 +1,9 @@
 // A plan as it is typed: its entries, what it offers, releases, and the labels that rounds deliver.
+ghost use mathlib.Core.Path.{_≡_};
 ghost use Prim.Native.Nat.{_≤_};
+ghost use Rattle.plan.specs.Plans.{reportAnswer};
+ghost use Rattle.console_session.specs.Sessions.{noPlan, withPlan};
+ghost use Rattle.console_plan.specs.Typed.{withEntry, added, entryNumbers, entryTyped, releaseTyped};
 use console_say::number;
 use console_say::small;
 use console_say::text;
@@ -11,14 +15,18 @@ use plan::Entry;
 use plan::Plan;
 
 // The session with the plan changed.
-fn with_plan(s: Session, plan: Plan) -> Session {
+fn with_plan(s: Session, plan: Plan) -> Session
+    ensures { λ r. ⌜ r ≡ withPlan s plan ⌝ }
+{
     let mut next = s;
     next.plan = plan;
     next
 }
 
 // Begins an empty plan.
-pub fn plan(s: Session) -> Session {
+pub fn plan(s: Session) -> Session
+    ensures { λ r. ⌜ r ≡ withPlan s noPlan ⌝ }
+{
     text(b"plan: no entries\n");
     let none = console_session::no_plan();
     with_plan(s, none)
@@ -78,7 +86,7 @@ fn tell(call: &[u8], e: Entry) {
 
 // How many numbers an entry is typed with: two to four.
 fn typed(line: &[u8]) -> usize
-    ensures { λ r. ⌜ r ≤ 4 ⌝ }
+    ensures { λ r. ⌜ (r ≡ entryNumbers (now (line .entry))) × (r ≤ 4) ⌝ }
 {
     if console_parse::ended(line, 3) {
         return 2;
@@ -90,7 +98,9 @@ fn typed(line: &[u8]) -> usize
 }
 
 // The plan with one more entry; with 64 as it was.
-fn with_entry(p: Plan, e: Entry) -> Plan {
+fn with_entry(p: Plan, e: Entry) -> Plan
+    ensures { λ r. ⌜ r ≡ withEntry p e ⌝ }
+{
     let mut next = p;
     let k = p.count as usize;
     if k < 64 {
@@ -101,7 +111,9 @@ fn with_entry(p: Plan, e: Entry) -> Plan {
 }
 
 // Adds a waiting entry. One with which the plan would be refused is left out, and so is a 65th.
-fn add(s: Session, e: Entry) -> Session {
+fn add(s: Session, e: Entry) -> Session
+    ensures { λ r. ⌜ r ≡ added s e ⌝ }
+{
     let before = s.plan;
     if 63 < before.count {
         text(b"entry: the plan has 64 entries\n");
@@ -117,7 +129,9 @@ fn add(s: Session, e: Entry) -> Session {
     with_plan(s, more)
 }
 
-pub fn entry(s: Session, line: &[u8]) -> Session {
+pub fn entry(s: Session, line: &[u8]) -> Session
+    ensures { λ r. ⌜ r ≡ entryTyped s (now (line .entry)) ⌝ }
+{
     let n = console_parse::arguments(line, typed(line));
     if !n.good {
         return console_session::cannot(s, line);
@@ -134,7 +148,9 @@ pub fn entry(s: Session, line: &[u8]) -> Session {
 }
 
 // Every entry of the plan.
-pub fn entries(s: Session) -> Session {
+pub fn entries(s: Session) -> Session
+    ensures { λ r. ⌜ r ≡ s ⌝ }
+{
     let p = s.plan;
     let all = p.entries;
     if p.count == 0 {
@@ -151,7 +167,9 @@ pub fn entries(s: Session) -> Session {
 }
 
 // The label offered.
-pub fn offer(s: Session) -> Session {
+pub fn offer(s: Session) -> Session
+    ensures { λ r. ⌜ r ≡ s ⌝ }
+{
     let p = s.plan;
     let answer = plan_calls::offer(p);
     if answer.refusal != 0 {
@@ -193,7 +211,9 @@ fn released(label: u32, c: Canister, tile: u32) {
     text(b"\n");
 }
 
-pub fn release(s: Session, line: &[u8]) -> Session {
+pub fn release(s: Session, line: &[u8]) -> Session
+    ensures { λ r. ⌜ r ≡ releaseTyped s (now (line .entry)) ⌝ }
+{
     let n = console_parse::arguments(line, 1);
     if !n.good {
         return console_session::cannot(s, line);
@@ -237,7 +257,9 @@ fn marked(before: [Entry; 64], after: [Entry; 64]) {
 }
 
 // Hands a round's report to the plan, and tells the labels that it marks. A refused report gives the plan back as it was.
-pub fn follow(s: Session, report: Report) -> Session {
+pub fn follow(s: Session, report: Report) -> Session
+    ensures { λ r. ⌜ r ≡ withPlan s (reportAnswer (s .plan) report .plan) ⌝ }
+{
     let p = s.plan;
     let answer = plan_calls::report(p, report);
     let q = answer.plan;

@@ -1,4 +1,7 @@
 // Rounds as they are typed, and what is told of them afterwards.
+ghost use mathlib.Core.Path.{_≡_};
+ghost use Rattle.floor.specs.Calls.{roundAnswer};
+ghost use Rattle.console_rounds.specs.Typed.{steppedBy, toldOf, roundTyped};
 use console_session::Session;
 use console_show::ALONE;
 use floor::Report;
@@ -15,35 +18,45 @@ struct Stepped {
     closed: bool,
 }
 
-fn step(s: Session) -> Stepped {
+fn step(s: Session) -> Stepped
+    ensures { λ r. ⌜ r ≡ steppedBy s (roundAnswer (s .floor)) ⌝ }
+{
     let floor = s.floor;
     let answer = calls::round(floor);
     let report = answer.report;
+    if answer.refusal != 0 {
+        return Stepped {
+            session: s,
+            report: report,
+            refusal: answer.refusal,
+            closed: false,
+        };
+    }
     let deliveries = report.deliveries;
-    let reasons = report.reasons;
-    let missing = report.missing;
     let before = s.records;
     let followed = console_throughput::follow(before, deliveries);
     let mut next = s;
-    if answer.refusal == 0 {
-        let records = followed.records;
-        next.records = records;
-        let moved = answer.floor;
-        next.floor = moved;
-        next.reasons = reasons;
-        next.missing = missing;
-        next.rounds = std::num::wrapping_add_u64(next.rounds, 1);
-    }
+    let records = followed.records;
+    next.records = records;
+    let moved = answer.floor;
+    next.floor = moved;
+    let reasons = report.reasons;
+    next.reasons = reasons;
+    let missing = report.missing;
+    next.missing = missing;
+    next.rounds = std::num::wrapping_add_u64(next.rounds, 1);
     Stepped {
         session: next,
         report: report,
-        refusal: answer.refusal,
+        refusal: 0,
         closed: followed.closed,
     }
 }
 
 // Tells what a round delivered and the rates of the windows that it closed, and hands its report to the plan.
-fn told(s: Session, report: Report, closed: bool) -> Session {
+fn told(s: Session, report: Report, closed: bool) -> Session
+    ensures { λ r. ⌜ r ≡ toldOf s report ⌝ }
+{
     let deliveries = report.deliveries;
     console_show::delivered(ALONE, s.rounds, s.floor.settings.hoppers, deliveries);
     let next = console_plan::follow(s, report);
@@ -51,7 +64,9 @@ fn told(s: Session, report: Report, closed: bool) -> Session {
     next
 }
 
-pub fn round(s: Session) -> Session {
+pub fn round(s: Session) -> Session
+    ensures { λ r. ⌜ r ≡ roundTyped s ⌝ }
+{
     let done = step(s);
     let next = done.session;
     if done.refusal != 0 {
@@ -115,7 +130,9 @@ pub fn rounds(s: Session, line: &[u8]) -> Session {
 }
 
 // Why each tile stood in the last round.
-pub fn why(s: Session) -> Session {
+pub fn why(s: Session) -> Session
+    ensures { λ r. ⌜ r ≡ s ⌝ }
+{
     if !s.made {
         return console_session::refused(s, b"why", refusals::MALFORMED);
     }
@@ -130,7 +147,9 @@ pub fn why(s: Session) -> Session {
 }
 
 // The throughput of each hopper.
-pub fn throughput(s: Session) -> Session {
+pub fn throughput(s: Session) -> Session
+    ensures { λ r. ⌜ r ≡ s ⌝ }
+{
     if !s.made {
         return console_session::refused(s, b"throughput", refusals::MALFORMED);
     }

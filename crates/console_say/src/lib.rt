@@ -198,7 +198,7 @@ pub fn unread(path: &[u8]) {
 
 pub fn help() {
     text(b"help: fresh W H HOPPERS FILL U l r v   (FILL: all, none, or tiles as 0,2,3)\n");
-    text(b"      HOPPER: a tile, or up to four as 0,3\n");
+    text(b"      HOPPERS: a tile, or up to four as 0,3\n");
     text(b"      fresh! with the same words: also where the floor holds canisters\n");
     text(b"      book TILE NUMBER A B | stop TILE | repair TILE | round | rounds N | read TILE\n");
     text(b"      book TILE NUMBER: at the free place with the lowest B, then the lowest A\n");

@@ -2,6 +2,7 @@
 ghost use Prim.Native.Nat.{_-_, _<_, _^_};
 ghost use Rattle.laws.specs.Define.{sum};
 ghost use mathlib.Core.Path.{_≡_};
+ghost use Rattle.console_session.specs.Sessions.{noPlan, startSession, withFloor, endedWith, begunWith, floorless, afterCall};
 use console_list::Entries;
 use floor::Answer;
 use floor::Counters;
@@ -26,7 +27,9 @@ pub struct Session {
 }
 
 // A plan without entries.
-pub fn no_plan() -> Plan {
+pub fn no_plan() -> Plan
+    ensures { λ r. ⌜ r ≡ noPlan ⌝ }
+{
     let none = Entry::ZERO;
     Plan {
         entries: [none; 64],
@@ -34,7 +37,9 @@ pub fn no_plan() -> Plan {
     }
 }
 
-pub fn begin() -> Session {
+pub fn begin() -> Session
+    ensures { λ r. ⌜ r ≡ startSession ⌝ }
+{
     let floor = floor::zero_floor();
     let plan = no_plan();
     let entries = console_list::none(false);
@@ -53,13 +58,17 @@ pub fn begin() -> Session {
     }
 }
 
-pub fn cannot(s: Session, line: &[u8]) -> Session {
+pub fn cannot(s: Session, line: &[u8]) -> Session
+    ensures { λ r. ⌜ r ≡ s ⌝ }
+{
     console_say::unreadable(s.lines, line);
     s
 }
 
 // A refused call changes nothing. Where no floor was made yet, the library refuses every call, because a floor of zeros isn't well formed.
-pub fn refused(s: Session, name: &[u8], n: u8) -> Session {
+pub fn refused(s: Session, name: &[u8], n: u8) -> Session
+    ensures { λ r. ⌜ r ≡ s ⌝ }
+{
     if s.made {
         console_say::refused(name, n);
     } else {
@@ -69,21 +78,27 @@ pub fn refused(s: Session, name: &[u8], n: u8) -> Session {
 }
 
 // The session that ends with this line.
-pub fn ended(s: Session) -> Session {
+pub fn ended(s: Session) -> Session
+    ensures { λ r. ⌜ r ≡ endedWith s ⌝ }
+{
     let mut last = s;
     last.going = false;
     last
 }
 
 // The session with the floor changed.
-pub fn with_floor(s: Session, floor: Floor) -> Session {
+pub fn with_floor(s: Session, floor: Floor) -> Session
+    ensures { λ r. ⌜ r ≡ withFloor s floor ⌝ }
+{
     let mut next = s;
     next.floor = floor;
     next
 }
 
 // After a call's answer: the floor that it gives, or the refusal told.
-pub fn answered(s: Session, name: &[u8], answer: Answer) -> Session {
+pub fn answered(s: Session, name: &[u8], answer: Answer) -> Session
+    ensures { λ r. ⌜ r ≡ afterCall s (answer .refusal) (answer .floor) ⌝ }
+{
     if answer.refusal != 0 {
         return refused(s, name, answer.refusal);
     }
@@ -109,7 +124,9 @@ pub fn held(c: Counters) -> u64
 }
 
 // The session with another floor, whose throughput and plan begin anew: the numbers of a plan are those of its floor.
-pub fn begun(s: Session, floor: Floor) -> Session {
+pub fn begun(s: Session, floor: Floor) -> Session
+    ensures { λ r. ⌜ r ≡ begunWith s floor ⌝ }
+{
     if 0 < s.plan.count {
         console_say::text(b"plan: no entries, its floor is gone\n");
     }
@@ -124,7 +141,9 @@ pub fn begun(s: Session, floor: Floor) -> Session {
 }
 
 // The session without a floor.
-pub fn without_floor(s: Session) -> Session {
+pub fn without_floor(s: Session) -> Session
+    ensures { λ r. ⌜ r ≡ floorless s ⌝ }
+{
     let none = floor::zero_floor();
     let mut next = begun(s, none);
     next.made = false;

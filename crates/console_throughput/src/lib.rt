@@ -2,6 +2,8 @@
 ghost use mathlib.Core.Path.{_≡_};
 ghost use lib.ListN.{replicate};
 ghost use Rattle.throughput.specs.Lists.{zeroThroughput};
+ghost use Rattle.throughput.specs.Window.{feedTold};
+ghost use Rattle.console_throughput.specs.Follow.{followedBy};
 use console_say::others;
 use floor::Delivery;
 use throughput::Throughput;
@@ -20,12 +22,16 @@ pub struct Followed {
     pub closed: bool,
 }
 
-fn fed(t: Throughput, d: Delivery) -> Throughput {
+fn fed(t: Throughput, d: Delivery) -> Throughput
+    ensures { λ r. ⌜ r ≡ feedTold t (d .count) .throughput ⌝ }
+{
     let told = throughput::feed_told(t, d.count as u32);
     told.throughput
 }
 
-pub fn follow(records: [Throughput; 4], deliveries: [Delivery; 4]) -> Followed {
+pub fn follow(records: [Throughput; 4], deliveries: [Delivery; 4]) -> Followed
+    ensures { λ r. ⌜ r ≡ followedBy records deliveries ⌝ }
+{
     let taken = deliveries[0];
     let told = throughput::feed_told(records[0], taken.count as u32);
     let first = told.throughput;

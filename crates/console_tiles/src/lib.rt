@@ -1,9 +1,13 @@
 // Calls about one tile, and about layouts, as they are typed.
+ghost use mathlib.Core.Path.{_≡_};
+ghost use Rattle.console_tiles.specs.Typed.{afterAnswer, stopTyped, repairTyped, keepTyped, recallTyped, forgetTyped};
 use console_session::Session;
 use floor::Answer;
 use floor::Name;
 
-pub fn stop(s: Session, line: &[u8]) -> Session {
+pub fn stop(s: Session, line: &[u8]) -> Session
+    ensures { λ r. ⌜ r ≡ stopTyped s (now (line .entry)) ⌝ }
+{
     let n = console_parse::arguments(line, 1);
     if !n.good {
         return console_session::cannot(s, line);
@@ -16,7 +20,9 @@ pub fn stop(s: Session, line: &[u8]) -> Session {
     console_session::answered(s, b"stop", answer)
 }
 
-pub fn repair(s: Session, line: &[u8]) -> Session {
+pub fn repair(s: Session, line: &[u8]) -> Session
+    ensures { λ r. ⌜ r ≡ repairTyped s (now (line .entry)) ⌝ }
+{
     let n = console_parse::arguments(line, 1);
     if !n.good {
         return console_session::cannot(s, line);
@@ -29,7 +35,9 @@ pub fn repair(s: Session, line: &[u8]) -> Session {
     console_session::answered(s, b"repair", answer)
 }
 
-pub fn read(s: Session, line: &[u8]) -> Session {
+pub fn read(s: Session, line: &[u8]) -> Session
+    ensures { λ r. ⌜ r ≡ s ⌝ }
+{
     let n = console_parse::arguments(line, 1);
     if !n.good {
         return console_session::cannot(s, line);
@@ -46,14 +54,18 @@ pub fn read(s: Session, line: &[u8]) -> Session {
 }
 
 // What a call about a name answered.
-fn named(s: Session, call: &[u8], letters: [u8; 8], answer: Answer) -> Session {
+fn named(s: Session, call: &[u8], letters: [u8; 8], answer: Answer) -> Session
+    ensures { λ r. ⌜ r ≡ afterAnswer s answer ⌝ }
+{
     if answer.refusal == 0 {
         console_show::named(call, letters);
     }
     console_session::answered(s, call, answer)
 }
 
-pub fn keep(s: Session, line: &[u8]) -> Session {
+pub fn keep(s: Session, line: &[u8]) -> Session
+    ensures { λ r. ⌜ r ≡ keepTyped s (now (line .entry)) ⌝ }
+{
     if !console_parse::ended(line, 2) {
         return console_session::cannot(s, line);
     }
@@ -63,7 +75,9 @@ pub fn keep(s: Session, line: &[u8]) -> Session {
     named(s, b"keep", letters, answer)
 }
 
-pub fn recall(s: Session, line: &[u8]) -> Session {
+pub fn recall(s: Session, line: &[u8]) -> Session
+    ensures { λ r. ⌜ r ≡ recallTyped s (now (line .entry)) ⌝ }
+{
     if !console_parse::ended(line, 2) {
         return console_session::cannot(s, line);
     }
@@ -73,7 +87,9 @@ pub fn recall(s: Session, line: &[u8]) -> Session {
     named(s, b"recall", letters, answer)
 }
 
-pub fn forget(s: Session, line: &[u8]) -> Session {
+pub fn forget(s: Session, line: &[u8]) -> Session
+    ensures { λ r. ⌜ r ≡ forgetTyped s (now (line .entry)) ⌝ }
+{
     if !console_parse::ended(line, 2) {
         return console_session::cannot(s, line);
     }
@@ -84,7 +100,9 @@ pub fn forget(s: Session, line: &[u8]) -> Session {
 }
 
 // The layouts held, by rising name.
-pub fn layouts(s: Session) -> Session {
+pub fn layouts(s: Session) -> Session
+    ensures { λ r. ⌜ r ≡ s ⌝ }
+{
     let floor = s.floor;
     let answer = calls::read(floor, 0);
     if answer.refusal != 0 {

@@ -1,0 +1,21 @@
+-- The records of the hoppers after a round, and whether it closed a window.
+use mathlib.Core.List.{List}
+use Prim.Native.Nat.{ℕ}
+use lib.Dec.{eqb}
+use lib.ListN.{getD}
+use Rattle.laws.specs.Define.{tab}
+use Rattle.floor.specs.declared.Delivery.{Delivery}
+use Rattle.floor.specs.Calls.{noDelivery}
+use Rattle.throughput.specs.declared.Throughput.{Throughput}
+use Rattle.throughput.specs.declared.Told.{Told}
+use Rattle.throughput.specs.Window.{feedTold}
+use Rattle.throughput.specs.Lists.{zeroThroughput}
+use Rattle.console_throughput.specs.declared.Followed.{Followed}
+
+-- what feeding record k tells: the count of the hopper with k hoppers before it
+unfoldable pub fedAt : List Throughput → List Delivery → ℕ → Told
+fedAt ts ds k = feedTold (getD ts k zeroThroughput) (getD ds k noDelivery .count)
+
+-- all four fed; all of them close together, so the first tells it
+unfoldable pub followedBy : List Throughput → List Delivery → Followed
+followedBy ts ds = record { records = tab 4 (λ k. fedAt ts ds k .throughput); closed = eqb (fedAt ts ds 0 .kind) 2 }
