@@ -1,8 +1,5 @@
 // Floors that aren't well formed: every call that takes a floor answers 30 and gives the same floor, zeros for a reading, the same
 // bytes for a writing and for a page; a list of bookings answers 30 in every entry.
-mod hoppers;
-mod layouts;
-
 use floor::Floor;
 use trials_tally::Tally;
 use trials_tally::floors;
@@ -97,17 +94,6 @@ fn canister_name(kind: u8) {
     }
 }
 
-// The calls on a damaged floor, whose name is written before.
-fn refused(t: Tally, f: Floor) -> Tally {
-    let ok = malformed_calls::all_refuse(f);
-    if ok {
-        trials_tally::text(b": ok\n");
-    } else {
-        trials_tally::text(b": not 30 with the same floor from every call\n");
-    }
-    trials_tally::count(t, ok)
-}
-
 fn one(t: Tally, f: Floor, kind: u8) -> Tally {
     trials_tally::text(b"malformed, ");
     if kind < 10 {
@@ -115,19 +101,7 @@ fn one(t: Tally, f: Floor, kind: u8) -> Tally {
     } else {
         canister_name(kind);
     }
-    refused(t, damaged(f, kind))
-}
-
-fn one_of_several(t: Tally, f: Floor, kind: u8) -> Tally {
-    trials_tally::text(b"malformed, ");
-    hoppers::name(kind);
-    refused(t, hoppers::damaged(f, kind))
-}
-
-fn one_of_layouts(t: Tally, f: Floor, kind: u8) -> Tally {
-    trials_tally::text(b"malformed, ");
-    layouts::name(kind);
-    refused(t, layouts::damaged(f, kind))
+    malformed_calls::refused(t, damaged(f, kind))
 }
 
 // The floor before it is damaged: the calls accept it.
@@ -175,31 +149,7 @@ fn all(t: Tally) -> Tally {
     zero(next)
 }
 
-fn several(t: Tally) -> Tally {
-    let f = hoppers::sound_floor();
-    let mut next = hoppers::accepted(t, f);
-    let mut kind: u8 = 0;
-    while kind < 9 {
-        next = one_of_several(next, f, kind);
-        kind += 1;
-    }
-    next
-}
-
-fn laid(t: Tally) -> Tally {
-    let f = layouts::sound_floor(hoppers::sound_floor());
-    let mut next = layouts::accepted(t, f);
-    let mut kind: u8 = 0;
-    while kind < 9 {
-        next = one_of_layouts(next, f, kind);
-        kind += 1;
-    }
-    next
-}
-
 fn main() {
     let start = Tally { good: 0, bad: 0 };
-    let one_hopper = all(start);
-    let done = several(one_hopper);
-    trials_tally::end(laid(done));
+    trials_tally::end(all(start));
 }

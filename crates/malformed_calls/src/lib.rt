@@ -10,6 +10,7 @@ use floor::Settings;
 use floor::Tile;
 use plan::Entry;
 use plan::Plan;
+use trials_tally::Tally;
 use trials_tally::floors;
 
 fn same_settings(x: Settings, y: Settings) -> bool {
@@ -300,4 +301,15 @@ pub fn all_refuse(f: Floor) -> bool {
         & list_refuses(f, 64, 0, 64)
         & list_refuses(f, 65, 42, 0)
         & release_refuses(short_plan(), f, 1, 30)
+}
+
+// The calls on a damaged floor, whose name is written before.
+pub fn refused(t: Tally, f: Floor) -> Tally {
+    let ok = all_refuse(f);
+    if ok {
+        trials_tally::text(b": ok\n");
+    } else {
+        trials_tally::text(b": not 30 with the same floor from every call\n");
+    }
+    trials_tally::count(t, ok)
 }

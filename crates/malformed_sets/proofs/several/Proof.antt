@@ -1,12 +1,12 @@
 use Prim.Native.Nat.{_-_, _≤_}
 use borrow.Author.Needs.{needs}
-use Rattle.malformed.proofs.several.Statement.{statement}
-use Rattle.malformed.proofs.several.Tie as tie
-use Rattle.malformed.proofs.several.Reads as reads
-use Rattle.malformed.proofs.several.Lts as lts
-use Rattle.malformed.proofs.hoppers.accepted.Reads as accepted-reads
-use Rattle.malformed.proofs.hoppers.sound_floor.Reads as sound-floor-reads
-use Rattle.malformed.proofs.one_of_several.Reads as one-of-several-reads
+use Rattle.malformed_sets.proofs.several.Statement.{statement}
+use Rattle.malformed_sets.proofs.several.Tie as tie
+use Rattle.malformed_sets.proofs.several.Reads as reads
+use Rattle.malformed_sets.proofs.several.Lts as lts
+use Rattle.malformed_sets.proofs.hoppers.accepted.Reads as accepted-reads
+use Rattle.malformed_sets.proofs.hoppers.sound_floor.Reads as sound-floor-reads
+use Rattle.malformed_sets.proofs.one_of_several.Reads as one-of-several-reads
 
 abbrev Inv-loop : tie.InvT-loop
 Inv-loop f next₀ kind₀ next kind = kind ≤ 9

@@ -1,13 +1,13 @@
 use Prim.Native.Nat.{_-_, _≤_}
 use borrow.Author.Needs.{needs}
-use Rattle.malformed.proofs.laid.Statement.{statement}
-use Rattle.malformed.proofs.laid.Tie as tie
-use Rattle.malformed.proofs.laid.Reads as reads
-use Rattle.malformed.proofs.laid.Lts as lts
-use Rattle.malformed.proofs.hoppers.sound_floor.Reads as hoppers-sound-floor-reads
-use Rattle.malformed.proofs.layouts.accepted.Reads as accepted-reads
-use Rattle.malformed.proofs.layouts.sound_floor.Reads as layouts-sound-floor-reads
-use Rattle.malformed.proofs.one_of_layouts.Reads as one-of-layouts-reads
+use Rattle.malformed_sets.proofs.laid.Statement.{statement}
+use Rattle.malformed_sets.proofs.laid.Tie as tie
+use Rattle.malformed_sets.proofs.laid.Reads as reads
+use Rattle.malformed_sets.proofs.laid.Lts as lts
+use Rattle.malformed_sets.proofs.hoppers.sound_floor.Reads as hoppers-sound-floor-reads
+use Rattle.malformed_sets.proofs.layouts.accepted.Reads as accepted-reads
+use Rattle.malformed_sets.proofs.layouts.sound_floor.Reads as layouts-sound-floor-reads
+use Rattle.malformed_sets.proofs.one_of_layouts.Reads as one-of-layouts-reads
 
 abbrev Inv-loop : tie.InvT-loop
 Inv-loop f next₀ kind₀ next kind = kind ≤ 9
