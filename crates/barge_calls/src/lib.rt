@@ -17,7 +17,8 @@ use floor::Canister;
 use floor::Report;
 use round_move::run_round;
 
-// Books a canister on a fill tile of one floor. The barge is copied once and has one way out: each further way costs another copy of four floors.
+// Books a canister on a fill tile of one floor. The barge is copied once and has one way out: each further way costs another
+// copy of four floors.
 pub fn book(barge: Barge, floor: u32, tile: u32, canister: Canister) -> BargeAnswer
     ensures { λ r. ⌜ r ≡ bargeBook barge floor tile canister ⌝ }
 {

@@ -1,4 +1,5 @@
-// A booking without a place, a call on a floor. It takes any bytes, and its contract determines the whole answer on all of them.
+// A booking without a place, a call on a floor. It takes any bytes, and its contract determines the whole answer on all of
+// them.
 ghost use mathlib.Core.Path.{_≡_};
 ghost use Prim.Native.Nat.{_≤_, _<_};
 ghost use lib.ListN.{take};
@@ -25,7 +26,8 @@ pub struct Found {
     pub refusal: u8,
 }
 
-// The lowest of all places, 0, 0, is tried as a booking's, with its tests; only where it is too near to a canister is another searched for.
+// The lowest of all places, 0, 0, is tried as a booking's, with its tests; only where it is too near to a canister is
+// another searched for.
 fn find(s: Settings, last: u32, tile: u32, number: u32, running: u8, own: Members) -> Found
     requires { ⌜ (total s ≤ 64) × (s .length ≤ s .width) × (s .width ≤ 60000) × (tile < total s → own .count ≤ 16) ⌝ }
     ensures { λ r. ⌜ (r .refusal ≡ refusal (placingTests s last tile number running (take (own .count) (own .items)))) × (r .refusal ≡ 0 → r .canister ≡ record { number = number; a = placeA s (take (own .count) (own .items)); b = placeB s (take (own .count) (own .items)) }) ⌝ }
@@ -60,7 +62,8 @@ fn find(s: Settings, last: u32, tile: u32, number: u32, running: u8, own: Member
     }
 }
 
-// A booking without a place where it is known already whether the floor is well formed. As in `book_checked`, the floor is copied once and has one way out.
+// A booking without a place where it is known already whether the floor is well formed. As in `book_checked`, the floor is
+// copied once and has one way out.
 pub fn anywhere_checked(floor: Floor, tile: u32, number: u32, well: bool) -> Placed
     requires { ⌜ well ≡ wellFormed floor ⌝ }
     ensures { λ r. ⌜ r ≡ anywhereAnswer floor tile number ⌝ }
@@ -70,6 +73,7 @@ pub fn anywhere_checked(floor: Floor, tile: u32, number: u32, well: bool) -> Pla
     let mut a: u16 = 0;
     let mut b: u16 = 0;
     if well {
+        // off the floor it is some other tile; that is 4 before anything of it counts
         let t = (tile % 64) as usize;
         let s = changed.settings;
         let counters = changed.counters;

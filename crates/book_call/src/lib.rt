@@ -13,7 +13,8 @@ use floor::Members;
 use floor::refusals;
 use round_members::insert;
 
-// A booking where it is known already whether the floor is well formed. The floor is copied once and changed in place, and has one way out: each further way costs another copy.
+// A booking where it is known already whether the floor is well formed. The floor is copied once and changed in place, and
+// has one way out: each further way costs another copy.
 pub fn book_checked(floor: Floor, tile: u32, canister: Canister, well: bool) -> Answer
     requires { ⌜ well ≡ wellFormed floor ⌝ }
     ensures { λ r. ⌜ r ≡ bookAnswer floor tile canister ⌝ }
@@ -21,6 +22,7 @@ pub fn book_checked(floor: Floor, tile: u32, canister: Canister, well: bool) -> 
     let mut changed = floor;
     let mut number: u8 = refusals::MALFORMED;
     if well {
+        // off the floor it is some other tile; that is 4 before anything of it counts
         let t = (tile % 64) as usize;
         let s = changed.settings;
         let counters = changed.counters;

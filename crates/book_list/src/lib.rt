@@ -1,4 +1,5 @@
-// A list of bookings in one call. It takes any bytes, and its contract determines the whole answer, and every entry, on all of them.
+// A list of bookings in one call. It takes any bytes, and its contract determines the whole answer, and every entry, on all
+// of them.
 ghost use mathlib.Core.Path.{_≡_};
 ghost use Rattle.floor.specs.Well.{wellFormed};
 ghost use Rattle.book_list.specs.Listing.{listAnswer, listAfter};
@@ -10,7 +11,8 @@ use floor::Canister;
 use floor::Floor;
 use floor::refusals;
 
-// An entry of a list: a tile, a canister with its place, and the number that the booking is refused by, 0 where it is accepted.
+// An entry of a list: a tile, a canister with its place, and the number that the booking is refused by, 0 where it is
+// accepted.
 #[repr(C)]
 pub struct Booking {
     pub tile: u32,

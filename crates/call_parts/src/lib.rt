@@ -1,4 +1,5 @@
-// A fresh floor, and stop, repair and read on a well-formed one: their refusals, the floor that an accepted one leaves, the tile that is read.
+// A fresh floor, and stop, repair and read on a well-formed one: their refusals, the floor that an accepted one leaves, the
+// tile that is read.
 ghost use mathlib.Core.Path.{_≡_};
 ghost use mathlib.Core.Bool.{true};
 ghost use Prim.Native.Nat.{_<_};

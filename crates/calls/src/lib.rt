@@ -1,4 +1,5 @@
-// The calls on a floor; book, book_anywhere, book_list and, by value, book_places, and keep, forget and recall come from crates of their own. Each takes any bytes, and its contract determines the whole answer on all of them.
+// The calls on a floor; book, book_anywhere, book_list and, by value, book_places, and keep, forget and recall come from
+// crates of their own. Each takes any bytes, and its contract determines the whole answer on all of them.
 ghost use mathlib.Core.Path.{_≡_};
 ghost use Rattle.floor.specs.Calls.{freshAnswer, stopAnswer, repairAnswer, readAnswer, roundAnswer};
 ghost use Rattle.calls.specs.Refused.{unreadWith};

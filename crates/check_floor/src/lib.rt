@@ -90,8 +90,9 @@ fn counters_ok(s: Settings, c: Counters, n: u32) -> bool
     spare & ((booked == sum) & (c.booked <= c.last))
 }
 
-// Well formed but for the layouts, once the settings have passed. The places are read where they stand, and copied only where a
-// tile has canisters; where no canister is on the floor, no numbers are compared. A tile without canisters leaves its numbers zero.
+// Well formed but for the layouts, once the settings have passed. The places are read where they stand, and copied only
+// where a tile has canisters; where no canister is on the floor, no numbers are compared. A tile without canisters leaves
+// its numbers zero.
 fn scan(f: Floor) -> bool
     requires { ⌜ settingsPass (f .settings) ≡ true ⌝ }
     ensures { λ r. ⌜ r ≡ stateWell f ⌝ }
@@ -138,7 +139,8 @@ fn scan(f: Floor) -> bool
     added & differing
 }
 
-// Well formed. Where the settings don't pass, nothing else is read. The layouts are copied out: they are few, and the floor is read in one place.
+// Well formed. Where the settings don't pass, nothing else is read. The layouts are copied out: they are few, and the floor
+// is read in one place.
 pub fn well_formed(f: Floor) -> bool
     ensures { λ r. ⌜ r ≡ wellFormed f ⌝ }
 {

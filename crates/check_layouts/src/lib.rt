@@ -11,7 +11,8 @@ use sets::meets;
 use sets::minus;
 use sets::within;
 
-// Whether a number is a name: its eight bytes, from the last to the first, `s` whether they are letters and then zeros, `z` whether all are zero.
+// Whether a number is a name: its eight bytes, from the last to the first, `s` whether they are letters and then zeros, `z`
+// whether all are zero.
 pub fn name_ok(n: u64) -> bool
     ensures { λ r. ⌜ r ≡ nameOk n ⌝ }
 {

@@ -4,6 +4,12 @@ ghost use mathlib.Core.Bool.{true, false};
 ghost use Rattle.check_unique.specs.Differ.{differ, Runs};
 use check_unique::all_differ;
 
+// The greatest prime below 2048, the size of the table of remainders.
+const REMAINDERS: u32 = 2039;
+
+// How many comparisons the chains may take: eight for each place.
+const STEPS: u32 = 8192;
+
 fn wide(x: u16) -> usize
     ensures { λ r. ⌜ r ≡ x ⌝ }
 {
@@ -18,14 +24,14 @@ fn chained(keys: [u32; 1024]) -> u8
 {
     let mut heads: [u16; 2048] = [0; 2048];
     let mut prev: [u16; 1024] = [0; 1024];
-    let mut left: u32 = 8192;
+    let mut left: u32 = STEPS;
     let mut i: usize = 0;
     while i < 1024 {
         let n = keys[i];
         if n == 0 {
             i = i / 16 * 16 + 16;
         } else {
-            let h = (n % 2039) as usize;
+            let h = (n % REMAINDERS) as usize;
             let first = heads[h];
             let mut p = wide(first);
             while 0 < p {

@@ -54,7 +54,8 @@ fn read_more(buf: &mut [u8], end: usize) -> usize
     end + io::count(got, &buf[end..])
 }
 
-// After a read: what the console keeps, how many bytes of an unfinished line stand at the front of the buffer, whether to read again.
+// After a read: what the console keeps, how many bytes of an unfinished line stand at the front of the buffer, whether to
+// read again.
 struct After {
     all: WithBarge,
     kept: usize,
@@ -84,7 +85,8 @@ fn turn(before: WithBarge, buf: &mut [u8], kept: usize) -> After
     }
 }
 
-// The end of the input: a last line without its end is obeyed; a list that has no `end` is not sent. `more`: there may be input, and no reads are left.
+// The end of the input: a last line without its end is obeyed; a list that has no `end` is not sent. `more`: there may be
+// input, and no reads are left.
 fn finish(a: WithBarge, rest: &[u8], more: bool) {
     if more {
         console_say::text(b"console: no reads are left; the lines after line ");
@@ -101,7 +103,8 @@ fn finish(a: WithBarge, rest: &[u8], more: bool) {
     }
 }
 
-// Obeys lines as they come, until `quit` or the end of the input. A proved loop has to end, and nothing says that the input does: so the reads are counted down, from a number that no run uses up.
+// Obeys lines as they come, until `quit` or the end of the input. A proved loop has to end, and nothing says that the input
+// does: so the reads are counted down, from a number that no run uses up.
 fn converse(buf: &mut [u8])
     requires { ⌜ 401 < length (now buf) ⌝ }
 {

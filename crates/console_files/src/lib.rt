@@ -1,4 +1,5 @@
-// A floor shown as its page, and kept in a file as its image: written whole and only then put in the place of an older file; read to its end or not at all.
+// A floor shown as its page, and kept in a file as its image: written whole and only then put in the place of an older file;
+// read to its end or not at all.
 ghost use Prim.Native.Nat.{_≤_};
 use floor::Answer;
 use floor::Floor;

@@ -61,7 +61,8 @@ fn chosen(line: &[u8]) -> Choice {
     }
 }
 
-// Takes the floor that a call gave. Refused, the floor stays as it was; one that holds canisters is given up by the call with `!` alone.
+// Takes the floor that a call gave. Refused, the floor stays as it was; one that holds canisters is given up by the call
+// with `!` alone.
 fn taken(s: Session, call: &[u8], answer: Answer, give_up: bool) -> Session {
     if answer.refusal != 0 {
         console_say::refused(call, answer.refusal);

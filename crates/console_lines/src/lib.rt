@@ -5,7 +5,8 @@ ghost use lib.ListN.{length, take, drop};
 ghost use Rattle.console_lines.specs.Kept.{Kept};
 use console_words::Span;
 
-// The part that is kept of an unfinished line: all of it up to 401 bytes. Of a longer one 401 bytes: those from its first word on, or its last ones where these have the beginning of that word or are blanks.
+// The part that is kept of an unfinished line: all of it up to 401 bytes. Of a longer one 401 bytes: those from its first
+// word on, or its last ones where these have the beginning of that word or are blanks.
 fn kept_of(line: &[u8]) -> Span
     ensures { λ r. ⌜ (r .from ≤ r .to) × (r .to ≤ r .from + 401) × (r .to ≤ length (now (line .entry))) × Kept (now (line .entry)) (take (r .to - r .from) (drop (r .from) (now (line .entry)))) ⌝ }
 {

@@ -155,7 +155,8 @@ pub fn sources_at(line: &[u8], k: usize) -> Sources
     tiles_at(line, k)
 }
 
-// The eight bytes of a name, zero filled. A longer word is no name and gives zeros, which the library refuses by the same number.
+// The eight bytes of a name, zero filled. A longer word is no name and gives zeros, which the library refuses by the same
+// number.
 fn letters(word: &[u8]) -> [u8; 8]
     ensures { λ r. ⌜ r ≡ nameIn (now (word .entry)) ⌝ }
 {

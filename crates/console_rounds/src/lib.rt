@@ -90,7 +90,8 @@ fn delivers(report: Report) -> bool {
     console_show::some(deliveries)
 }
 
-// Goes n rounds and tells the rounds that deliver or close a window; ends early where a round is refused. A report that lists nothing changes no plan.
+// Goes n rounds and tells the rounds that deliver or close a window; ends early where a round is refused. A report that
+// lists nothing changes no plan.
 fn go(s: Session, n: u32) -> Session {
     let mut next = s;
     let mut k: u32 = 0;

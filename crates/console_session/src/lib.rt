@@ -11,8 +11,9 @@ use plan::Entry;
 use plan::Plan;
 use throughput::Throughput;
 
-// The floor, the plan for it, the throughput of each hopper, what the last round's report says of each tile, the entries of a list
-// that is being typed, how many lines were read, how many rounds the floor went, whether there is a floor, whether to go on.
+// The floor, the plan for it, the throughput of each hopper, what the last round's report says of each tile, the entries of
+// a list that is being typed, how many lines were read, how many rounds the floor went, whether there is a floor, whether to
+// go on.
 pub struct Session {
     pub floor: Floor,
     pub plan: Plan,
@@ -65,7 +66,8 @@ pub fn cannot(s: Session, line: &[u8]) -> Session
     s
 }
 
-// A refused call changes nothing. Where no floor was made yet, the library refuses every call, because a floor of zeros isn't well formed.
+// A refused call changes nothing. Where no floor was made yet, the library refuses every call, because a floor of zeros
+// isn't well formed.
 pub fn refused(s: Session, name: &[u8], n: u8) -> Session
     ensures { λ r. ⌜ r ≡ s ⌝ }
 {

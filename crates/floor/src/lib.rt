@@ -116,8 +116,8 @@ impl Side {
 // The distance of a tile that has none.
 pub const DISTANCE_NONE: u8 = 255;
 
-// A tile without its canisters. `running` is 1 or 0; `distance` is DISTANCE_NONE where there is none; `next` is document 01's arrow, `token` its
-// turn; `count` is how many of the tile's sixteen places are used.
+// A tile without its canisters. `running` is 1 or 0; `distance` is DISTANCE_NONE where there is none; `next` is document
+// 01's arrow, `token` its turn; `count` is how many of the tile's sixteen places are used.
 #[repr(C)]
 pub struct Tile {
     pub running: u8,
@@ -177,7 +177,8 @@ impl Settings {
     }
 }
 
-// The last number booked, how many were booked, and how many were delivered to each hopper, the hoppers in tile order, then zeros.
+// The last number booked, how many were booked, and how many were delivered to each hopper, the hoppers in tile order, then
+// zeros.
 #[repr(C)]
 pub struct Counters {
     pub last: u32,
@@ -199,7 +200,8 @@ pub struct Name {
     pub letters: [u8; 8],
 }
 
-// A layout: its name as one number, the first letter in the highest byte, zero filled; and the set of tiles that ran when it was kept.
+// A layout: its name as one number, the first letter in the highest byte, zero filled; and the set of tiles that ran when it
+// was kept.
 #[repr(C)]
 pub struct Layout {
     pub name: u64,
@@ -211,7 +213,8 @@ impl Layout {
     pub const ZERO: Layout = Layout { name: 0, set: 0 };
 }
 
-// A floor. The canisters of tile t stand from place 16 * t on, by rising number, the layouts by rising name; unused places are zero.
+// A floor. The canisters of tile t stand from place 16 * t on, by rising number, the layouts by rising name; unused places
+// are zero.
 #[repr(C)]
 pub struct Floor {
     pub settings: Settings,
@@ -255,7 +258,8 @@ impl Report {
     };
 }
 
-// The answer of fresh, book, stop, repair, keep, forget, recall and load: the papers' refusal number, 0 where the call was accepted.
+// The answer of fresh, book, stop, repair, keep, forget, recall and load: the papers' refusal number, 0 where the call was
+// accepted.
 // The number stands last: padding before the floor costs another copy of it.
 #[repr(C)]
 pub struct Answer {
@@ -280,7 +284,8 @@ pub struct Rounded {
     pub refusal: u8,
 }
 
-// The answer of reading a tile: the tile and its sixteen places. It holds no floor, so the order of its fields costs no copy.
+// The answer of reading a tile: the tile and its sixteen places. It holds no floor, so the order of its fields costs no
+// copy.
 #[repr(C)]
 pub struct Reading {
     pub refusal: u8,

@@ -1,5 +1,5 @@
-// The numbers that a call is refused by, with the papers' words; their names are those of the C header. Where nothing refuses, the
-// number is 0. 41 stands in `throughput`, 47 and 48 in `plan`, 49 and 50 in `barge`.
+// The numbers that a call is refused by, with the papers' words; their names are those of the C header. Where nothing
+// refuses, the number is 0. 41 stands in `throughput`, 47 and 48 in `plan`, 49 and 50 in `barge`.
 
 // "W, H or C outside its range."
 pub const GRID: u8 = 1;

@@ -30,7 +30,8 @@ fn standard_settings() -> Settings
     }
 }
 
-// The floor of bytes as records; refused, the all-zero floor, which the check then looks at too. One way out: each costs a copy.
+// The floor of bytes as records; refused, the all-zero floor, which the check then looks at too. One way out: each costs a
+// copy.
 fn load_image(bytes: &[u8]) -> Answer
     ensures { λ r. ⌜ r ≡ imageAnswer (now (bytes .entry)) ⌝ }
 {
@@ -44,7 +45,8 @@ fn load_image(bytes: &[u8]) -> Answer
     out
 }
 
-// The floor of an image; zero bytes load the standard floor. One way out, and the fresh floor has a variable of its own: else every load costs a copy more.
+// The floor of an image; zero bytes load the standard floor. One way out, and the fresh floor has a variable of its own:
+// else every load costs a copy more.
 pub fn load(bytes: &[u8]) -> Answer
     ensures { λ r. ⌜ r ≡ loadAnswer (now (bytes .entry)) ⌝ }
 {

@@ -11,7 +11,8 @@ pub fn room() -> [u8; 74591]
     [0; 74591]
 }
 
-// How many bytes were read, and whether a read failed. A read that fails is no end of the file: what came before it is no image.
+// How many bytes were read, and whether a read failed. A read that fails is no end of the file: what came before it is no
+// image.
 pub struct Input {
     pub length: usize,
     pub failed: bool,

@@ -24,7 +24,8 @@ use image_record_read::scan_layouts;
 use image_record_read::scan_tiles;
 use sets::size;
 
-// What the front of an image holds, the records of kinds 1, 2 and 5: how many layouts there are, where the tiles' records begin, and the first refusal, 0 where there is none.
+// What the front of an image holds, the records of kinds 1, 2 and 5: how many layouts there are, where the tiles' records
+// begin, and the first refusal, 0 where there is none.
 pub struct Front {
     pub settings: Settings,
     pub counters: Counters,
@@ -140,7 +141,8 @@ fn read_front(s: &[u8]) -> Front
     }
 }
 
-// The floor that the bytes hold, or the first refusal in reading order and the all-zero floor. It answers 12 for a layout without a name only, which would not show in memory: what else is 12 shows there, and is told there.
+// The floor that the bytes hold, or the first refusal in reading order and the all-zero floor. It answers 12 for a layout
+// without a name only, which would not show in memory: what else is 12 shows there, and is told there.
 pub fn read_image(s: &[u8]) -> Answer
     ensures { λ r. ⌜ r ≡ recordsAnswer (now (s .entry)) ⌝ }
 {

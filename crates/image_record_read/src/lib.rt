@@ -1,4 +1,5 @@
-// The records of an image, read one by one: the reader of each kind, and the scans of the layouts' and the tiles' records. Each tells the first refusal, without 12.
+// The records of an image, read one by one: the reader of each kind, and the scans of the layouts' and the tiles' records.
+// Each tells the first refusal, without 12.
 ghost use mathlib.Core.Path.{_≡_};
 ghost use mathlib.Core.Logic.{_⊎_};
 ghost use mathlib.Core.Bool.{not, _&&_};
@@ -42,7 +43,8 @@ pub struct Scan {
     pub fault: u8,
 }
 
-// What a scan of the layouts' records finds: the first refusal, 0 where there is none, the eight places, and how many records there are, twenty bytes each.
+// What a scan of the layouts' records finds: the first refusal, 0 where there is none, the eight places, and how many
+// records there are, twenty bytes each.
 pub struct Laid {
     pub layouts: [Layout; 8],
     pub count: usize,
@@ -255,7 +257,8 @@ fn read_layout(s: &[u8], at: usize, n: u16) -> Found
     r
 }
 
-// The record at `at` where kind `due` is due; `tile` is the tile that is due and, for kind 2, the number of hoppers. The kind found decides which reader runs, and 10.
+// The record at `at` where kind `due` is due; `tile` is the tile that is due and, for kind 2, the number of hoppers. The
+// kind found decides which reader runs, and 10.
 pub fn read_record(s: &[u8], at: usize, due: u16, tile: u8) -> Found
     requires { ⌜ (at ≤ length (now s)) × (1 ≤ due) × (due ≤ 5) × (due ≡ 2 → tile ≤ 4) ⌝ }
     ensures { λ r. ⌜ (r .fault ≡ recordFault due tile (drop at (now (s .entry)))) × (r .fault ≡ 0 → Holds due tile (drop at (now (s .entry))) r) ⌝ }

@@ -1,4 +1,5 @@
-// The records of an image, put one by one: each function puts its bytes into a buffer that has room for them, and leaves the others.
+// The records of an image, put one by one: each function puts its bytes into a buffer that has room for them, and leaves the
+// others.
 ghost use mathlib.Core.Path.{_≡_};
 ghost use mathlib.Core.List.{_++_};
 ghost use Prim.Native.Nat.{_+_, _*_, _≤_};

@@ -1,4 +1,5 @@
-// Keep, forget and recall: the calls on a floor's named layouts. Each takes any bytes, and its contract determines the whole answer on all of them.
+// Keep, forget and recall: the calls on a floor's named layouts. Each takes any bytes, and its contract determines the whole
+// answer on all of them.
 ghost use mathlib.Core.Path.{_≡_};
 ghost use Rattle.floor.specs.Layouts.{nameNumber};
 ghost use Rattle.floor.specs.Calls.{keepAnswer, forgetAnswer, recallAnswer};

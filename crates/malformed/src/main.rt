@@ -1,5 +1,5 @@
-// Floors that aren't well formed: every call that takes a floor answers 30 and gives the same floor, zeros for a reading, the same
-// bytes for a writing and for a page; a list of bookings answers 30 in every entry.
+// Floors that aren't well formed: every call that takes a floor answers 30 and gives the same floor, zeros for a reading,
+// the same bytes for a writing and for a page; a list of bookings answers 30 in every entry.
 use floor::Floor;
 use trials_tally::Tally;
 use trials_tally::floors;

@@ -1,5 +1,5 @@
-// Whether every call that takes a floor refuses one that isn't well formed: 30 and the same floor, zeros for a reading, the same
-// bytes for a writing and for a page; a list of bookings answers 30 in every entry; a release gives the plan back too.
+// Whether every call that takes a floor refuses one that isn't well formed: 30 and the same floor, zeros for a reading, the
+// same bytes for a writing and for a page; a list of bookings answers 30 in every entry; a release gives the plan back too.
 use book_list::Booking;
 use floor::Canister;
 use floor::Delivery;
@@ -272,7 +272,8 @@ fn list_refuses(f: Floor, n: usize, refusal: u8, written: usize) -> bool {
     (made.refusal == refusal) & answered(list, written) & same_floor(after, f)
 }
 
-// Book with and without a place, lists of 5, 64 and 65 bookings, stop, repair, round, read, write, page, keep, forget, recall and release.
+// Book with and without a place, lists of 5, 64 and 65 bookings, stop, repair, round, read, write, page, keep, forget,
+// recall and release.
 pub fn all_refuse(f: Floor) -> bool {
     let book = floors::book(f, 1, 900, 0, 0);
     let stop = calls::stop(f, 1);

@@ -1,4 +1,5 @@
-// A plan of bookings, some of which must be delivered before others are made (document 02's [12]): its structs. Its definitions stand in specs/; no code.
+// A plan of bookings, some of which must be delivered before others are made (document 02's [12]): its structs. Its
+// definitions stand in specs/; no code.
 use floor::Floor;
 
 // What an entry's stage says. Every other byte is read as BOOKED.
@@ -17,7 +18,8 @@ pub const BAD_LABEL: u8 = 47;
 // "the label asked for not waiting or a predecessor undelivered, at release, after 47"
 pub const NOT_RELEASED: u8 = 48;
 
-// An entry: its fill tile; the number that it is booked under; its label, 1 to 64; its predecessors' labels, 0 for none; its stage.
+// An entry: its fill tile; the number that it is booked under; its label, 1 to 64; its predecessors' labels, 0 for none; its
+// stage.
 #[repr(C)]
 pub struct Entry {
     pub tile: u32,

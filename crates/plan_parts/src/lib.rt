@@ -1,4 +1,5 @@
-// Parts of a plan's calls: the lowest label that is ready, the entry asked for, the numbers listed, what a release and a report change.
+// Parts of a plan's calls: the lowest label that is ready, the entry asked for, the numbers listed, what a release and a
+// report change.
 ghost use mathlib.Core.Path.{_≡_};
 ghost use mathlib.Core.Bool.{true, false, cond, _&&_};
 ghost use mathlib.Core.List.{_++_};

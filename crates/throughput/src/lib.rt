@@ -54,8 +54,8 @@ fn rate(count: u16) -> f64
     (count as f64) / 256.0
 }
 
-// Whether x times 256 is a whole number from 0 to 1,024 and x is not negative zero, for any f64: whether x has the bits of the
-// rate of some count.
+// Whether x times 256 is a whole number from 0 to 1,024 and x is not negative zero, for any f64: whether x has the bits of
+// the rate of some count.
 fn rate_sound(x: f64) -> bool
     ensures { λ r. ⌜ r ≡ rateSound x ⌝ }
 {

@@ -41,7 +41,8 @@ fn four(f: Floor, g: Floor, h: Floor, i: Floor, allowance: u32) -> Barge {
     }
 }
 
-// Floors 1 and 2 hold canister 9 at (0, 0) on tile 0, floor 3 canister 7 at (35, 35), which leaves no place; floor 0 is empty.
+// Floors 1 and 2 hold canister 9 at (0, 0) on tile 0, floor 3 canister 7 at (35, 35), which leaves no place; floor 0 is
+// empty.
 fn some(allowance: u32) -> Barge {
     let f = floors::fresh(2, 1, 1, 1);
     let one = floors::booked(f, 0, 9, 0, 0);
@@ -130,7 +131,8 @@ fn delivery(floor: u32) -> u64 {
     floors::wide(first.numbers[0])
 }
 
-// Every call on each floor: accepted, and the other three are as they were. Bookings below the allowance, the others above it.
+// Every call on each floor: accepted, and the other three are as they were. Bookings below the allowance, the others above
+// it.
 fn each(t: Tally) -> Tally {
     let a = trial(
         t,

@@ -1,4 +1,5 @@
-// Trials of document 02's further calls: bookings without a place, lists of bookings, throughput and pages, through the compiled calls.
+// Trials of document 02's further calls: bookings without a place, lists of bookings, throughput and pages, through the
+// compiled calls.
 mod anywhere;
 mod lists;
 mod pages;

@@ -1,4 +1,5 @@
-// Trials of plans, through the compiled calls: a plan run to its end, and what each call refuses, with everything else unchanged.
+// Trials of plans, through the compiled calls: a plan run to its end, and what each call refuses, with everything else
+// unchanged.
 mod plans;
 mod run;
 

@@ -1,4 +1,5 @@
-// What the programs that try the calls share: one line for each trial, how many went as they should, and floors made through the calls.
+// What the programs that try the calls share: one line for each trial, how many went as they should, and floors made through
+// the calls.
 pub mod floors;
 
 use libc::STDOUT_FILENO;
