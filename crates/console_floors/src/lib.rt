@@ -1,5 +1,6 @@
 // Floors as they are typed: made, shown, kept in a file and taken from one.
 ghost use mathlib.Core.Path.{_≡_};
+ghost use Rattle.console_floors.specs.Held.{takenBy};
 use console_parse::Numbers;
 use console_parse::Sources;
 use console_session::Session;
@@ -63,13 +64,15 @@ fn chosen(line: &[u8]) -> Choice {
 
 // Takes the floor that a call gave. Refused, the floor stays as it was; one that holds canisters is given up by the call
 // with `!` alone.
-fn taken(s: Session, call: &[u8], answer: Answer, give_up: bool) -> Session {
+fn taken(s: Session, call: &[u8], answer: Answer, give_up: bool) -> Session
+    ensures { λ r. ⌜ r ≡ takenBy s answer «give_up» ⌝ }
+{
     if answer.refusal != 0 {
         console_say::refused(call, answer.refusal);
         return s;
     }
     let canisters = console_session::held(s.floor.counters);
-    if 0 < canisters && !give_up {
+    if (0 < canisters) & !give_up {
         console_say::holds(call, canisters);
         return s;
     }

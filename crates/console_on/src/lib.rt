@@ -1,5 +1,8 @@
 // Calls on one floor of the barge as they are typed: on FLOOR, then the call.
+ghost use mathlib.Core.Path.{_≡_};
 ghost use Prim.Native.Nat.{_≤_};
+ghost use Rattle.barge.specs.Barges.{bargeBook, bargeBookAnywhere};
+ghost use Rattle.console_on.specs.Typed.{argumentsOn, answeredOn, placedOn, stopOn, repairOn, bookOn};
 use barge::BargeAnswer;
 use console_barge::WithBarge;
 use console_parse::Numbers;
@@ -22,7 +25,9 @@ fn refused(floor: u32, call: &[u8], n: u8) {
 }
 
 // After a call's answer: the barge that it gives, or the refusal told.
-fn answered(a: WithBarge, floor: u32, call: &[u8], answer: BargeAnswer) -> WithBarge {
+fn answered(a: WithBarge, floor: u32, call: &[u8], answer: BargeAnswer) -> WithBarge
+    ensures { λ r. ⌜ r ≡ answeredOn a answer ⌝ }
+{
     if answer.refusal != 0 {
         refused(floor, call, answer.refusal);
         return a;
@@ -34,6 +39,7 @@ fn answered(a: WithBarge, floor: u32, call: &[u8], answer: BargeAnswer) -> WithB
 // The numbers after the call's name, and nothing after them.
 fn arguments(line: &[u8], count: usize) -> Numbers
     requires { ⌜ count ≤ 4 ⌝ }
+    ensures { λ r. ⌜ r ≡ argumentsOn (now (line .entry)) count ⌝ }
 {
     let mut n = console_parse::numbers_at(line, 3, count);
     n.good = n.good & console_parse::ended(line, count + 3);
@@ -41,7 +47,9 @@ fn arguments(line: &[u8], count: usize) -> Numbers
 }
 
 // A booking without a place; the place found is told.
-fn anywhere(a: WithBarge, floor: u32, tile: u32, number: u32) -> WithBarge {
+fn anywhere(a: WithBarge, floor: u32, tile: u32, number: u32) -> WithBarge
+    ensures { λ r. ⌜ r ≡ placedOn a (bargeBookAnywhere (a .barge) floor tile number) ⌝ }
+{
     let before = a.barge;
     let answer = barge_calls::book_anywhere(before, floor, tile, number);
     if answer.refusal != 0 {
@@ -60,7 +68,9 @@ fn anywhere(a: WithBarge, floor: u32, tile: u32, number: u32) -> WithBarge {
 }
 
 // A booking.
-fn placed(a: WithBarge, floor: u32, tile: u32, c: Canister) -> WithBarge {
+fn placed(a: WithBarge, floor: u32, tile: u32, c: Canister) -> WithBarge
+    ensures { λ r. ⌜ r ≡ answeredOn a (bargeBook (a .barge) floor tile c) ⌝ }
+{
     let before = a.barge;
     let answer = barge_calls::book(before, floor, tile, c);
     if answer.refusal == 0 {
@@ -70,7 +80,9 @@ fn placed(a: WithBarge, floor: u32, tile: u32, c: Canister) -> WithBarge {
     answered(a, floor, b"book", answer)
 }
 
-fn book(a: WithBarge, line: &[u8], floor: u32) -> WithBarge {
+fn book(a: WithBarge, line: &[u8], floor: u32) -> WithBarge
+    ensures { λ r. ⌜ r ≡ bookOn a (now (line .entry)) floor ⌝ }
+{
     let two = arguments(line, 2);
     if two.good {
         return anywhere(a, floor, two.at[0], two.at[1]);
@@ -83,7 +95,9 @@ fn book(a: WithBarge, line: &[u8], floor: u32) -> WithBarge {
     placed(a, floor, n.at[0], c)
 }
 
-fn stop(a: WithBarge, line: &[u8], floor: u32) -> WithBarge {
+fn stop(a: WithBarge, line: &[u8], floor: u32) -> WithBarge
+    ensures { λ r. ⌜ r ≡ stopOn a (now (line .entry)) floor ⌝ }
+{
     let n = arguments(line, 1);
     if !n.good {
         return console_barge::cannot(a, line);
@@ -97,7 +111,9 @@ fn stop(a: WithBarge, line: &[u8], floor: u32) -> WithBarge {
     answered(a, floor, b"stop", answer)
 }
 
-fn repair(a: WithBarge, line: &[u8], floor: u32) -> WithBarge {
+fn repair(a: WithBarge, line: &[u8], floor: u32) -> WithBarge
+    ensures { λ r. ⌜ r ≡ repairOn a (now (line .entry)) floor ⌝ }
+{
     let n = arguments(line, 1);
     if !n.good {
         return console_barge::cannot(a, line);
