@@ -5,7 +5,6 @@ use lib.ListN.{replicate, set}
 use borrow.Author.Tests.{lt-ltb, le-ltb}
 use Rattle.floor.specs.declared.Floor.{Floor}
 use Rattle.floor.specs.Memory.{zeroFloor}
-use Rattle.barge.specs.declared.Barge.{Barge}
 use Rattle.barge.specs.Barges.{withFloor}
 use Rattle.console_session.specs.declared.Session.{Session}
 use Rattle.console_session.specs.Sessions.{startSession}

@@ -1,5 +1,5 @@
 -- What a typed booking leaves of the session: the call's own answer, and nothing where the line can't be read.
-use mathlib.Core.Bool.{Bool, true, false, cond, not, _&&_, _||_}
+use mathlib.Core.Bool.{false, cond, not, _&&_, _||_}
 use mathlib.Core.List.{List}
 use Prim.Native.Nat.{ℕ, min}
 use lib.Dec.{eqb}
@@ -9,7 +9,6 @@ use Rattle.floor.specs.declared.Answer.{Answer}
 use Rattle.floor.specs.declared.Placed.{Placed}
 use Rattle.floor.specs.Calls.{bookAnswer}
 use Rattle.floor.specs.Anywhere.{anywhereAnswer}
-use Rattle.book_list.specs.declared.Listed.{Listed}
 use Rattle.book_list.specs.Parts.{placesAnswer}
 use Rattle.console_parse.specs.declared.Numbers.{Numbers}
 use Rattle.console_parse.specs.Line.{endsBy, numbersOf, argumentsOf}

@@ -1,7 +1,7 @@
 -- Typed calls on a floor of the barge: refused, accepted, and lines that can't be read.
 use mathlib.Core.Path.{_≡_, sym}
 use mathlib.Core.Logic.{_≢_}
-use mathlib.Core.Bool.{Bool, true, false, not}
+use mathlib.Core.Bool.{true, false, not}
 use mathlib.Core.List.{List}
 use Prim.Native.Nat.{ℕ}
 use lib.ListN.{getD}
@@ -15,7 +15,7 @@ use Rattle.console_parse.specs.declared.Numbers.{Numbers}
 use Rattle.console_book.specs.Typed.{canisterIn}
 use Rattle.console_barge.specs.declared.WithBarge.{WithBarge}
 use Rattle.console_barge.specs.Aboard.{bargeSet, afterOn}
-use Rattle.console_on.specs.Typed.{argumentsOn, answeredOn, placedOn, onTile, stopOn, repairOn, bookOn}
+use Rattle.console_on.specs.Typed.{argumentsOn, answeredOn, placedOn, stopOn, repairOn, bookOn}
 
 call-refused : (a r : WithBarge) (n : ℕ) (b : Barge) → n ≢ 0 → r ≡ a → r ≡ afterOn a n b
 unfolding afterOn

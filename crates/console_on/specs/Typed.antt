@@ -1,5 +1,5 @@
 -- What a typed call on a floor of the barge leaves: the call's own answer, and nothing where the line can't be read.
-use mathlib.Core.Bool.{Bool, cond, _&&_}
+use mathlib.Core.Bool.{cond, _&&_}
 use mathlib.Core.List.{List}
 use Prim.Native.Nat.{ℕ, _+_}
 use lib.ListN.{getD}

@@ -11,7 +11,7 @@ use Rattle.console_throughput.specs.declared.Followed.{Followed}
 use Rattle.console_throughput.specs.Follow.{followedBy}
 use Rattle.console_session.specs.declared.Session.{Session}
 use Rattle.console_rounds.specs.declared.Stepped.{Stepped}
-use Rattle.console_rounds.specs.Typed.{moved, steppedBy, toldOf, roundTyped}
+use Rattle.console_rounds.specs.Typed.{moved, steppedBy, reportTold, roundTyped}
 
 pub step-refused : (s : Session) (a b : Rounded) → a ≡ b → a .refusal ≢ 0 → record { session = s; report = a .report; refusal = a .refusal; closed = false } ≡ steppedBy s b
 unfolding steppedBy
@@ -47,10 +47,10 @@ round-refused s r d e n p =
     let m : a .refusal ≢ 0 = λ z. n (refusal-is s a d e ∙ z) in
     rw (ne-eqb (a .refusal) 0 m) (p ∙ (ap (λ (x : Stepped). x .session) e ∙ stays s a m))
 
-pub round-accepted : (s r : Session) (d : Stepped) → d ≡ steppedBy s (roundAnswer (s .floor)) → d .refusal ≡ 0 → r ≡ toldOf (d .session) (d .report) → r ≡ roundTyped s
+pub round-accepted : (s r : Session) (d : Stepped) → d ≡ steppedBy s (roundAnswer (s .floor)) → d .refusal ≡ 0 → r ≡ reportTold (d .session) (d .report) → r ≡ roundTyped s
 unfolding roundTyped
 round-accepted s r d e n p =
     let a = roundAnswer (s .floor) in
     let m : a .refusal ≡ 0 = sym (refusal-is s a d e) ∙ n in
     let there : d .session ≡ moved s a = ap (λ (x : Stepped). x .session) e ∙ goes s a m in
-    pick (eqb (a .refusal) 0) (toldOf (moved s a) (a .report)) s r (eq-eqb (a .refusal) 0 m) (p ∙ (λ i. toldOf (there i) (report-is s a d e i)))
+    pick (eqb (a .refusal) 0) (reportTold (moved s a) (a .report)) s r (eq-eqb (a .refusal) 0 m) (p ∙ (λ i. reportTold (there i) (report-is s a d e i)))

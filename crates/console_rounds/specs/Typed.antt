@@ -1,5 +1,5 @@
 -- What a round that is typed leaves of the session.
-use mathlib.Core.Bool.{Bool, cond, _&&_}
+use mathlib.Core.Bool.{cond, _&&_}
 use Prim.Native.Nat.{_+_, _%_, _^_}
 use lib.Dec.{eqb}
 use Rattle.floor.specs.declared.Report.{Report}
@@ -23,11 +23,11 @@ steppedBy s a =
     record { session = cond accepted (moved s a) s; report = a .report; refusal = a .refusal; closed = accepted && followedBy (s .records) (a .report .deliveries) .closed }
 
 -- the plan with a report
-abbrev pub toldOf : Session → Report → Session
-toldOf s r = withPlan s (reportAnswer (s .plan) r .plan)
+abbrev pub reportTold : Session → Report → Session
+reportTold s r = withPlan s (reportAnswer (s .plan) r .plan)
 
 -- `round`: refused, nothing has changed
 unfoldable pub roundTyped : Session → Session
 roundTyped s =
     let a = roundAnswer (s .floor) in
-    cond (eqb (a .refusal) 0) (toldOf (moved s a) (a .report)) s
+    cond (eqb (a .refusal) 0) (reportTold (moved s a) (a .report)) s

@@ -1,7 +1,7 @@
 // Rounds as they are typed, and what is told of them afterwards.
 ghost use mathlib.Core.Path.{_≡_};
 ghost use Rattle.floor.specs.Calls.{roundAnswer};
-ghost use Rattle.console_rounds.specs.Typed.{steppedBy, toldOf, roundTyped};
+ghost use Rattle.console_rounds.specs.Typed.{steppedBy, reportTold, roundTyped};
 use console_session::Session;
 use console_show::ALONE;
 use floor::Report;
@@ -55,7 +55,7 @@ fn step(s: Session) -> Stepped
 
 // Tells what a round delivered and the rates of the windows that it closed, and hands its report to the plan.
 fn told(s: Session, report: Report, closed: bool) -> Session
-    ensures { λ r. ⌜ r ≡ toldOf s report ⌝ }
+    ensures { λ r. ⌜ r ≡ reportTold s report ⌝ }
 {
     let deliveries = report.deliveries;
     console_show::delivered(ALONE, s.rounds, s.floor.settings.hoppers, deliveries);

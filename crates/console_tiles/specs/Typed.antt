@@ -1,5 +1,5 @@
 -- What a typed call about a tile or a layout leaves of the session: the call's own answer, and nothing where the line can't be read.
-use mathlib.Core.Bool.{Bool, cond}
+use mathlib.Core.Bool.{cond}
 use mathlib.Core.List.{List}
 use Prim.Native.Nat.{ℕ}
 use lib.ListN.{getD}

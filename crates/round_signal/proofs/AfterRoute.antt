@@ -21,7 +21,8 @@ use Rattle.floor.proofs.Reasons.{signal-lacks}
 use Rattle.floor.proofs.Capacity.{sound-small}
 use Rattle.round_route.specs.Routed.{Redone, routedAt}
 use Rattle.round_route.proofs.RouteFloor.{route-pack, route-settings, route-length, route-token, route-members}
-use Rattle.round_signal.specs.Signalling.{Ready, Granted, tileAt, grantAt, reasonAt, besideAt}
+use Rattle.round_signal.specs.Signalling.{Granted}
+use Rattle.round_signal.proofs.FloorSignals.{Ready, tileAt, grantAt, reasonAt, besideAt}
 use Rattle.round_signal.proofs.Loops.{Asked}
 use Rattle.round_signal.proofs.SignalFloor.{signal-pack, lack-view, reasons-pack, signal-settings, signal-length, signal-members}
 

@@ -1,3 +1,4 @@
+pub mod FloorSignals
 pub mod PassLaws
 pub mod ReasonLaws
 pub mod SignalFloor

@@ -20,14 +20,15 @@ use Rattle.round_route.proofs.Passes.{redone-none, redone-turn, redone-end}
 use Rattle.round_grants.specs.declared.Signal as S
 use Rattle.round_grants.specs.TileSignal.{given, signalFrom}
 use Rattle.round_signal.specs.Signalling as M
+use Rattle.round_signal.proofs.FloorSignals as F
 use Rattle.round_signal.proofs.PassLaws.{signal-read, granted-none, granted-turn, granted-end, granted-within}
 
 -- what Signal asks of the tiles and the canisters
 pub record Asked (s : Settings) (tiles : List Tile) (canisters : List Canister) : Type 0 where
   pub ranged : Ranged s
-  pub ready : M.Ready s tiles
-  pub roomy : M.Roomy s tiles
-  pub slight : M.Slight s tiles canisters
+  pub ready : F.Ready s tiles
+  pub roomy : F.Roomy s tiles
+  pub slight : F.Slight s tiles canisters
   pub tiles-length : length tiles ≡ 64
   pub canisters-length : length canisters ≡ 1024
 
@@ -36,10 +37,10 @@ pub record Signalled (s : Settings) (tiles : List Tile) (canisters : List Canist
   pub below : t ≤ all
   pub whole : all ≡ total s
   pub few : all ≤ 64
-  pub tokened : Redone t (M.tileAt s tiles canisters) tiles out
-  pub granted : M.Granted 64 t (M.grantAt s tiles canisters) grants
-  pub turned : M.Granted 65 t (M.turnAt s tiles canisters) turns
-  pub lacking : M.Granted 65 t (M.lackAt s tiles canisters) lacks
+  pub tokened : Redone t (F.tileAt s tiles canisters) tiles out
+  pub granted : M.Granted 64 t (F.grantAt s tiles canisters) grants
+  pub turned : M.Granted 65 t (F.turnAt s tiles canisters) turns
+  pub lacking : M.Granted 65 t (F.lackAt s tiles canisters) lacks
 
 pub record Copied (tiles : List Tile) (canisters : List Canister) (t : ℕ) (items : List Canister) (k : ℕ) : Type 0 where
   pub below : k ≤ 16
@@ -85,10 +86,10 @@ signalled-start s tiles canisters a e = record {
   below = omega arith;
   whole = e;
   few = omega (arith, e, a .ranged .2);
-  tokened = redone-none (M.tileAt s tiles canisters) tiles (a .tiles-length);
-  granted = granted-none 64 (M.grantAt s tiles canisters);
-  turned = granted-none 65 (M.turnAt s tiles canisters);
-  lacking = granted-none 65 (M.lackAt s tiles canisters);
+  tokened = redone-none (F.tileAt s tiles canisters) tiles (a .tiles-length);
+  granted = granted-none 64 (F.grantAt s tiles canisters);
+  turned = granted-none 65 (F.turnAt s tiles canisters);
+  lacking = granted-none 65 (F.lackAt s tiles canisters);
 }
 
 module _ {s : Settings} {tiles : List Tile} {canisters : List Canister} {all : ℕ} {out : List Tile} {grants turns lacks : List ℕ} {t : ℕ} (p : Signalled s tiles canisters all out grants turns lacks t) where
@@ -109,17 +110,17 @@ module _ {s : Settings} {tiles : List Tile} {canisters : List Canister} {all : �
         → (one : S.Signal) → given one ≡ around s (λ u. getD show u 0) t (signalFrom s (getD tiles t zeroTile .running) (getD tiles t zeroTile .token .code) (take (getD tiles t zeroTile .count) items))
         → {v : Tile} → v ≡ M.tokened (getD tiles t zeroTile) (one .token .code)
         → Signalled s tiles canisters all (set out t v) (set grants t (one .grant .code)) (set turns t (one .turn .code)) (set lacks t (one .missing)) (t + 1)
-    unfolding M.tileAt M.grantAt M.turnAt M.lackAt
+    unfolding F.tileAt F.grantAt F.turnAt F.lackAt
     signalled-turn {items} {k} q over show shows one e {v} w =
         let r = signal-read s tiles canisters items t show on (p .asked .ranged .2) shows e (copied-whole q over) in record {
           asked = p .asked;
           below = omega arith;
           whole = p .whole;
           few = p .few;
-          tokened = redone-turn (M.tileAt s tiles canisters) tiles out t v here (p .tokened) (w ∙ ap (λ (x : Signal). M.tokened (getD tiles t zeroTile) (x .token)) r);
-          granted = granted-turn 64 (M.grantAt s tiles canisters) grants t (one .grant .code) here (p .granted) (ap (λ (x : Signal). x .grant) r);
-          turned = granted-turn 65 (M.turnAt s tiles canisters) turns t (one .turn .code) (omega (arith, here)) (p .turned) (ap (λ (x : Signal). x .turn) r);
-          lacking = granted-turn 65 (M.lackAt s tiles canisters) lacks t (one .missing) (omega (arith, here)) (p .lacking) (ap (λ (x : Signal). x .missing) r);
+          tokened = redone-turn (F.tileAt s tiles canisters) tiles out t v here (p .tokened) (w ∙ ap (λ (x : Signal). M.tokened (getD tiles t zeroTile) (x .token)) r);
+          granted = granted-turn 64 (F.grantAt s tiles canisters) grants t (one .grant .code) here (p .granted) (ap (λ (x : Signal). x .grant) r);
+          turned = granted-turn 65 (F.turnAt s tiles canisters) turns t (one .turn .code) (omega (arith, here)) (p .turned) (ap (λ (x : Signal). x .turn) r);
+          lacking = granted-turn 65 (F.lackAt s tiles canisters) lacks t (one .missing) (omega (arith, here)) (p .lacking) (ap (λ (x : Signal). x .missing) r);
         }
 
   -- the end of the pass
@@ -127,23 +128,23 @@ module _ {s : Settings} {tiles : List Tile} {canisters : List Canister} {all : �
     all-of : t ≡ total s
     all-of = omega (arith, p .below, p .whole)
 
-    turn-of : (u : ℕ) → getD turns u 0 ≡ M.turnsAt s tiles canisters u
-    turn-of = granted-within 65 (M.turnAt s tiles canisters) turns (total s) (granted-end 65 (M.turnAt s tiles canisters) turns t (total s) all-of (p .turned))
+    turn-of : (u : ℕ) → getD turns u 0 ≡ F.turnsAt s tiles canisters u
+    turn-of = granted-within 65 (F.turnAt s tiles canisters) turns (total s) (granted-end 65 (F.turnAt s tiles canisters) turns t (total s) all-of (p .turned))
 
-    lack-of : (u : ℕ) → getD lacks u 0 ≡ M.lacksAt s tiles canisters u
-    lack-of = granted-within 65 (M.lackAt s tiles canisters) lacks (total s) (granted-end 65 (M.lackAt s tiles canisters) lacks t (total s) all-of (p .lacking))
+    lack-of : (u : ℕ) → getD lacks u 0 ≡ F.lacksAt s tiles canisters u
+    lack-of = granted-within 65 (F.lackAt s tiles canisters) lacks (total s) (granted-end 65 (F.lackAt s tiles canisters) lacks t (total s) all-of (p .lacking))
 
     pub reasons-asked : Ranged s × ((u : ℕ) → getD lacks u 0 < 2 ^ 16)
     reasons-asked = (p .asked .ranged, λ u. rw (lack-of u) (p .asked .slight u))
 
-    pub tiles-signalled : Redone (total s) (M.tileAt s tiles canisters) tiles out
-    tiles-signalled = redone-end (M.tileAt s tiles canisters) tiles out t (total s) all-of (p .tokened)
+    pub tiles-signalled : Redone (total s) (F.tileAt s tiles canisters) tiles out
+    tiles-signalled = redone-end (F.tileAt s tiles canisters) tiles out t (total s) all-of (p .tokened)
 
-    pub grants-signalled : M.Granted 64 (total s) (M.grantAt s tiles canisters) grants
-    grants-signalled = granted-end 64 (M.grantAt s tiles canisters) grants t (total s) all-of (p .granted)
+    pub grants-signalled : M.Granted 64 (total s) (F.grantAt s tiles canisters) grants
+    grants-signalled = granted-end 64 (F.grantAt s tiles canisters) grants t (total s) all-of (p .granted)
 
-    pub reasons-signalled : (rs : List ℕ) → M.Granted 64 (total s) (M.reasonBy s tiles (λ u. getD turns u 0) (λ u. getD lacks u 0)) rs → M.Granted 64 (total s) (M.reasonAt s tiles canisters) rs
+    pub reasons-signalled : (rs : List ℕ) → M.Granted 64 (total s) (M.reasonBy s tiles (λ u. getD turns u 0) (λ u. getD lacks u 0)) rs → M.Granted 64 (total s) (F.reasonAt s tiles canisters) rs
     reasons-signalled rs r = subst (λ (g : ℕ → ℕ). M.Granted 64 (total s) g rs) (λ i. M.reasonBy s tiles (fun-ext turn-of i) (fun-ext lack-of i)) r
 
-    pub missing-signalled : (ms : List ℕ) → M.Granted 64 (total s) (M.lackBy s tiles (λ u. getD turns u 0) (λ u. getD lacks u 0)) ms → M.Granted 64 (total s) (M.besideAt s tiles canisters) ms
+    pub missing-signalled : (ms : List ℕ) → M.Granted 64 (total s) (M.lackBy s tiles (λ u. getD turns u 0) (λ u. getD lacks u 0)) ms → M.Granted 64 (total s) (F.besideAt s tiles canisters) ms
     missing-signalled ms r = subst (λ (g : ℕ → ℕ). M.Granted 64 (total s) g ms) (λ i. M.lackBy s tiles (fun-ext turn-of i) (fun-ext lack-of i)) r

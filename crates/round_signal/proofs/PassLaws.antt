@@ -20,7 +20,8 @@ use Rattle.floor.specs.Memory.{zeroTile, block}
 use Rattle.round_route.specs.Routed.{within}
 use Rattle.round_route.proofs.Passes.{shows-near}
 use Rattle.round_grants.specs.TileSignal.{signalFrom}
-use Rattle.round_signal.specs.Signalling.{Granted, shownIn, signalAt}
+use Rattle.round_signal.specs.Signalling.{Granted, shownIn}
+use Rattle.round_signal.proofs.FloorSignals.{signalAt}
 
 -- ---- the tile's signal from what all tiles show and from its sixteen places
 module _ (s : Settings) (ts : List Tile) (cs items : List Canister) (t : ℕ) where

@@ -26,7 +26,8 @@ use Rattle.floor.proofs.Pack.{few-on, head-state, head-read, pack-heads}
 use Rattle.round_route.specs.Routed.{Redone, within}
 use Rattle.round_route.proofs.Passes.{within-view, tile-off}
 use Rattle.round_grants.specs.TileSignal.{signalFrom}
-use Rattle.round_signal.specs.Signalling.{Granted, shownIn, signalAt, tokened, tileAt, grantAt, turnAt, lackAt, turnsAt, lacksAt, ownReason, aheadReason, reasonFrom, reasonBy, lackBy, reasonAt, besideAt}
+use Rattle.round_signal.specs.Signalling.{Granted, shownIn, tokened, ownReason, aheadReason, reasonFrom, reasonBy, lackBy}
+use Rattle.round_signal.proofs.FloorSignals.{signalAt, tileAt, grantAt, turnAt, lackAt, turnsAt, lacksAt, reasonAt, besideAt}
 use Rattle.round_signal.proofs.ReasonLaws.{reasons-joined}
 
 head-token : (x : TileState) (k : ℕ) → tokened (head x) k ≡ head (withToken x k)

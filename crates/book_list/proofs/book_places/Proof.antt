@@ -5,7 +5,6 @@ use native.Mathlib.Omega.{arith}
 use native.Mathlib.Numerals.{add-one}
 use lib.ListN.{length, set, getD, take, drop}
 use Rattle.floor.specs.declared.Answer.{Answer}
-use Rattle.book_list.specs.declared.Booking.{Booking}
 use Rattle.book_list.specs.declared.Begun.{Begun}
 use Rattle.book_list.specs.declared.Done.{Done}
 use Rattle.book_list.specs.Listing.{floorSingly, entriesSingly}

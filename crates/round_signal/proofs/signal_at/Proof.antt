@@ -1,7 +1,4 @@
-use mathlib.Core.Path.{_≡_, ap, _∙_}
-use native.Mathlib.Omega.{arith}
-use Prim.Native.Nat.{ℕ}
-use lib.ListN.{getD}
+use mathlib.Core.Path.{_∙_}
 use Rattle.round_route.proofs.Passes.{near-read}
 use Rattle.round_signal.proofs.signal_at.Statement.{statement}
 use Rattle.round_signal.proofs.signal_at.Tie as tie
