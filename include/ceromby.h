@@ -107,7 +107,7 @@ extern "C" {
 
 /* Refused because of a plan's labels. */
 #define CEROMBY_BAD_LABEL 47      /* an entry's label is repeated or outside 1 to 64, or a predecessor absent or not lower */
-#define CEROMBY_NOT_RELEASED 48   /* release of a label that isn't waiting or not in the plan, or before a predecessor of it
+#define CEROMBY_NOT_RELEASED 48   /* release of a label that isn't waiting or isn't in the plan, or before a predecessor of it
                                      was delivered */
 
 /* Refused because of a barge. */
@@ -248,7 +248,7 @@ typedef struct ceromby_throughput {
 
 /* `Told` in Rattle and Rust. */
 typedef struct ceromby_fed {
-    ceromby_throughput throughput; /* where refused, as it came, bit for bit */
+    ceromby_throughput throughput; /* where refused, as it came */
     double rate;                   /* 0 unless the window closed */
     uint16_t rounds;               /* 0 unless it is still open */
     uint8_t kind;

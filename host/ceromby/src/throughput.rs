@@ -36,7 +36,7 @@ pub struct Throughput {
 #[repr(C)]
 #[derive(Clone, Copy, PartialEq, Debug)]
 pub struct Told {
-    /// The record after it. Beside a refusal, as it came, bit for bit.
+    /// The record after it. Beside a refusal, as it came.
     pub throughput: Throughput,
     /// 0 unless the window closed.
     pub rate: f64,
