@@ -16,7 +16,7 @@ use Rattle.console_list.specs.Entries.{noEntries, withEntry}
 use Rattle.console_session.specs.declared.Session.{Session}
 use Rattle.console_session.specs.Sessions.{withFloor, withEntries, afterCall}
 
--- the canister that four numbers name after its tile; a and b cut to 16 bits
+-- the canister that four numbers name after its tile; an a or b above 65,535 is 65,535, which is refused as it is
 abbrev pub canisterIn : Numbers → Canister
 canisterIn n = record { number = getD (n .at) 1 0; a = min (getD (n .at) 2 0) 65535; b = min (getD (n .at) 3 0) 65535 }
 
@@ -35,7 +35,7 @@ bookTyped s line =
     cond (two .good) (afterPlaced s (anywhereAnswer (s .floor) (getD (two .at) 0 0) (getD (two .at) 1 0)))
     (cond (four .good) (afterBooked s (bookAnswer (s .floor) (getD (four .at) 0 0) (canisterIn four))) s)
 
--- the list that was typed, sent: no list is begun any more, and the floor is the answer's
+-- the list that was typed, sent: no list is begun any more; where there is a floor and no 42, the floor is the answer's
 unfoldable pub sent : Session → Session
 sent s =
     let a = placesAnswer (s .floor) (s .entries .list) (s .entries .count) in

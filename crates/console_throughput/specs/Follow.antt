@@ -16,6 +16,6 @@ use Rattle.console_throughput.specs.declared.Followed.{Followed}
 unfoldable pub fedAt : List Throughput → List Delivery → ℕ → Told
 fedAt ts ds k = feedTold (getD ts k zeroThroughput) (getD ds k noDelivery .count)
 
--- all four fed; all of them close together, so the first tells it
+-- all four fed; closed tells whether the first closed a window: begun and fed together, all four have the same rounds
 unfoldable pub followedBy : List Throughput → List Delivery → Followed
 followedBy ts ds = record { records = tab 4 (λ k. fedAt ts ds k .throughput); closed = eqb (fedAt ts ds 0 .kind) 2 }

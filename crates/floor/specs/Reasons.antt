@@ -11,7 +11,7 @@ use Rattle.floor.specs.Grid.{neighbour}
 use Rattle.floor.specs.Model.{TileState, Model, tileOf, runs}
 use Rattle.floor.specs.Signal.{Signal, signalOf}
 
--- "1 stopped, 2 empty when the round began, 3 no arrow, 4 the turn ahead was another's, 5 no gap, 6 moved": where none of the first five fits it did (`standing`); x the tile after Route, y what Signal gave the tile that its arrow leads to. "Judge after Signal, by the turn before it passed on."
+-- "1 stopped, 2 empty when the round began, 3 no arrow, 4 the turn ahead was another's, 5 no gap, … 6 moved": where none of the first five fits it did (`standing`); x the tile after Route, y what Signal gave the tile that its arrow leads to. "Judge after Signal, by the turn before it passed on."
 unfoldable pub reasonTests : TileState → Signal → List (Bool × ℕ)
 reasonTests x y =
     (not (runs x), 1) ∷ (eqb (length (x .members)) 0, 2) ∷ (eqb (x .next) 0, 3)

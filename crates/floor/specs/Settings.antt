@@ -7,7 +7,7 @@ use lib.ListN.{length}
 use Rattle.laws.specs.Define.{bit, bitsBelow, anyOf, refusal}
 use Rattle.floor.specs.declared.Settings.{Settings}
 
--- "W columns, H rows; C = W × H"
+-- "W columns, H rows, … C = W × H"
 abbrev pub total : Settings → ℕ
 total s = s .columns * s .rows
 
