@@ -3,7 +3,7 @@ use Prim.Native.Nat.{_%_, _<_, _≤_}
 use native.Mathlib.Omega.{arith}
 use lib.ListN.{take}
 use borrow.Author.Tests.{not-true, not-false, leb-true, leb-false}
-use Rattle.book_tile.proofs.Tests.{book-4, book-5, book-6, book-7, book-31, book-33, book-34, book-0, within-no, within-yes}
+use Rattle.book_tile.proofs.Tests.{count-few, book-4, book-5, book-6, book-7, book-31, book-33, book-34, book-0}
 use borrow.Author.Needs.{needs}
 use Rattle.book_tile.proofs.book_refusal.Statement.{statement}
 use Rattle.book_tile.proofs.book_refusal.Tie as tie
@@ -23,98 +23,37 @@ has-requires : tie.Need-has-requires
 has-requires c κs = search needs
 
 returns : tie.Need-returns
-returns c = let g = c .before .before .before .args in
-    let l = take (g.own .count) (g.own .items) in
-    let off : _ ≤ g.tile = leb-true _ g.tile (c .if1 .taken) in
-    book-4 g.s g.last g.tile g.c g.running l (rw (c .before .before .tile-count .ensures) at off)
+returns c = search (book-4, needs)
 
 returns-2 : tie.Need-returns-2
-returns-2 c = let g = c .before .before .before .before .args in
-    let l = take (g.own .count) (g.own .items) in
-    let on0 : g.tile < _ = leb-false _ g.tile (c .before .if1 .left) in
-    let on = rw (c .before .before .before .tile-count .ensures) at on0 in
-    let m : g.tile % 64 ≡ g.tile = omega (arith, c .before .before .before .before .pre .0) in
-    let b = rw m at (c .before .before .has .ensures) in
-    book-5 g.s g.last g.tile g.c g.running l on (sym b ∙ not-true _ (c .if2 .taken))
+returns-2 c = search (book-5, needs)
 
 returns-3 : tie.Need-returns-3
-returns-3 c = let g = c .before .before .before .before .before .before .args in
-    let l = take (g.own .count) (g.own .items) in
-    let on0 : g.tile < _ = leb-false _ g.tile (c .before .before .before .if1 .left) in
-    let on = rw (c .before .before .before .before .before .tile-count .ensures) at on0 in
-    let m : g.tile % 64 ≡ g.tile = omega (arith, c .before .before .before .before .before .before .pre .0) in
-    let b = rw m at (c .before .before .before .before .has .ensures) in
-    let bit = sym b ∙ not-false _ (c .before .before .if2 .left) in
-    book-6 g.s g.last g.tile g.c g.running l on bit (c .if3 .taken)
+returns-3 c = search (book-6, needs)
 
 sub-span : tie.Need-sub-span
 sub-span c = search needs
 
 returns-4 : tie.Need-returns-4
-returns-4 c = let g = c .before .before .before .before .before .before .before .before .before .before .args in
-    let l = take (g.own .count) (g.own .items) in
-    let on0 : g.tile < _ = leb-false _ g.tile (c .before .before .before .before .before .before .before .if1 .left) in
-    let on = rw (c .before .before .before .before .before .before .before .before .before .tile-count .ensures) at on0 in
-    let m : g.tile % 64 ≡ g.tile = omega (arith, c .before .before .before .before .before .before .before .before .before .before .pre .0) in
-    let b = rw m at (c .before .before .before .before .before .before .before .before .has .ensures) in
-    let bit = sym b ∙ not-false _ (c .before .before .before .before .before .before .if2 .left) in
-    book-7 g.s g.last g.tile g.c g.running l on bit (c .before .before .before .before .if3 .left) (within-no g.s g.c (not-true _ (c .if4 .taken)))
+returns-4 c = search (book-7, needs)
 
 returns-5 : tie.Need-returns-5
-returns-5 c = let g = c .before .before .before .before .before .before .before .before .before .before .before .before .args in
-    let l = take (g.own .count) (g.own .items) in
-    let on0 : g.tile < _ = leb-false _ g.tile (c .before .before .before .before .before .before .before .before .before .if1 .left) in
-    let on = rw (c .before .before .before .before .before .before .before .before .before .before .before .tile-count .ensures) at on0 in
-    let m : g.tile % 64 ≡ g.tile = omega (arith, c .before .before .before .before .before .before .before .before .before .before .before .before .pre .0) in
-    let b = rw m at (c .before .before .before .before .before .before .before .before .before .before .has .ensures) in
-    let bit = sym b ∙ not-false _ (c .before .before .before .before .before .before .before .before .if2 .left) in
-    let i = within-yes g.s g.c (not-false _ (c .before .before .if4 .left)) in
-    book-31 g.s g.last g.tile g.c g.running l on bit (c .before .before .before .before .before .before .if3 .left) i (not-true _ (c .if5 .taken))
+returns-5 c = search (book-31, needs)
 
 returns-6 : tie.Need-returns-6
-returns-6 c = let g = c .before .before .before .before .before .before .before .before .before .before .before .before .before .args in
-    let l = take (g.own .count) (g.own .items) in
-    let on0 : g.tile < _ = leb-false _ g.tile (c .before .before .before .before .before .before .before .before .before .before .if1 .left) in
-    let on = rw (c .before .before .before .before .before .before .before .before .before .before .before .before .tile-count .ensures) at on0 in
-    let m : g.tile % 64 ≡ g.tile = omega (arith, c .before .before .before .before .before .before .before .before .before .before .before .before .before .pre .0) in
-    let b = rw m at (c .before .before .before .before .before .before .before .before .before .before .before .has .ensures) in
-    let bit = sym b ∙ not-false _ (c .before .before .before .before .before .before .before .before .before .if2 .left) in
-    let i = within-yes g.s g.c (not-false _ (c .before .before .before .if4 .left)) in
-    let u = not-false _ (c .before .if5 .left) in
-    book-33 g.s g.last g.tile g.c g.running l on bit (c .before .before .before .before .before .before .before .if3 .left) i u (c .if6 .taken)
+returns-6 c = search (book-33, needs)
 
 cast-has-room : tie.Need-cast-has-room
 cast-has-room c = search needs
 
 has-room-requires : tie.Need-has-room-requires
-has-room-requires c κs = let g = c .before .before .before .before .before .before .before .before .before .before .before .before .before .before .before .args in
-    let on0 : g.tile < _ = leb-false _ g.tile (c .before .before .before .before .before .before .before .before .before .before .before .before .if1 .left) in
-    let on = rw (c .before .before .before .before .before .before .before .before .before .before .before .before .before .before .tile-count .ensures) at on0 in
-    c .before .before .before .before .before .before .before .before .before .before .before .before .before .before .before .pre .2 on
+has-room-requires c κs = search (count-few, needs)
 
 returns-7 : tie.Need-returns-7
-returns-7 c = let g = c .before .before .before .before .before .before .before .before .before .before .before .before .before .before .before .before .before .args in
-    let l = take (g.own .count) (g.own .items) in
-    let on0 : g.tile < _ = leb-false _ g.tile (c .before .before .before .before .before .before .before .before .before .before .before .before .before .before .if1 .left) in
-    let on = rw (c .before .before .before .before .before .before .before .before .before .before .before .before .before .before .before .before .tile-count .ensures) at on0 in
-    let m : g.tile % 64 ≡ g.tile = omega (arith, c .before .before .before .before .before .before .before .before .before .before .before .before .before .before .before .before .before .pre .0) in
-    let b = rw m at (c .before .before .before .before .before .before .before .before .before .before .before .before .before .before .before .has .ensures) in
-    let bit = sym b ∙ not-false _ (c .before .before .before .before .before .before .before .before .before .before .before .before .before .if2 .left) in
-    let i = within-yes g.s g.c (not-false _ (c .before .before .before .before .before .before .before .if4 .left)) in
-    let u = not-false _ (c .before .before .before .before .before .if5 .left) in
-    book-34 g.s g.last g.tile g.c g.running l on bit (c .before .before .before .before .before .before .before .before .before .before .before .if3 .left) i u (c .before .before .before .before .if6 .left) (sym (c .before .has-room .ensures) ∙ not-true _ (c .if7 .taken))
+returns-7 c = search (book-34, needs)
 
 returns-8 : tie.Need-returns-8
-returns-8 c = let g = c .before .before .before .before .before .before .before .before .before .before .before .before .before .before .before .before .before .args in
-    let l = take (g.own .count) (g.own .items) in
-    let on0 : g.tile < _ = leb-false _ g.tile (c .before .before .before .before .before .before .before .before .before .before .before .before .before .before .if1 .left) in
-    let on = rw (c .before .before .before .before .before .before .before .before .before .before .before .before .before .before .before .before .tile-count .ensures) at on0 in
-    let m : g.tile % 64 ≡ g.tile = omega (arith, c .before .before .before .before .before .before .before .before .before .before .before .before .before .before .before .before .before .pre .0) in
-    let b = rw m at (c .before .before .before .before .before .before .before .before .before .before .before .before .before .before .before .has .ensures) in
-    let bit = sym b ∙ not-false _ (c .before .before .before .before .before .before .before .before .before .before .before .before .before .if2 .left) in
-    let i = within-yes g.s g.c (not-false _ (c .before .before .before .before .before .before .before .if4 .left)) in
-    let u = not-false _ (c .before .before .before .before .before .if5 .left) in
-    book-0 g.s g.last g.tile g.c g.running l on bit (c .before .before .before .before .before .before .before .before .before .before .before .if3 .left) i u (c .before .before .before .before .if6 .left) (sym (c .before .has-room .ensures) ∙ not-false _ (c .if7 .left))
+returns-8 c = search (book-0, needs)
 
 pub book-refusal-spec : {M : Type 1} → statement M
 book-refusal-spec =
