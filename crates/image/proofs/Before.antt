@@ -1,13 +1,9 @@
 -- Images of before: document 01's, as "With one hopper, images keep their bytes", and those without records of kind 5, as "Older images read as having no layouts."
 use mathlib.Core.Path.{_≡_, subst, _∙_}
 use mathlib.Core.Bool.{true, false}
-use mathlib.Core.List.{List, [], _∷_, _++_}
+use mathlib.Core.List.{List, []}
 use Prim.Native.Nat.{ℕ}
-use lib.ListN.{getD}
 use Rattle.laws.specs.Define.{tab}
-use Rattle.image_bytes.specs.Bytes.{bytesOf}
-use Rattle.floor.specs.declared.Settings.{Settings}
-use Rattle.floor.specs.declared.Counters.{Counters}
 use Rattle.floor.specs.declared.Floor.{Floor}
 use Rattle.floor.specs.Settings.{total}
 use Rattle.floor.specs.Model.{Model}
@@ -15,14 +11,12 @@ use Rattle.floor.specs.Memory.{view}
 use Rattle.floor.specs.Well.{wellFormed}
 use Rattle.floor.proofs.Sound.{Measured}
 use Rattle.floor.proofs.Pack.{well-sound}
-use Rattle.image.specs.Image.{oneTile, hopperCount, recordOf, settingsBody, countersBody, layoutsBytes, tilesBytes, encode, lengthIn, bodyIn, restIn, settingsIn, tilesIn, isLayout, layoutsIn, afterLayouts, modelIn, recordFault, orElse, tilesFault, laidFault, fault, loadAnswer}
+use Rattle.image.specs.Image.{oneTile, hopperCount, settingsBody, countersBody, layoutsBytes, encode, restIn, tilesIn, isLayout, layoutsIn, afterLayouts, modelIn, laidFault, fault, loadAnswer}
+use Rattle.image.specs.Promises.{imageWithout, faultWithout, settingsBefore, countersBefore, imageBefore}
 use Rattle.image.proofs.Hoppers.{byte-again, not-several, one-counted}
 use Rattle.image.proofs.Promises.{written-loads}
 
 -- ---- without layouts
-unfoldable pub imageWithout : Model → List ℕ
-imageWithout m = recordOf 1 (settingsBody (m .settings)) ++ (recordOf 2 (countersBody (hopperCount (m .settings)) (m .counters)) ++ tilesBytes 0 (m .tiles))
-
 pub same-without : (m : Model) → m .layouts ≡ [] → encode m ≡ imageWithout m
 unfolding encode imageWithout layoutsBytes
 same-without m e = rw e
@@ -34,30 +28,12 @@ image-without f w none =
     (e, subst (λ (xs : List ℕ). loadAnswer xs ≡ record { refusal = 0; floor = f }) e (written-loads f w))
 
 -- any bytes without such a record: what refuses them is as before, and what is read has no layouts
-unfoldable pub faultWithout : List ℕ → ℕ
-faultWithout xs =
-    let s = settingsIn (lengthIn xs) (bodyIn xs) in
-    orElse (recordFault 1 0 xs)
-    (orElse (recordFault 2 (hopperCount s) (restIn xs))
-    (tilesFault (total s) 0 (restIn (restIn xs))))
-
 pub read-without : (xs : List ℕ) → isLayout (restIn (restIn xs)) ≡ false
     → (fault xs ≡ faultWithout xs) × ((modelIn xs .tiles ≡ tilesIn (total (modelIn xs .settings)) (restIn (restIn xs))) × (modelIn xs .layouts ≡ []))
 unfolding fault faultWithout modelIn laidFault afterLayouts layoutsIn
 read-without xs e = (rw e, (rw e, rw e))
 
 -- ---- with one hopper
--- "Kind 1, 20 bytes: W, H, hopper, a zero byte; U, l, r, v (2 each); fill set (8)."
-abbrev pub settingsBefore : ℕ → Settings → List ℕ
-settingsBefore h s = bytesOf (1 ∷ 1 ∷ 1 ∷ 1 ∷ 2 ∷ 2 ∷ 2 ∷ 2 ∷ 8 ∷ []) (s .columns ∷ s .rows ∷ h ∷ 0 ∷ s .width ∷ s .length ∷ s .gap ∷ s .travel ∷ s .sources ∷ [])
-
--- "Kind 2, 12 bytes: last, booked, delivered."
-abbrev pub countersBefore : Counters → List ℕ
-countersBefore c = bytesOf (4 ∷ 4 ∷ 4 ∷ []) (c .last ∷ c .booked ∷ getD (c .delivered) 0 0 ∷ [])
-
-abbrev pub imageBefore : ℕ → Model → List ℕ
-imageBefore h m = recordOf 1 (settingsBefore h (m .settings)) ++ (recordOf 2 (countersBefore (m .counters)) ++ tilesBytes 0 (m .tiles))
-
 module _ (m : Model) (M : Measured (m .settings)) (h : ℕ) (one : m .settings .hoppers ≡ oneTile h) (none : m .layouts ≡ []) where
   first : settingsBody (m .settings) ≡ settingsBefore h (m .settings)
   unfolding settingsBody

@@ -8,5 +8,6 @@ pub mod SoundFits
 pub mod Read
 pub mod Promises
 pub mod Before
+pub mod Theorem
 pub mod Trials
 pub mod LayoutTrials

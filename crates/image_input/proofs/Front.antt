@@ -23,7 +23,7 @@ use Rattle.image.proofs.Layouts.{layout-good, bothFault}
 use Rattle.image.proofs.LoadedWrites.{tile-good, end-good, counters-good, settings-good}
 use Rattle.image.proofs.Read.{first-measured}
 use Rattle.image.proofs.Promises.{load-some}
-use Rattle.image_input.specs.Enough.{enough}
+use Rattle.image_input.specs.Enough.{LoadedFront}
 
 -- ---- the front of a list
 drop-front : (k n : ℕ) (xs : List ℕ) → drop k (take n xs) ≡ take (n - k) (drop k xs)
@@ -210,7 +210,7 @@ unfolding imageAnswer imageRefusal answerBy
 refused xs n = let e : eqb (fault xs) 0 ≡ false = ne-eqb (fault xs) 0 n in rw (e, e)
 
 -- for every input, however long
-pub loaded-front : (xs : List ℕ) → Bytes xs → loadAnswer (take enough xs) ≡ loadAnswer xs
+pub loaded-front : LoadedFront
 loaded-front xs b = go (decLe (length xs) 74591)
   where
     go : Dec (length xs ≤ 74591) → loadAnswer (take 74591 xs) ≡ loadAnswer xs

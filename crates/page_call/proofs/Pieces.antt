@@ -15,9 +15,9 @@ use Rattle.laws.proofs.Tables.{tab-same}
 use Rattle.image_bytes.specs.Put.{put}
 use Rattle.image_bytes.proofs.PutLaws.{put-one, put-two}
 use Rattle.floor.specs.declared.Tile.{Tile}
-use Rattle.floor.specs.Model.{Model, tileOf}
+use Rattle.floor.specs.Model.{tileOf}
 use Rattle.floor.specs.Memory.{head}
-use Rattle.page_call.specs.Page.{two, letter, distanceText, cell, cells, line, lines, page}
+use Rattle.page_call.specs.Page.{two, letter, distanceText, cell, cells, line, lines, page, PageLength}
 
 -- f 0, f 1, .., f (n - 1), one after the other
 abbrev pub upTo : ℕ → (ℕ → List ℕ) → List ℕ
@@ -80,7 +80,7 @@ unfolding lines
 lines-length g w h = upTo-length h (8 * w + 2) _ (λ k. line-length g w h _)
 
 -- "The library call writes H × (8 × W + 2) bytes"
-pub page-length : (m : Model) → length (page m) ≡ m .settings .rows * (8 * m .settings .columns + 2)
+pub page-length : PageLength
 unfolding page
 page-length m = lines-length (λ t. head (tileOf m t)) (m .settings .columns) (m .settings .rows)
 

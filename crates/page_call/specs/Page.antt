@@ -1,4 +1,5 @@
 -- The page of a floor, and what writing it answers. Definitions only.
+use mathlib.Core.Path.{_≡_}
 use mathlib.Core.Bool.{cond, not}
 use mathlib.Core.List.{List, [], _∷_, _++_}
 use Prim.Native.Nat.{ℕ, _+_, _-_, _*_, _/_, _%_}
@@ -35,7 +36,7 @@ bar = 124
 unfoldable pub two : ℕ → List ℕ
 two n = cond (ltb n 10) (blank ∷ digit n ∷ []) (digit (n / 10) ∷ digit (n % 10) ∷ [])
 
--- "arrow letter W, S, N, E or -"
+-- "arrow letter W, S, N, E or -": 87, 83, 78, 69
 unfoldable pub letter : ℕ → ℕ
 letter k = bySide dash 87 83 78 69 k
 
@@ -68,7 +69,11 @@ page m = lines (λ t. head (tileOf m t)) (m .settings .columns) (m .settings .ro
 unfoldable pub pageRefusal : Floor → ℕ → ℕ
 pageRefusal f n = refusal ((not (wellFormed f), 30) ∷ (ltb n (length (page (view f))), 43) ∷ [])
 
--- "The library call writes H × (8 × W + 2) bytes, answers how many": that the page has so many is `page-length` of proofs/Pieces
+-- "The library call writes H × (8 × W + 2) bytes": the page of every floor has so many. The whole type of the theorem `page-length`
+abbrev pub PageLength : Type 0
+PageLength = (m : Model) → length (page m) ≡ m .settings .rows * (8 * m .settings .columns + 2)
+
+-- "answers how many"
 unfoldable pub pageAnswer : Floor → ℕ → Written
 pageAnswer f n = let k = pageRefusal f n in record { refusal = k; length = cond (eqb k 0) (length (page (view f))) 0 }
 
