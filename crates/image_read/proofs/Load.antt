@@ -3,12 +3,12 @@ use mathlib.Core.Path.{_≡_, refl, sym, ap, _∙_}
 use mathlib.Core.Logic.{_⊎_, inl, inr, _≢_}
 use mathlib.Core.Bool.{Bool, true, false, cond, _&&_}
 use mathlib.Core.List.{List, _∷_}
-use Prim.Native.Nat.{ℕ, zero, suc, _+_, _*_, _/_, _%_, _≤_, _<_}
+use Prim.Native.Nat.{ℕ, zero, suc, _+_, _-_, _*_, _/_, _%_, _≤_, _<_}
 use native.Mathlib.Omega.{arith}
 use native.Mathlib.Decide.{decLe}
 use lib.Dec.{ltb, eqb}
 use borrow.Author.Tests.{lt-ltb, le-ltb, ne-eqb}
-use lib.ListN.{length, take, drop, getD, List·getD-eq-default}
+use lib.ListN.{length, take, drop, getD, length-drop, List·getD-eq-default}
 use lib.Seq.{drop-drop, getD-take, length-take-le}
 use Rattle.laws.specs.Define.{tab, allOf, bitsBelow, refusal}
 use Rattle.laws.proofs.Tests.{by-test}
@@ -16,9 +16,7 @@ use Rattle.laws.proofs.SetBits.{bits-within}
 use Rattle.laws.proofs.Tables.{tab-length, tab-at, tab-same, filled}
 use Rattle.image_bytes.specs.Bytes.{le, field}
 use Rattle.floor.specs.declared.Settings.{Settings}
-use Rattle.floor.specs.declared.Counters.{Counters}
 use Rattle.floor.specs.declared.Canister.{Canister}
-use Rattle.floor.specs.declared.Tile.{Tile}
 use Rattle.floor.specs.declared.Layout.{Layout}
 use Rattle.floor.specs.Settings.{total, hoppersOf}
 use Rattle.floor.specs.Model.{TileState}
@@ -29,7 +27,9 @@ use Rattle.image.proofs.Records.{whole}
 use Rattle.image.proofs.LoadedWrites.{canisters-length, settings-good, counters-good}
 use Rattle.image_record_read.proofs.Refusals.{room-20}
 use Rattle.image.proofs.Read.{first-measured}
-use Rattle.image_record_read.specs.Scan.{layoutFrom, Laying, Starts}
+use Rattle.image_record_read.specs.Scan.{Holds, layoutFrom, Laying, Starts}
+use Rattle.image_record_read.specs.declared.Found.{Found}
+use Rattle.image_record_read.specs.declared.Scan.{Scan}
 use Rattle.image_record_read.proofs.Values.{layout-some}
 use Rattle.image_record_read.proofs.Walk.{rest-at, record-room, tiles-at, tiles-off}
 use Rattle.image_read.specs.Arrays.{canisterAt, canisterFrom}
@@ -151,22 +151,6 @@ second-ok h xs z =
     let e = counters-good h xs w in
     record { long = e; enough = omega (arith, w .enough) }
 
--- the settings that the code read
-pub settings-are : (x : List ℕ) (u : ℕ) → u ≡ le 2 x → (st : Settings) → st ≡ settingsIn (lengthIn x) (bodyIn x) → st ≡ settingsIn u (drop 4 x)
-settings-are x u n1 st e = e ∙ ap (λ (n : ℕ). settingsIn n (drop 4 x)) (sym n1)
-
--- how many hoppers the code counts
-pub hoppers-are : (x : List ℕ) → recordFault 1 0 x ≡ 0 → (u : ℕ) → u ≡ le 2 x → (st : Settings) → st ≡ settingsIn u (drop 4 x) → (h : ℕ) → h ≡ length (bitsBelow (st .hoppers) 64) → h ≡ hopperCount (settingsIn (lengthIn x) (bodyIn x))
-unfolding hoppersOf
-hoppers-are x z u n1 st se h e =
-    let M = first-measured x z in
-    let s = settingsIn (lengthIn x) (bodyIn x) in
-    let q : st ≡ s = se ∙ ap (λ (n : ℕ). settingsIn n (drop 4 x)) n1 in
-    e ∙ ap (λ (y : Settings). length (bitsBelow (y .hoppers) 64)) q ∙ ap (λ (l : List ℕ). length l) (bits-within (s .hoppers) (total s) 64 (M .few) (M .hoppers-on))
-
-pub hoppers-few : (x : List ℕ) → recordFault 1 0 x ≡ 0 → (h : ℕ) → h ≡ hopperCount (settingsIn (lengthIn x) (bodyIn x)) → h ≤ 4
-hoppers-few x z h e = omega (arith, first-measured x z .hoppers-few)
-
 -- ---- the layouts that were read
 less-suc : (k n : ℕ) → ltb k n ≡ ltb (suc k) (suc n)
 less-suc k n = go (decLe (suc k) n)
@@ -201,88 +185,139 @@ module _ (s : List ℕ) (from n : ℕ) (ls : List Layout) (L : Laying s from n l
       let len : length (take n (tab 8 f)) ≡ n = length-take-le n (tab 8 f) (omega (arith, tab-length 8 f, L .few)) in
       filled n each zeroLayout (take n (tab 8 f)) len (λ i h. getD-take n (tab 8 f) i zeroLayout h ∙ tab-at 8 f i zeroLayout (omega (arith, L .few)) ∙ sym (layout-some s from n i h)) ∙ sym (L .values)
 
--- ---- the returns of read_front; u and w are the lengths of the bodies of records 1 and 2
-pub stop-1 : (x : List ℕ) (k : ℕ) → k ≡ recordFault 1 0 x → k ≢ 0 → k ≡ frontFault x
-stop-1 x k e h = e ∙ sym (front-1 x (λ q. h (e ∙ q)))
+-- ---- read_front, by what the code read: a and b are what the records of kinds 1 and 2 hold, u and w are the lengths of their
+-- bodies, h is the number of hoppers
+pub record FirstRead (x : List ℕ) (a : Found) (u h : ℕ) : Type 0 where
+  pub sound : recordFault 1 0 x ≡ 0
+  pub holds : Holds 1 0 x a
+  pub long : u ≡ le 2 x
+  pub counted : h ≡ length (bitsBelow (a .settings .hoppers) 64)
 
-module _ (x : List ℕ) (z1 : recordFault 1 0 x ≡ 0) (u : ℕ) (n1 : u ≡ le 2 x) (h : ℕ) (he : h ≡ hopperCount (settingsIn (lengthIn x) (bodyIn x))) where
+pub record SecondRead (x : List ℕ) (a : Found) (u h : ℕ) (b : Found) : Type 0 where
+  pub first : FirstRead x a u h
+  pub sound : recordFault 2 h (drop (4 + u) x) ≡ 0
+  pub holds : Holds 2 h (drop (4 + u) x) b
+
+pub first-read : {x : List ℕ} {a : Found} {u h : ℕ} → (a .fault ≡ recordFault 1 0 x) × (a .fault ≡ 0 → Holds 1 0 x a) → a .fault ≡ 0 → u ≡ le 2 x → h ≡ length (bitsBelow (a .settings .hoppers) 64) → FirstRead x a u h
+first-read e z n m = record { sound = sym (e .0) ∙ z; holds = e .1 z; long = n; counted = m }
+
+pub second-read : {x : List ℕ} {a : Found} {u h : ℕ} {b : Found} → FirstRead x a u h → (b .fault ≡ recordFault 2 h (drop (4 + u) x)) × (b .fault ≡ 0 → Holds 2 h (drop (4 + u) x) b) → b .fault ≡ 0 → SecondRead x a u h b
+second-read F e z = record { first = F; sound = sym (e .0) ∙ z; holds = e .1 z }
+
+module _ (x : List ℕ) (k : ℕ) (e : k ≡ recordFault 1 0 x) where
+  pub stop-1 : k ≢ 0 → k ≡ frontFault x
+  stop-1 n = e ∙ sym (front-1 x (λ q. n (e ∙ q)))
+
+  pub first-long : k ≡ 0 → 2 ≤ length x
+  first-long z = omega (arith, first-ok x (sym e ∙ z) .room)
+
+module _ {x : List ℕ} {a : Found} {u h : ℕ} (F : FirstRead x a u h) where
+  abbrev read : Settings
+  read = settingsIn (lengthIn x) (bodyIn x)
+
+  hoppers-are : h ≡ hopperCount read
+  unfolding hoppersOf
+  hoppers-are =
+      let M = first-measured x (F .sound) in
+      F .counted ∙ ap (λ (y : Settings). length (bitsBelow (y .hoppers) 64)) (F .holds .settings refl) ∙ ap (λ (l : List ℕ). length l) (bits-within (read .hoppers) (total read) 64 (M .few) (M .hoppers-on))
+
+  pub hoppers-few : h ≤ 4
+  hoppers-few = omega (arith, hoppers-are, first-measured x (F .sound) .hoppers-few)
+
+  pub second-begins : 4 + u ≤ length x
+  second-begins = omega (arith, F .long, first-ok x (F .sound) .enough)
+
   rest-1 : drop (4 + u) x ≡ restIn x
-  rest-1 = rw n1
+  rest-1 = rw (F .long)
 
-  second-is : recordFault 2 h (drop (4 + u) x) ≡ recordFault 2 (hopperCount (settingsIn (lengthIn x) (bodyIn x))) (restIn x)
-  second-is = ap (recordFault 2 h) rest-1 ∙ ap (λ (n : ℕ). recordFault 2 n (restIn x)) he
+  second-is : recordFault 2 h (drop (4 + u) x) ≡ recordFault 2 (hopperCount read) (restIn x)
+  second-is = ap (recordFault 2 h) rest-1 ∙ ap (λ (n : ℕ). recordFault 2 n (restIn x)) hoppers-are
 
   pub stop-2 : (k : ℕ) → k ≡ recordFault 2 h (drop (4 + u) x) → k ≢ 0 → k ≡ frontFault x
-  stop-2 k e ne = let q = e ∙ second-is in q ∙ sym (front-2 x z1 (λ o. ne (q ∙ o)))
+  stop-2 k e n = let q = e ∙ second-is in q ∙ sym (front-2 x (F .sound) (λ o. n (q ∙ o)))
 
-  module _ (z2 : recordFault 2 h (drop (4 + u) x) ≡ 0) (w : ℕ) (n2 : w ≡ le 2 (drop (4 + u) x)) where
+module _ {x : List ℕ} {a : Found} {u h : ℕ} {b : Found} (S : SecondRead x a u h b) where
+  pub second-long : 12 + 4 * h ≤ length x - (4 + u)
+  second-long = rw length-drop at (second-ok h (drop (4 + u) x) (S .sound) .enough)
+
+  module _ (w : ℕ) (n : w ≡ le 2 (drop (4 + u) x)) where
     rest-2 : drop (4 + u + 4 + w) x ≡ restIn (restIn x)
-    rest-2 = sym (rest-at x (4 + u) w n2) ∙ ap (λ (l : List ℕ). restIn l) rest-1
+    rest-2 = sym (rest-at x (4 + u) w n) ∙ ap (λ (l : List ℕ). restIn l) (rest-1 (S .first))
 
-    pub third-fits : 4 + u + 4 + w ≤ length x
-    third-fits =
-        let k = first-ok x z1 in
-        let r : 4 + u + 4 + le 2 (drop (4 + u) x) ≤ length x = record-room x (4 + u) 2 h (omega (arith, k .enough, n1)) z2 in
-        omega (arith, n2)
+    pub third-begins : 4 + u + 4 + w ≤ length x
+    third-begins = omega (arith, n, record-room x (4 + u) 2 h (second-begins (S .first)) (S .sound))
 
     pub front-is : (k : ℕ) → k ≡ laidFault 8 (drop (4 + u + 4 + w) x) → k ≡ frontFault x
-    front-is k e = e ∙ ap (laidFault 8) rest-2 ∙ sym (front-3 x z1 (sym second-is ∙ z2))
+    front-is k e = e ∙ ap (laidFault 8) rest-2 ∙ sym (front-3 x (S .first .sound) (sym (second-is (S .first)) ∙ S .sound))
 
-    pub front-read : (st : Settings) → st ≡ settingsIn u (drop 4 x) → (ct : Counters) → ct ≡ countersIn h (bodyIn (drop (4 + u) x)) → (n : ℕ) (ls : List Layout) → Laying x (4 + u + 4 + w) n ls → (r : Front)
-        → r .settings ≡ st → r .counters ≡ ct → r .layouts ≡ ls → r .count ≡ n → r .next ≡ 4 + u + 4 + w + 20 * n → FrontRead x r
+    pub front-read : (m : ℕ) (ls : List Layout) → Laying x (4 + u + 4 + w) m ls
+        → FrontRead x record { settings = a .settings; counters = b .counters; layouts = ls; count = m; next = 4 + u + 4 + w + 20 * m; fault = 0 }
     unfolding modelIn
-    front-read st se ct ce n ls L r rs rc rl rn rx =
-        let s1 : r .settings ≡ settingsIn (lengthIn x) (bodyIn x) = rs ∙ se ∙ ap (λ (n : ℕ). settingsIn n (drop 4 x)) n1 in
-        let c1 : r .counters ≡ countersIn (hopperCount (settingsIn (lengthIn x) (bodyIn x))) (bodyIn (restIn x)) = rc ∙ ce ∙ ap (λ (l : List ℕ). countersIn h (bodyIn l)) rest-1 ∙ ap (λ (n : ℕ). countersIn n (bodyIn (restIn x))) he in
+    front-read m ls L =
         let from = 4 + u + 4 + w in
+        let st = S .first .holds .settings refl in
         record {
-          settings = s1;
-          counters = c1;
-          layouts = rl ∙ L .places ∙ layouts-are x from n ls L ∙ ap (λ (l : List ℕ). layoutPlaces 8 (layoutsIn 8 l)) rest-2;
-          used = (λ i. take (rn i) (rl i)) ∙ ap (take n) (L .places) ∙ layouts-first x from n ls L ∙ ap (layoutsIn 8) rest-2;
-          few = rw rn (L .few);
-          size = rw s1 (first-measured x z1 .few);
-          room = rw rx (L .room);
-          rest = ap (afterLayouts 8) (sym rest-2) ∙ L .rest ∙ ap (λ (k : ℕ). drop k x) (sym rx);
+          settings = st;
+          counters = S .holds .counters refl ∙ ap (λ (l : List ℕ). countersIn h (bodyIn l)) (rest-1 (S .first)) ∙ ap (λ (n : ℕ). countersIn n (bodyIn (restIn x))) (hoppers-are (S .first));
+          layouts = L .places ∙ layouts-are x from m ls L ∙ ap (λ (l : List ℕ). layoutPlaces 8 (layoutsIn 8 l)) rest-2;
+          used = ap (take m) (L .places) ∙ layouts-first x from m ls L ∙ ap (layoutsIn 8) rest-2;
+          few = L .few;
+          size = rw st (first-measured x (S .first .sound) .few);
+          room = L .room;
+          rest = ap (afterLayouts 8) (sym rest-2) ∙ L .rest;
         }
 
--- ---- the returns of read_image
-module _ (xs : List ℕ) (r : Front) (F : FrontRead xs r) (z : frontFault xs ≡ 0) where
-  abbrev c : ℕ
-  c = total (r .settings)
+-- ---- read_image, by what the code read: r is the front, n the number of tiles, t what the scan of their records found
+pub record FrontKept (xs : List ℕ) (r : Front) (n : ℕ) : Type 0 where
+  pub sound : frontFault xs ≡ 0
+  pub front : FrontRead xs r
+  pub tiles : n ≡ total (r .settings)
 
-  tiles-same : tilesIn c (drop (r .next) xs) ≡ modelIn xs .tiles
+pub record TilesRead (xs : List ℕ) (r : Front) (n : ℕ) (t : Scan) : Type 0 where
+  pub kept : FrontKept xs r n
+  pub sound : tilesFault n 0 (drop (r .next) xs) ≡ 0
+  pub starts : Starts xs (drop (r .next) xs) (t .starts) n
+  pub heads : t .tiles ≡ tab 64 (λ t. head (getD (tilesIn n (drop (r .next) xs)) t unused))
+
+module _ {xs : List ℕ} {r : Front} {n : ℕ} (K : FrontKept xs r n) where
+  abbrev all : ℕ
+  all = total (settingsIn (lengthIn xs) (bodyIn xs))
+
+  all-is : all ≡ n
   unfolding modelIn
-  tiles-same = ap (λ (y : Settings). tilesIn (total y) (drop (r .next) xs)) (F .settings) ∙ ap (tilesIn (total (settingsIn (lengthIn xs) (bodyIn xs)))) (sym (F .rest))
+  all-is = sym (K .tiles ∙ ap (λ (y : Settings). total y) (K .front .settings))
 
-  fault-is : fault xs ≡ tilesFault c 0 (drop (r .next) xs)
+  tiles-same : tilesIn n (drop (r .next) xs) ≡ modelIn xs .tiles
   unfolding modelIn
-  fault-is =
-      let t = tilesFault (total (settingsIn (lengthIn xs) (bodyIn xs))) 0 (afterLayouts 8 (restIn (restIn xs))) in
-      fault-front xs ∙ ap (λ (k : ℕ). orElse k t) z ∙ ap (λ (y : Settings). tilesFault (total y) 0 (afterLayouts 8 (restIn (restIn xs)))) (sym (F .settings)) ∙ ap (tilesFault c 0) (F .rest)
+  tiles-same = rw (← all-is, ← K .front .rest)
 
-  pub answer-2 : (k : ℕ) → k ≡ tilesFault c 0 (drop (r .next) xs) → k ≢ 0 → record { refusal = k; floor = zeroFloor } ≡ recordsAnswer xs
+  fault-is : fault xs ≡ tilesFault n 0 (drop (r .next) xs)
+  fault-is = fault-front xs ∙ rw (K .sound, all-is, K .front .rest)
+
+  pub answer-2 : (k : ℕ) → k ≡ tilesFault n 0 (drop (r .next) xs) → k ≢ 0 → record { refusal = k; floor = zeroFloor } ≡ recordsAnswer xs
   answer-2 k e h = answer-refused xs k (fault-is ∙ sym e) h
 
-  module _ (y : tilesFault c 0 (drop (r .next) xs) ≡ 0) (b : Bool) (e : b ≡ allOf (λ x. ltb 0 (x .name)) (take (r .count) (r .layouts))) where
-    all-are : b ≡ named (modelIn xs)
-    unfolding named
-    all-are = e ∙ ap (allOf (λ x. ltb 0 (x .name))) (F .used)
+module _ {xs : List ℕ} {r : Front} {n : ℕ} {t : Scan} (T : TilesRead xs r n t) (b : Bool) (e : b ≡ allOf (λ x. ltb 0 (x .name)) (take (r .count) (r .layouts))) where
+  abbrev F : FrontRead xs r
+  F = T .kept .front
 
-    pub answer-3 : b ≡ false → record { refusal = 12; floor = zeroFloor } ≡ recordsAnswer xs
-    unfolding recordsAnswer recordsRefusal answerBy refusal
-    answer-3 f = rw (fault-is ∙ y, sym all-are ∙ f)
+  all-are : b ≡ named (modelIn xs)
+  unfolding named
+  all-are = e ∙ ap (allOf (λ x. ltb 0 (x .name))) (F .used)
 
-    good : b ≡ true → record { refusal = 0; floor = pack (modelIn xs) } ≡ recordsAnswer xs
-    unfolding recordsAnswer recordsRefusal answerBy refusal
-    good f = rw (fault-is ∙ y, sym all-are ∙ f)
+  pub answer-3 : b ≡ false → record { refusal = 12; floor = zeroFloor } ≡ recordsAnswer xs
+  unfolding recordsAnswer recordsRefusal answerBy refusal
+  answer-3 f = rw (fault-is (T .kept) ∙ T .sound, sym all-are ∙ f)
 
-    pub answer-4 : (ts : List Tile) (cs : List Canister) (starts : List ℕ) → b ≡ true → Starts xs (drop (r .next) xs) starts c
-        → ts ≡ tab 64 (λ t. head (getD (tilesIn c (drop (r .next) xs)) t unused)) → cs ≡ tab 1024 (canisterFrom xs starts c)
-        → record { refusal = 0; floor = record { settings = r .settings; counters = r .counters; tiles = ts; canisters = cs; layouts = r .layouts } } ≡ recordsAnswer xs
-    unfolding pack build
-    answer-4 ts cs starts f ss te ke =
-        let vs = drop (r .next) xs in
-        let t1 : ts ≡ tab 64 (λ t. head (getD (modelIn xs .tiles) t unused)) = te ∙ ap (λ (l : List TileState). tab 64 (λ t. head (getD l t unused))) tiles-same in
-        let c1 : cs ≡ rows 64 0 (λ t. getD (modelIn xs .tiles) t unused) = ke ∙ canisters-are xs vs starts c ss ∙ ap (λ (l : List TileState). rows 64 0 (λ t. getD l t unused)) tiles-same in
-        (λ i. record { refusal = 0; floor = record { settings = F .settings i; counters = F .counters i; tiles = t1 i; canisters = c1 i; layouts = F .layouts i } }) ∙ good f
+  good : b ≡ true → record { refusal = 0; floor = pack (modelIn xs) } ≡ recordsAnswer xs
+  unfolding recordsAnswer recordsRefusal answerBy refusal
+  good f = rw (fault-is (T .kept) ∙ T .sound, sym all-are ∙ f)
+
+  pub answer-4 : b ≡ true → (cs : List Canister) → cs ≡ tab 1024 (canisterFrom xs (t .starts) n)
+      → record { refusal = 0; floor = record { settings = r .settings; counters = r .counters; tiles = t .tiles; canisters = cs; layouts = r .layouts } } ≡ recordsAnswer xs
+  unfolding pack build
+  answer-4 f cs ke =
+      let same = tiles-same (T .kept) in
+      let t1 : t .tiles ≡ tab 64 (λ t. head (getD (modelIn xs .tiles) t unused)) = T .heads ∙ ap (λ (l : List TileState). tab 64 (λ t. head (getD l t unused))) same in
+      let c1 : cs ≡ rows 64 0 (λ t. getD (modelIn xs .tiles) t unused) = ke ∙ canisters-are xs (drop (r .next) xs) (t .starts) n (T .starts) ∙ ap (λ (l : List TileState). rows 64 0 (λ t. getD l t unused)) same in
+      (λ i. record { refusal = 0; floor = record { settings = F .settings i; counters = F .counters i; tiles = t1 i; canisters = c1 i; layouts = F .layouts i } }) ∙ good f

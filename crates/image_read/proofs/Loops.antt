@@ -1,10 +1,12 @@
 -- What holds at the heads of the loops: of `canisters_of`, over the tiles and over one tile's canisters; over the layouts, whether each has a name.
-use mathlib.Core.Path.{_≡_}
+use mathlib.Core.Path.{_≡_, refl}
 use mathlib.Core.List.{List}
 use Prim.Native.Nat.{ℕ, _+_, _*_, _≤_, _<_}
-use lib.ListN.{length, take}
+use native.Mathlib.Omega.{arith}
+use lib.ListN.{length, take, drop, getD, set}
 use Rattle.floor.specs.declared.Canister.{Canister}
-use Rattle.image_read.proofs.Places.{Placed}
+use Rattle.image.specs.Image.{canisterIn}
+use Rattle.image_read.proofs.Places.{Placed, placed-turn, placed-tile}
 use mathlib.Core.Bool.{Bool}
 use lib.Dec.{ltb}
 use Rattle.laws.specs.Define.{allOf}
@@ -30,3 +32,30 @@ pub record NamesTested (n : ℕ) (all : List Layout) (ok : Bool) (k : ℕ) : Typ
   pub few : n ≤ 8
   pub all-length : length all ≡ 8
   pub tested : ok ≡ allOf (λ x. ltb 0 (x .name)) (take k all)
+
+-- one more canister of a tile, and the end of the tile
+module _ {s starts : List ℕ} {c t j : ℕ} {out : List Canister} (h : CanistersPlaced s starts c t (getD starts t 0) (getD s (getD starts t 0 + 5) 0) out j) where
+  abbrev at : ℕ
+  at = getD starts t 0
+
+  abbrev n : ℕ
+  n = getD s (at + 5) 0
+
+  pub canister-turn : (v : Canister) → j < n → v ≡ canisterIn (drop (at + 6 + 8 * j) s) → CanistersPlaced s starts c t at n (set out (16 * t + j) v) (j + 1)
+  canister-turn v l e = record {
+    below = omega arith;
+    here = h .here;
+    few = h .few;
+    small = h .small;
+    room = h .room;
+    starts-length = h .starts-length;
+    placed = placed-turn s starts c t (h .here) (h .few) (omega arith) n refl (h .small) j out v l e (h .placed);
+  }
+
+  pub tile-end : n ≤ j → TilesPlaced s starts c out (t + 1)
+  tile-end l = record {
+    below = omega arith;
+    few = h .few;
+    starts-length = h .starts-length;
+    placed = placed-tile s starts c t (h .here) (h .few) (omega arith) n refl (h .small) j out l (h .below) (h .placed);
+  }

@@ -40,12 +40,11 @@ loop-less c = search needs
 loop-again : tie.Need-loop-again Inv-loop μ-loop
 loop-again c =
     let l = c .before .before .before .loop in
-    let g = c .before .before .before .before .args in
     record {
       below = omega arith;
       few = l .inv .few;
       all-length = l .inv .all-length;
-      tested = all-step (λ x. ltb 0 (x .name)) g.t1 (l .k) zeroLayout (omega arith) (l .inv .tested) refl;
+      tested = all-step (λ x. ltb 0 (x .name)) _ (l .k) zeroLayout (omega arith) (l .inv .tested) refl;
     }
 
 returns : tie.Need-returns Inv-loop μ-loop

@@ -23,9 +23,7 @@ u16-at-requires-2 : tie.Need-u16-at-requires-2
 u16-at-requires-2 c κs = search needs
 
 returns : tie.Need-returns
-returns c =
-    let g = c .before .before .before .before .args in
-    rw (canister-code (g.s .now) g.at, c .before .before .u32-at .ensures, c .before .u16-at .ensures, c .u16-at2 .ensures)
+returns c = rw (canister-code, c .before .before .u32-at .ensures, c .before .u16-at .ensures, c .u16-at2 .ensures)
 
 pub canister-at-spec : {M : Type 1} → statement M
 canister-at-spec =

@@ -1,4 +1,4 @@
-use mathlib.Core.Path.{_≡_, refl}
+use mathlib.Core.Path.{_≡_}
 use Prim.Native.Nat.{_+_, _*_, _-_, _≤_}
 use native.Mathlib.Omega.{arith}
 use lib.ListN.{length, drop, getD}
@@ -8,8 +8,8 @@ use Rattle.floor.specs.Memory.{zeroCanister}
 use Rattle.image_read.specs.Arrays.{canisterFrom}
 use Rattle.image_read.proofs.Reading.{count-is}
 use Rattle.image_record_read.proofs.Filled.{filled-none}
-use Rattle.image_read.proofs.Places.{placed-turn, placed-tile, placed-all}
-use Rattle.image_read.proofs.Loops.{TilesPlaced, CanistersPlaced}
+use Rattle.image_read.proofs.Places.{placed-all}
+use Rattle.image_read.proofs.Loops.{TilesPlaced, CanistersPlaced, canister-turn, tile-end}
 use borrow.Author.Needs.{needs}
 use Rattle.image_read.proofs.canisters_of.Statement.{statement}
 use Rattle.image_read.proofs.canisters_of.Tie as tie
@@ -29,6 +29,10 @@ Inv-loop s c starts out₀ t₀ out t = TilesPlaced s starts c out t
 abbrev μ-loop : tie.MeasureT-loop
 μ-loop s c starts out₀ t₀ out t = c - t
 
+-- the record of the tile stands in the bytes, with at most 16 canisters
+tile : (c : tie.In-loop Inv-loop2 μ-loop2 Inv-loop μ-loop) → let g = c .before .before .before .args in let at = getD g.t2 (c .before .loop .t) 0 in let n = field tileWidths 5 (drop at (g.s .now)) in (at + 6 + 8 * n ≤ length (g.s .now)) × (n ≤ 16)
+tile c = let p = c .before .before .before .pre in (p .1 (c .before .loop .t) (omega arith), p .2 (c .before .loop .t) (omega arith))
+
 loop-holds : tie.Need-loop-holds Inv-loop2 μ-loop2 Inv-loop μ-loop
 loop-holds c = let g = c .before .args in record {
   below = omega arith;
@@ -44,38 +48,30 @@ array-read-at : tie.Need-array-read-at Inv-loop2 μ-loop2 Inv-loop μ-loop
 array-read-at c = search needs
 
 add-n : tie.Need-add-n Inv-loop2 μ-loop2 Inv-loop μ-loop
-add-n c =
-    let g = c .before .before .before .args in
-    let l = c .before .loop in
-    let r : getD g.t2 (l .t) 0 + 6 + 8 * field tileWidths 5 (drop (getD g.t2 (l .t) 0) (g.s .now)) ≤ length (g.s .now) = c .before .before .before .pre .1 (l .t) (omega arith) in
-    omega arith
+add-n c = let b = tile c in omega arith
 
 shared-slice-read-n : tie.Need-shared-slice-read-n Inv-loop2 μ-loop2 Inv-loop μ-loop
-shared-slice-read-n c =
-    let g = c .before .before .before .before .args in
-    let l = c .before .before .loop in
-    let r : getD g.t2 (l .t) 0 + 6 + 8 * field tileWidths 5 (drop (getD g.t2 (l .t) 0) (g.s .now)) ≤ length (g.s .now) = c .before .before .before .before .pre .1 (l .t) (omega arith) in
-    omega arith
+shared-slice-read-n c = let b = tile (c .before) in omega arith
 
 cast-n : tie.Need-cast-n Inv-loop2 μ-loop2 Inv-loop μ-loop
 cast-n c =
-    let g = c .before .before .before .before .args in
-    omega (arith, c .shared-slice-known2 .given (getD g.t2 (c .before .before .loop .t) 0 + 5))
+    let L = c .before .before in
+    omega (arith, c .shared-slice-known2 .given (getD (L .before .before .args .t2) (L .loop .t) 0 + 5))
 
 loop2-holds : tie.Need-loop2-holds Inv-loop2 μ-loop2 Inv-loop μ-loop
 loop2-holds c =
-    let g = c .before .before .before .before .args in
-    let l = c .before .before .loop in
-    let r : getD g.t2 (l .t) 0 + 6 + 8 * field tileWidths 5 (drop (getD g.t2 (l .t) 0) (g.s .now)) ≤ length (g.s .now) = c .before .before .before .before .pre .1 (l .t) (omega arith) in
-    let few = c .before .before .before .before .pre .2 (l .t) (omega arith) in
+    let b = tile (c .before) in
+    let L = c .before .before in
+    let g = L .before .before .args in
+    let l = L .loop in
     let n = count-is (g.s .now) (getD g.t2 (l .t) 0) 0 (omega arith) in
     let k : 16 * l .t + 0 ≡ 16 * l .t = omega arith in
     record {
       below = omega arith;
       here = omega arith;
       few = l .inv .few;
-      small = omega (arith, n, few);
-      room = omega (arith, n);
+      small = omega arith;
+      room = omega arith;
       starts-length = l .inv .starts-length;
       placed = rw k (l .inv .placed);
     }
@@ -111,18 +107,7 @@ loop2-less : tie.Need-loop2-less Inv-loop2 μ-loop2 Inv-loop μ-loop
 loop2-less c = search needs
 
 loop2-again : tie.Need-loop2-again Inv-loop2 μ-loop2 Inv-loop μ-loop
-loop2-again c =
-    let g = c .before .before .before .before .before .before .before .args in
-    let l = c .before .before .before .before .before .loop in
-    let i = c .before .before .loop2 in record {
-      below = omega arith;
-      here = i .inv .here;
-      few = i .inv .few;
-      small = i .inv .small;
-      room = i .inv .room;
-      starts-length = i .inv .starts-length;
-      placed = placed-turn (g.s .now) g.t2 g.c (l .t) (i .inv .here) (i .inv .few) (omega arith) _ refl (i .inv .small) (i .j) (i .out) _ (omega arith) (c .canister-at .ensures) (i .inv .placed);
-    }
+loop2-again c = canister-turn (c .before .before .loop2 .inv) _ (omega arith) (c .canister-at .ensures)
 
 add-t : tie.Need-add-t Inv-loop2 μ-loop2 Inv-loop μ-loop
 add-t c = search needs
@@ -131,16 +116,7 @@ loop-less : tie.Need-loop-less Inv-loop2 μ-loop2 Inv-loop μ-loop
 loop-less c = search needs
 
 loop-again : tie.Need-loop-again Inv-loop2 μ-loop2 Inv-loop μ-loop
-loop-again c =
-    let g = c .before .before .before .before .before .before .args in
-    let l = c .before .before .before .before .loop in
-    let i = c .before .loop2 in
-    record {
-      below = omega arith;
-      few = l .inv .few;
-      starts-length = l .inv .starts-length;
-      placed = placed-tile (g.s .now) g.t2 g.c (l .t) (i .inv .here) (i .inv .few) (omega arith) _ refl (i .inv .small) (i .j) (i .out) (omega arith) (i .inv .below) (i .inv .placed);
-    }
+loop-again c = tile-end (c .before .loop2 .inv) (omega arith)
 
 returns : tie.Need-returns Inv-loop2 μ-loop2 Inv-loop μ-loop
 returns c =

@@ -1,10 +1,6 @@
-use mathlib.Core.Path.{_≡_, refl, sym, _∙_}
-use Prim.Native.Nat.{_+_, _-_, _*_, _≤_}
+use mathlib.Core.Path.{sym, _∙_}
 use native.Mathlib.Omega.{arith}
-use lib.ListN.{length, drop, length-drop}
-use Rattle.image_read.proofs.Load.{first-ok, front-is, front-read, hoppers-are, hoppers-few, no-fault, second-ok, settings-are, stop-1, stop-2, third-fits}
-use Rattle.image_bytes.specs.Bytes.{le}
-use Rattle.image.specs.Image.{recordFault}
+use Rattle.image_read.proofs.Load.{FirstRead, SecondRead, first-read, second-read, first-long, second-begins, hoppers-few, second-long, third-begins, stop-1, stop-2, front-is, front-read}
 use borrow.Author.Needs.{needs}
 use Rattle.image_read.proofs.read_front.Statement.{statement}
 use Rattle.image_read.proofs.read_front.Tie as tie
@@ -16,6 +12,19 @@ use Rattle.image_read.proofs.no_front.Reads as no-front-reads
 use Rattle.sets.proofs.size.Reads as size-reads
 use Rattle.image_bytes.proofs.u16_at.Reads as u16-at-reads
 
+-- where the first record was read, and where the hoppers had been counted
+abbrev read : tie.After-size → tie.After-read-record
+read c = c .before .before .before .before .before
+
+abbrev sized : tie.After-counters → tie.After-size
+sized c = c .before .before .before .before
+
+first : (c : tie.After-size) → FirstRead (read c .before .before .args .s .now) (read c .read-record .result) (c .before .u16-at .result) (c .size .result)
+first c = first-read (read c .read-record .ensures) (c .before .before .before .if1 .left) (c .before .u16-at .ensures) (c .size .ensures)
+
+second : (c : tie.After-counters) → SecondRead (read (sized c) .before .before .args .s .now) (read (sized c) .read-record .result) (sized c .before .u16-at .result) (sized c .size .result) (c .before .before .before .read-record2 .result)
+second c = second-read (first (sized c)) (c .before .before .before .read-record2 .ensures) (c .before .if2 .left)
+
 read-record-requires : tie.Need-read-record-requires
 read-record-requires c κs = (omega arith, omega arith, omega arith, λ e. absurd (omega arith))
 
@@ -26,14 +35,11 @@ returns : tie.Need-returns
 returns c =
     let R = c .before .before .before in
     let e = c .no-front .ensures in
-    (e ∙ stop-1 (R .before .before .args .s .now) _ (R .read-record .ensures .0) (c .before .if1 .taken), λ z. absurd (omega (arith, e, z, c .before .if1 .taken)))
+    let n = c .before .if1 .taken in
+    (e ∙ stop-1 (R .before .before .args .s .now) _ (R .read-record .ensures .0) n, λ z. absurd (n (sym e ∙ z)))
 
 u16-at-requires : tie.Need-u16-at-requires
-u16-at-requires c κs =
-    let R = c .before .before .before in
-    let x = R .before .before .args .s .now in
-    let z1 = no-fault _ (recordFault 1 0 x) (R .read-record .ensures .0) (c .before .if1 .left) in
-    omega (arith, first-ok x z1 .room)
+u16-at-requires c κs = let R = c .before .before .before in first-long (R .before .before .args .s .now) _ (R .read-record .ensures .0) (c .before .if1 .left)
 
 cast-second : tie.Need-cast-second
 cast-second c = search needs
@@ -45,64 +51,23 @@ size-requires : tie.Need-size-requires
 size-requires c κs = search needs
 
 read-record-requires-2 : tie.Need-read-record-requires-2
-read-record-requires-2 c κs =
-    let R = c .before .before .before .before .before in
-    let x = R .before .before .args .s .now in
-    let z1 = no-fault _ (recordFault 1 0 x) (R .read-record .ensures .0) (c .before .before .before .if1 .left) in
-    let u = c .before .u16-at .result in
-    let n1 : u ≡ le 2 x = c .before .u16-at .ensures in
-    let st = R .read-record .result .settings in
-    let se = settings-are x u n1 st (R .read-record .ensures .1 (c .before .before .before .if1 .left) .settings refl) in
-    let h = c .size .result in
-    let he = hoppers-are x z1 u n1 st se h (c .size .ensures) in
-    (omega (arith, first-ok x z1 .enough, n1), omega arith, omega arith, λ e. hoppers-few x z1 h he)
+read-record-requires-2 c κs = let F = first c in (second-begins F, omega arith, omega arith, λ e. hoppers-few F)
 
 no-front-requires-2 : tie.Need-no-front-requires-2
 no-front-requires-2 c κs = search needs
 
 returns-2 : tie.Need-returns-2
 returns-2 c =
-    let R = c .before .before .before .before .before .before .before .before .before in
-    let x = R .before .before .args .s .now in
-    let z1 = no-fault _ (recordFault 1 0 x) (R .read-record .ensures .0) (c .before .before .before .before .before .before .before .if1 .left) in
-    let u = c .before .before .before .before .before .u16-at .result in
-    let n1 : u ≡ le 2 x = c .before .before .before .before .before .u16-at .ensures in
-    let st = R .read-record .result .settings in
-    let se = settings-are x u n1 st (R .read-record .ensures .1 (c .before .before .before .before .before .before .before .if1 .left) .settings refl) in
-    let h = c .before .before .before .before .size .result in
-    let he = hoppers-are x z1 u n1 st se h (c .before .before .before .before .size .ensures) in
+    let R = c .before .before .before in
     let e = c .no-front2 .ensures in
-    (e ∙ stop-2 x z1 u n1 h he _ (c .before .before .before .read-record2 .ensures .0) (c .before .if2 .taken), λ z. absurd (omega (arith, e, z, c .before .if2 .taken)))
+    let n = c .before .if2 .taken in
+    (e ∙ stop-2 (first (R .before)) _ (R .read-record2 .ensures .0) n, λ z. absurd (n (sym e ∙ z)))
 
 u16-at-requires-2 : tie.Need-u16-at-requires-2
-u16-at-requires-2 c κs =
-    let R = c .before .before .before .before .before .before .before .before .before in
-    let x = R .before .before .args .s .now in
-    let z1 = no-fault _ (recordFault 1 0 x) (R .read-record .ensures .0) (c .before .before .before .before .before .before .before .if1 .left) in
-    let u = c .before .before .before .before .before .u16-at .result in
-    let n1 : u ≡ le 2 x = c .before .before .before .before .before .u16-at .ensures in
-    let st = R .read-record .result .settings in
-    let se = settings-are x u n1 st (R .read-record .ensures .1 (c .before .before .before .before .before .before .before .if1 .left) .settings refl) in
-    let h = c .before .before .before .before .size .result in
-    let he = hoppers-are x z1 u n1 st se h (c .before .before .before .before .size .ensures) in
-    let z2 = no-fault _ (recordFault 2 h (drop (4 + u) x)) (c .before .before .before .read-record2 .ensures .0) (c .before .if2 .left) in
-    let m : 12 + 4 * h ≤ length x - (4 + u) = rw length-drop at (second-ok h (drop (4 + u) x) z2 .enough) in
-    omega (arith, m)
+u16-at-requires-2 c κs = let m = second-long (second c) in omega arith
 
 add-third : tie.Need-add-third
-add-third c =
-    let R = c .before .before .before .before .before .before .before .before .before .before in
-    let x = R .before .before .args .s .now in
-    let z1 = no-fault _ (recordFault 1 0 x) (R .read-record .ensures .0) (c .before .before .before .before .before .before .before .before .if1 .left) in
-    let u = c .before .before .before .before .before .before .u16-at .result in
-    let n1 : u ≡ le 2 x = c .before .before .before .before .before .before .u16-at .ensures in
-    let st = R .read-record .result .settings in
-    let se = settings-are x u n1 st (R .read-record .ensures .1 (c .before .before .before .before .before .before .before .before .if1 .left) .settings refl) in
-    let h = c .before .before .before .before .before .size .result in
-    let he = hoppers-are x z1 u n1 st se h (c .before .before .before .before .before .size .ensures) in
-    let z2 = no-fault _ (recordFault 2 h (drop (4 + u) x)) (c .before .before .before .before .read-record2 .ensures .0) (c .before .before .if2 .left) in
-    let m : 12 + 4 * h ≤ length x - (4 + u) = rw length-drop at (second-ok h (drop (4 + u) x) z2 .enough) in
-    omega (arith, m)
+add-third c = let m = second-long (second (c .before)) in omega arith
 
 cast-third : tie.Need-cast-third
 cast-third c = search needs
@@ -111,40 +76,16 @@ add-third-2 : tie.Need-add-third-2
 add-third-2 c = search needs
 
 scan-layouts-requires : tie.Need-scan-layouts-requires
-scan-layouts-requires c κs =
-    let R = c .before .before .before .before .before .before .before .before .before .before in
-    let x = R .before .before .args .s .now in
-    let z1 = no-fault _ (recordFault 1 0 x) (R .read-record .ensures .0) (c .before .before .before .before .before .before .before .before .if1 .left) in
-    let u = c .before .before .before .before .before .before .u16-at .result in
-    let n1 : u ≡ le 2 x = c .before .before .before .before .before .before .u16-at .ensures in
-    let st = R .read-record .result .settings in
-    let se = settings-are x u n1 st (R .read-record .ensures .1 (c .before .before .before .before .before .before .before .before .if1 .left) .settings refl) in
-    let h = c .before .before .before .before .before .size .result in
-    let he = hoppers-are x z1 u n1 st se h (c .before .before .before .before .before .size .ensures) in
-    let z2 = no-fault _ (recordFault 2 h (drop (4 + u) x)) (c .before .before .before .before .read-record2 .ensures .0) (c .before .before .if2 .left) in
-    let w = c .u16-at2 .result in
-    let n2 : w ≡ le 2 (drop (4 + u) x) = c .u16-at2 .ensures in
-    third-fits x z1 u n1 h he z2 w n2
+scan-layouts-requires c κs = third-begins (second (c .before)) _ (c .u16-at2 .ensures)
 
 no-front-requires-3 : tie.Need-no-front-requires-3
 no-front-requires-3 c κs = search needs
 
 returns-3 : tie.Need-returns-3
 returns-3 c =
-    let R = c .before .before .before .before .before .before .before .before .before .before .before .before .before .before in
-    let x = R .before .before .args .s .now in
-    let z1 = no-fault _ (recordFault 1 0 x) (R .read-record .ensures .0) (c .before .before .before .before .before .before .before .before .before .before .before .before .if1 .left) in
-    let u = c .before .before .before .before .before .before .before .before .before .before .u16-at .result in
-    let n1 : u ≡ le 2 x = c .before .before .before .before .before .before .before .before .before .before .u16-at .ensures in
-    let st = R .read-record .result .settings in
-    let se = settings-are x u n1 st (R .read-record .ensures .1 (c .before .before .before .before .before .before .before .before .before .before .before .before .if1 .left) .settings refl) in
-    let h = c .before .before .before .before .before .before .before .before .before .size .result in
-    let he = hoppers-are x z1 u n1 st se h (c .before .before .before .before .before .before .before .before .before .size .ensures) in
-    let z2 = no-fault _ (recordFault 2 h (drop (4 + u) x)) (c .before .before .before .before .before .before .before .before .read-record2 .ensures .0) (c .before .before .before .before .before .before .if2 .left) in
-    let w = c .before .before .before .before .u16-at2 .result in
-    let n2 : w ≡ le 2 (drop (4 + u) x) = c .before .before .before .before .u16-at2 .ensures in
+    let L = c .before .before .before in
     let e = c .no-front3 .ensures in
-    (e ∙ front-is x z1 u n1 h he z2 w n2 _ (c .before .before .before .scan-layouts .ensures .0), λ z. absurd (omega (arith, e, z, c .before .if3 .taken)))
+    (e ∙ front-is (second (L .before .before)) _ (L .before .u16-at2 .ensures) _ (L .scan-layouts .ensures .0), λ z. absurd (c .before .if3 .taken (sym e ∙ z)))
 
 mul-t16 : tie.Need-mul-t16
 mul-t16 c = let L = c .before .before .before .scan-layouts .ensures .1 (c .before .if3 .left) in omega (arith, L .few)
@@ -154,21 +95,12 @@ add-t15 c = let L = c .before .before .before .scan-layouts .ensures .1 (c .befo
 
 returns-4 : tie.Need-returns-4
 returns-4 c =
-    let R = c .before .before .before .before .before .before .before .before .before .before .before .before .before .before in
-    let x = R .before .before .args .s .now in
-    let z1 = no-fault _ (recordFault 1 0 x) (R .read-record .ensures .0) (c .before .before .before .before .before .before .before .before .before .before .before .before .if1 .left) in
-    let u = c .before .before .before .before .before .before .before .before .before .before .u16-at .result in
-    let n1 : u ≡ le 2 x = c .before .before .before .before .before .before .before .before .before .before .u16-at .ensures in
-    let st = R .read-record .result .settings in
-    let se = settings-are x u n1 st (R .read-record .ensures .1 (c .before .before .before .before .before .before .before .before .before .before .before .before .if1 .left) .settings refl) in
-    let h = c .before .before .before .before .before .before .before .before .before .size .result in
-    let he = hoppers-are x z1 u n1 st se h (c .before .before .before .before .before .before .before .before .before .size .ensures) in
-    let z2 = no-fault _ (recordFault 2 h (drop (4 + u) x)) (c .before .before .before .before .before .before .before .before .read-record2 .ensures .0) (c .before .before .before .before .before .before .if2 .left) in
-    let w = c .before .before .before .before .u16-at2 .result in
-    let n2 : w ≡ le 2 (drop (4 + u) x) = c .before .before .before .before .u16-at2 .ensures in
-    let s = c .before .before .before in
-    let ct = c .before .before .before .before .before .before .before .before .read-record2 .ensures .1 (c .before .before .before .before .before .before .if2 .left) .counters refl in
-    (front-is x z1 u n1 h he z2 w n2 _ (sym (c .before .if3 .left) ∙ s .scan-layouts .ensures .0), λ z. front-read x z1 u n1 h he z2 w n2 st se _ ct _ _ (s .scan-layouts .ensures .1 (c .before .if3 .left)) _ refl refl refl refl refl)
+    let L = c .before .before .before in
+    let S = second (L .before .before) in
+    let n = L .before .u16-at2 .ensures in
+    let l = L .scan-layouts .ensures in
+    let z = c .before .if3 .left in
+    (front-is S _ n _ (sym z ∙ l .0), λ e. front-read S _ n _ _ (l .1 z))
 
 pub read-front-spec : {M : Type 1} → statement M
 read-front-spec =

@@ -1,7 +1,9 @@
-use mathlib.Core.Path.{sym, _∙_}
+use mathlib.Core.Path.{_∙_}
+use mathlib.Core.List.{List}
+use Prim.Native.Nat.{ℕ}
 use borrow.Author.Tests.{not-true, not-false}
-use Rattle.image_read.specs.Front.{frontFault}
-use Rattle.image_read.proofs.Load.{answer-1, answer-2, answer-3, answer-4, no-fault}
+use Rattle.image_read.specs.declared.Front.{Front}
+use Rattle.image_read.proofs.Load.{FrontKept, TilesRead, answer-1, answer-2, answer-3, answer-4, no-fault}
 use borrow.Author.Needs.{needs}
 use Rattle.image_read.proofs.read_image.Statement.{statement}
 use Rattle.image_read.proofs.read_image.Tie as tie
@@ -13,6 +15,29 @@ use Rattle.image_read.proofs.all_named.Reads as all-named-reads
 use Rattle.image_read.proofs.canisters_of.Reads as canisters-of-reads
 use Rattle.image_read.proofs.read_front.Reads as read-front-reads
 use Rattle.image_read.proofs.refused.Reads as refused-reads
+
+-- behind the test of the front's refusal
+abbrev fronted : tie.After-tile-count → tie.Else1
+fronted c = c .before .before .before .before
+
+abbrev bytes : tie.After-tile-count → List ℕ
+bytes c = let R = fronted c .before .before in R .before .before .args .s .now
+
+abbrev front : tie.After-tile-count → Front
+front c = fronted c .before .before .read-front .result
+
+kept : (c : tie.After-tile-count) → FrontKept (bytes c) (front c) (c .tile-count .result)
+kept c =
+    let e = fronted c .before .before .read-front .ensures in
+    let z = fronted c .if1 .left in
+    record { sound = no-fault _ _ (e .0) z; front = e .1 z; tiles = c .tile-count .ensures }
+
+scanned : (c : tie.After-all-named) → let T = c .before .before .before in TilesRead (bytes (T .before)) (front (T .before)) (T .before .tile-count .result) (T .scan-tiles .result)
+scanned c =
+    let T = c .before .before .before in
+    let e = T .scan-tiles .ensures in
+    let z = c .before .if2 .left in
+    record { kept = kept (T .before); sound = no-fault _ _ (e .0) z; starts = e .1 z .0; heads = e .1 z .1 }
 
 read-front-requires : tie.Need-read-front-requires
 read-front-requires c κs = search needs
@@ -29,71 +54,37 @@ tile-count-requires : tie.Need-tile-count-requires
 tile-count-requires c κs = tt
 
 scan-tiles-requires : tie.Need-scan-tiles-requires
-scan-tiles-requires c κs =
-    let R = c .before .before .before .before .before .before in
-    let x = R .before .before .args .s .now in
-    let r = R .read-front .result in
-    let F = R .read-front .ensures .1 (c .before .before .before .before .if1 .left) in
-    let all = c .tile-count .ensures in
-    rw all (F .room, F .size)
+scan-tiles-requires c κs = let K = kept c in (K .front .room, rw (K .tiles) (K .front .size))
 
 refused-requires-2 : tie.Need-refused-requires-2
 refused-requires-2 c κs = search needs
 
 returns-2 : tie.Need-returns-2
 returns-2 c =
-    let R = c .before .before .before .before .before .before .before .before .before .before in
-    let x = R .before .before .args .s .now in
-    let r = R .read-front .result in
-    let F = R .read-front .ensures .1 (c .before .before .before .before .before .before .before .before .if1 .left) in
-    let z = no-fault _ (frontFault x) (R .read-front .ensures .0) (c .before .before .before .before .before .before .before .before .if1 .left) in
-    let all = c .before .before .before .before .tile-count .ensures in
-    c .refused2 .ensures ∙ answer-2 x r F z _ (rw all at (c .before .before .before .scan-tiles .ensures .0)) (c .before .if2 .taken)
+    let T = c .before .before .before in
+    c .refused2 .ensures ∙ answer-2 (kept (T .before)) _ (T .scan-tiles .ensures .0) (c .before .if2 .taken)
 
 all-named-requires : tie.Need-all-named-requires
-all-named-requires c κs =
-    let R = c .before .before .before .before .before .before .before .before .before in
-    let x = R .before .before .args .s .now in
-    let r = R .read-front .result in
-    let F = R .read-front .ensures .1 (c .before .before .before .before .before .before .before .if1 .left) in
-    F .few
+all-named-requires c κs = kept (c .before .before .before) .front .few
 
 refused-requires-3 : tie.Need-refused-requires-3
 refused-requires-3 c κs = search needs
 
 returns-3 : tie.Need-returns-3
 returns-3 c =
-    let R = c .before .before .before .before .before .before .before .before .before .before .before .before in
-    let x = R .before .before .args .s .now in
-    let r = R .read-front .result in
-    let F = R .read-front .ensures .1 (c .before .before .before .before .before .before .before .before .before .before .if1 .left) in
-    let z = no-fault _ (frontFault x) (R .read-front .ensures .0) (c .before .before .before .before .before .before .before .before .before .before .if1 .left) in
-    let all = c .before .before .before .before .before .before .tile-count .ensures in
-    let y = sym (rw all at (c .before .before .before .before .before .scan-tiles .ensures .0)) ∙ c .before .before .before .if2 .left in
-    c .refused3 .ensures ∙ answer-3 x r F z y _ (c .before .before .all-named .ensures) (not-true _ (c .before .if3 .taken))
+    let N = c .before .before in
+    c .refused3 .ensures ∙ answer-3 (scanned N) _ (N .all-named .ensures) (not-true _ (c .before .if3 .taken))
 
 canisters-of-requires : tie.Need-canisters-of-requires
 canisters-of-requires c κs =
-    let R = c .before .before .before .before .before .before .before .before .before .before .before .before .before in
-    let x = R .before .before .args .s .now in
-    let r = R .read-front .result in
-    let F = R .read-front .ensures .1 (c .before .before .before .before .before .before .before .before .before .before .before .if1 .left) in
-    let ss = c .before .before .before .before .before .before .scan-tiles .ensures .1 (c .before .before .before .before .if2 .left) .0 in
-    let all = c .before .before .before .before .before .before .before .tile-count .ensures in
-    (rw all (F .size), λ t h. ss t h .room, λ t h. ss t h .few)
+    let T = scanned (c .before .before .before) in
+    let K = T .kept in
+    (rw (K .tiles) (K .front .size), λ t h. T .starts t h .room, λ t h. T .starts t h .few)
 
 returns-4 : tie.Need-returns-4
 returns-4 c =
-    let R = c .before .before .before .before .before .before .before .before .before .before .before .before .before .before in
-    let x = R .before .before .args .s .now in
-    let r = R .read-front .result in
-    let F = R .read-front .ensures .1 (c .before .before .before .before .before .before .before .before .before .before .before .before .if1 .left) in
-    let z = no-fault _ (frontFault x) (R .read-front .ensures .0) (c .before .before .before .before .before .before .before .before .before .before .before .before .if1 .left) in
-    let T = c .before .before .before .before .before .before .before in
-    let all = T .before .tile-count .ensures in
-    let y = sym (rw all at (T .scan-tiles .ensures .0)) ∙ c .before .before .before .before .before .if2 .left in
-    let ss = rw all at (T .scan-tiles .ensures .1 (c .before .before .before .before .before .if2 .left)) in
-    answer-4 x r F z y _ (c .before .before .before .before .all-named .ensures) _ _ (T .scan-tiles .result .starts) (not-false _ (c .before .before .before .if3 .left)) (ss .0) (ss .1) (rw all at (c .canisters-of .ensures))
+    let W = c .before .before .before in
+    answer-4 (scanned (W .before)) _ (W .before .all-named .ensures) (not-false _ (W .if3 .left)) _ (c .canisters-of .ensures)
 
 pub read-image-spec : {M : Type 1} → statement M
 read-image-spec =
