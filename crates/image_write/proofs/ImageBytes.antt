@@ -30,7 +30,7 @@ use Rattle.image.specs.Image.{hopperCount, several, recordOf, settingsBody, cou
 use Rattle.image.proofs.Records.{record-length}
 use Rattle.image.proofs.Sizes.{settings-size, counters-size, canisters-size, tile-size, layout-size, layouts-size}
 use Rattle.image_record_write.specs.Parts.{tileBytes}
-use Rattle.image_record_write.proofs.RecordBytes.{tile-length, tile-record}
+use Rattle.image_record_write.proofs.RecordBytes.{pair-length, tile-length, tile-record}
 use Rattle.image_write.specs.Upto.{frontBytes, countAt, tileFor, tileRecord, upto}
 
 -- ---- lengths in bytes: a record's length and kind; a tile's record before its canisters; a canister; a layout's record; record 2 where there are h hoppers
@@ -179,7 +179,7 @@ upto-size hs cs zero h few = refl
 upto-size hs cs (suc t) h few = rw (length-append, record-size hs cs t (omega arith) (few t (omega arith)), upto-size hs cs t (omega arith) (λ u l. few u (omega arith)))
 
 -- ---- the whole
-pub end-record : bytes 2 0 ++ bytes 2 4 ≡ recordOf 4 []
+end-record : bytes 2 0 ++ bytes 2 4 ≡ recordOf 4 []
 unfolding recordOf
 end-record = rw (append-nil (bytes 2 4))
 
@@ -198,23 +198,37 @@ module _ (s : Settings) where
   more-is h e = ap (λ (n : ℕ). ltb 1 n) e
 
   module _ (c : Counters) (l : List Layout) where
-    pub front-long : length (frontBytes s c l) ≡ ahead + length (settingsBody s) + countersLength (hopperCount s) + layoutLength * length (usedLayouts l)
+    front-long : length (frontBytes s c l) ≡ ahead + length (settingsBody s) + countersLength (hopperCount s) + layoutLength * length (usedLayouts l)
     unfolding frontBytes
     front-long =
         rw (length-append, record-length 1 (settingsBody s), length-append, record-length 2 (countersBody (hopperCount s) c), counters-size (hopperCount s) c, layouts-size (usedLayouts l))
         (omega arith)
 
-    -- the three writes; h hoppers, and the first n places are used
-    pub front-put : (b b1 b2 b3 : List ℕ) (h n second third : ℕ) → h ≡ hopperCount s → n ≡ length (usedLayouts l) → length (frontBytes s c l) ≤ length b → second ≡ ahead + length (settingsBody s) → third ≡ second + countersLength h
-        → b1 ≡ put b 0 (recordOf 1 (settingsBody s)) → b2 ≡ put b1 second (recordOf 2 (countersBody h c)) → b3 ≡ put b2 third (layoutsBytes (take n l)) → b3 ≡ put b 0 (frontBytes s c l)
-    unfolding frontBytes
-    front-put b b1 b2 b3 h n second third he ne r e2 e3 p q u =
-        let n1 : length (recordOf 1 (settingsBody s)) ≡ ahead + length (settingsBody s) = record-length 1 (settingsBody s) in
-        let n2 : length (recordOf 2 (countersBody (hopperCount s) c)) ≡ countersLength (hopperCount s) = record-length 2 (countersBody (hopperCount s) c) ∙ ap (λ (k : ℕ). 4 + k) (counters-size (hopperCount s) c) in
-        let n3 : length (layoutsBytes (usedLayouts l)) ≡ layoutLength * length (usedLayouts l) = layouts-size (usedLayouts l) in
-        let used = ap (λ (k : ℕ). layoutsBytes (take k l)) ne ∙ ap layoutsBytes (used-take l) in
-        put-three b b1 b2 b3 0 second third (recordOf 1 (settingsBody s)) (recordOf 2 (countersBody (hopperCount s) c)) (layoutsBytes (usedLayouts l))
-        (omega (arith, r, front-long)) (omega arith) (omega arith) p (rw he at q) (rw used at u)
+-- what put_front knows of settings x, counters y, layouts l and a buffer b: h hoppers, and the place after record 1
+pub record FrontRoom (x : Settings) (y : Counters) (l : List Layout) (h second : ℕ) (b : List ℕ) : Type 0 where
+  pub hoppers : h ≡ hopperCount x
+  pub few : h ≤ 4
+  pub first : second ≡ ahead + length (settingsBody x)
+  pub long : length (frontBytes x y l) ≡ second + countersLength h + layoutLength * length (usedLayouts l)
+  pub fits : length (frontBytes x y l) ≤ length b
+
+pub front-room : (x : Settings) (y : Counters) (l : List Layout) (h second : ℕ) (b : List ℕ) → (length (frontBytes x y l) ≤ length b) × (h ≡ hopperCount x) × (h ≤ 4) → second ≡ cond (ltb 1 h) 32 24 → FrontRoom x y l h second b
+front-room x y l h second b p e =
+    let f = first-is x h second (p .1) e in
+    record { hoppers = p .1; few = p .2; first = f; long = omega (arith, front-long x y l, f, p .1); fits = p .0 }
+
+-- the three writes; the first n places are used
+pub front-put : {x : Settings} {y : Counters} {l : List Layout} {h second : ℕ} {b : List ℕ} → FrontRoom x y l h second b → (b1 b2 b3 : List ℕ) (n third : ℕ) → n ≡ length (usedLayouts l) → third ≡ second + countersLength h
+    → b1 ≡ put b 0 (recordOf 1 (settingsBody x)) → b2 ≡ put b1 second (recordOf 2 (countersBody h y)) → b3 ≡ put b2 third (layoutsBytes (take n l)) → b3 ≡ put b 0 (frontBytes x y l)
+unfolding frontBytes
+front-put {x} {y} {l} {h} {second} {b} r b1 b2 b3 n third ne e3 p q u =
+    let c = countersBody (hopperCount x) y in
+    let n1 : length (recordOf 1 (settingsBody x)) ≡ ahead + length (settingsBody x) = record-length 1 (settingsBody x) in
+    let n2 : length (recordOf 2 c) ≡ countersLength (hopperCount x) = record-length 2 c ∙ ap (λ (k : ℕ). 4 + k) (counters-size (hopperCount x) y) in
+    let n3 : length (layoutsBytes (usedLayouts l)) ≡ layoutLength * length (usedLayouts l) = layouts-size (usedLayouts l) in
+    let used = ap (λ (k : ℕ). layoutsBytes (take k l)) ne ∙ ap layoutsBytes (used-take l) in
+    put-three b b1 b2 b3 0 second third (recordOf 1 (settingsBody x)) (recordOf 2 c) (layoutsBytes (usedLayouts l))
+    (omega (arith, r .fits, front-long x y l)) (omega arith) (omega arith) p (rw (r .hoppers) at q) (rw used at u)
 
 module _ (f : Floor) where
   abbrev pub frontOf : List ℕ
@@ -230,7 +244,7 @@ module _ (f : Floor) where
       let u = upto-tiles (f .tiles) (f .canisters) 0 n in
       rw (states n) (rw (upto-none (f .tiles) (f .canisters), e) at u)
 
-  pub encode-is : encode (view f) ≡ frontOf ++ (upto (f .tiles) (f .canisters) (total (f .settings)) ++ recordOf 4 [])
+  encode-is : encode (view f) ≡ frontOf ++ (upto (f .tiles) (f .canisters) (total (f .settings)) ++ recordOf 4 [])
   unfolding encode view frontBytes
   encode-is =
       let first = recordOf 1 (settingsBody (f .settings)) in
@@ -260,3 +274,50 @@ module _ (f : Floor) (w : wellFormed f ≡ true) where
 
   pub hoppers-four : (h : ℕ) → h ≡ hopperCount (f .settings) → h ≤ 4
   hoppers-four h e = omega (arith, well-measured f w .hoppers-few)
+
+-- what write_image knows of a floor f and a buffer b: n tiles and h hoppers
+pub record WriteRoom (f : Floor) (n h : ℕ) (b : List ℕ) : Type 0 where
+  pub well : wellFormed f ≡ true
+  pub tiles : n ≡ total (f .settings)
+  pub hoppers : h ≡ hopperCount (f .settings)
+  pub long : length (encode (view f)) ≡ length (frontOf f) + length (upto (f .tiles) (f .canisters) n) + ahead
+  pub fits : length (encode (view f)) ≤ length b
+
+pub write-room : (f : Floor) (n h : ℕ) (b : List ℕ) → (wellFormed f ≡ true) × (length (encode (view f)) ≤ length b) → n ≡ total (f .settings) → h ≡ length (bitsBelow (f .settings .hoppers) 64) → WriteRoom f n h b
+write-room f n h b p e k = record { well = p .0; tiles = e; hoppers = hoppers-are f (p .0) h k; long = rw e (encode-long f); fits = p .1 }
+
+pub write-put : {f : Floor} {n h : ℕ} {b : List ℕ} → WriteRoom f n h b → (b1 b2 b3 : List ℕ) (front end : ℕ) → front ≡ length (frontOf f) → end ≡ front + length (upto (f .tiles) (f .canisters) n)
+    → b1 ≡ put b 0 (frontOf f) → b2 ≡ put b1 front (upto (f .tiles) (f .canisters) n) → b3 ≡ put b2 end (bytes 2 0 ++ bytes 2 4) → b3 ≡ put b 0 (encode (view f))
+write-put {f} {n} {h} {b} r b1 b2 b3 front end e2 e3 p q u =
+    rw (encode-is f, ← end-record, ← r .tiles)
+    (put-three b b1 b2 b3 0 front end (frontOf f) (upto (f .tiles) (f .canisters) n) (bytes 2 0 ++ bytes 2 4)
+    (omega (arith, r .fits, r .long, pair-length 0 4)) (omega arith) (omega arith) p q u)
+
+-- what image_length knows of a floor f: n tiles, h hoppers, how long record 1 is, and how many layouts there are
+pub record Parts (f : Floor) (n h first laid : ℕ) : Type 0 where
+  pub well : wellFormed f ≡ true
+  pub tiles : n ≡ total (f .settings)
+  pub hoppers : h ≡ hopperCount (f .settings)
+  pub four : h ≤ 4
+  pub first-long : first ≡ ahead + length (settingsBody (f .settings))
+  pub first-small : first ≤ 32
+  pub used : laid ≡ length (usedLayouts (f .layouts))
+  pub eight : laid ≤ 8
+
+pub parts-of : (f : Floor) (n h first laid : ℕ) → wellFormed f ≡ true → n ≡ total (f .settings) → h ≡ length (bitsBelow (f .settings .hoppers) 64) → first ≡ cond (ltb 1 h) 32 24 → (laid ≡ length (usedLayouts (f .layouts))) × (laid ≤ 8) → Parts f n h first laid
+parts-of f n h first laid w e k r u =
+    let he = hoppers-are f w h k in
+    record {
+      well = w;
+      tiles = e;
+      hoppers = he;
+      four = hoppers-four f w h he;
+      first-long = first-is (f .settings) h first he r;
+      first-small = small (ltb 1 h) r;
+      used = u .0;
+      eight = u .1;
+    }
+  where
+    small : (b : Bool) → first ≡ cond b 32 24 → first ≤ 32
+    small true q = omega arith
+    small false q = omega arith

@@ -1,10 +1,8 @@
 use mathlib.Core.Path.{_≡_, _∙_}
-use mathlib.Core.Bool.{Bool, true, false, cond}
-use Prim.Native.Nat.{ℕ, _*_, _-_, _≤_}
+use Prim.Native.Nat.{_*_, _-_}
 use native.Mathlib.Omega.{arith}
-use lib.Dec.{ltb}
-use Rattle.image.specs.Image.{hopperCount}
-use Rattle.image_write.proofs.ImageBytes.{counts-few, encode-heads, heads-more, heads-none, hoppers-are, hoppers-four, first-is}
+use Rattle.floor.specs.declared.Floor.{Floor}
+use Rattle.image_write.proofs.ImageBytes.{Parts, parts-of, counts-few, encode-heads, heads-more, heads-none}
 use Rattle.image_write.proofs.Loops.{TilesMeasured}
 use Rattle.floor.proofs.Pack.{well-few, well-lengths}
 use borrow.Author.Needs.{needs}
@@ -23,23 +21,17 @@ Inv-loop tiles c h first laid n₀ t₀ n t = TilesMeasured tiles c h first laid
 abbrev μ-loop : tie.MeasureT-loop
 μ-loop tiles c h first laid n₀ t₀ n t = c - t
 
--- after the last of the calls: how many hoppers there are, and what each part is at most
-hoppers : (c : tie.After-laid-out Inv-loop μ-loop) → c .before .before .before .size .result ≡ hopperCount (c .before .before .before .before .before .before .before .args .f .settings)
-hoppers c =
-    let S = c .before .before .before .before .before .before .before in
-    let s = c .before .before .before .size in
-    hoppers-are (S .args .f) (S .pre) (s .result) (s .ensures)
+-- after the last of the calls
+abbrev sized : tie.After-laid-out Inv-loop μ-loop → tie.After-size Inv-loop μ-loop
+sized c = c .before .before .before
 
-bounds : (c : tie.After-laid-out Inv-loop μ-loop) → (c .before .before .before .size .result ≤ 4) × (c .before .before .first-length .result ≤ 32) × (c .laid-out .result ≤ 8)
-bounds c =
-    let S = c .before .before .before .before .before .before .before in
-    let h = c .before .before .before .size .result in
-    let first = c .before .before .first-length in
-    (hoppers-four (S .args .f) (S .pre) h (hoppers c), first-small (first .result) (ltb 1 h) (first .ensures), c .laid-out .ensures .1)
-  where
-    first-small : (r : ℕ) (b : Bool) → r ≡ cond b 32 24 → r ≤ 32
-    first-small r true e = omega arith
-    first-small r false e = omega arith
+abbrev floor : tie.After-laid-out Inv-loop μ-loop → Floor
+floor c = let C = sized c .before in C .before .before .before .args .f
+
+parts : (c : tie.After-laid-out Inv-loop μ-loop) → Parts (floor c) (sized c .before .tile-count .result) (sized c .size .result) (c .before .before .first-length .result) (c .laid-out .result)
+parts c =
+    let C = sized c .before in
+    parts-of (floor c) _ _ _ _ (C .before .before .before .pre) (C .tile-count .ensures) (sized c .size .ensures) (c .before .before .first-length .ensures) (c .laid-out .ensures)
 
 tile-count-requires : tie.Need-tile-count-requires Inv-loop μ-loop
 tile-count-requires c κs = tt
@@ -54,43 +46,39 @@ laid-out-requires : tie.Need-laid-out-requires Inv-loop μ-loop
 laid-out-requires c κs = search needs
 
 cast-n : tie.Need-cast-n Inv-loop μ-loop
-cast-n c = let b = bounds c in record { fits = omega arith }
+cast-n c = let b = parts c in record { fits = omega arith }
 
 add-n : tie.Need-add-n Inv-loop μ-loop
-add-n c = let b = bounds c in omega arith
+add-n c = let b = parts c in omega arith
 
 cast-n-2 : tie.Need-cast-n-2 Inv-loop μ-loop
 cast-n-2 c = search needs
 
 mul-n : tie.Need-mul-n Inv-loop μ-loop
-mul-n c = let b = bounds c in omega arith
+mul-n c = let b = parts c in omega arith
 
 add-n-2 : tie.Need-add-n-2 Inv-loop μ-loop
-add-n-2 c = let b = bounds c in omega arith
+add-n-2 c = let b = parts c in omega arith
 
 cast-n-3 : tie.Need-cast-n-3 Inv-loop μ-loop
-cast-n-3 c = let b = bounds c in record { fits = omega arith }
+cast-n-3 c = let b = parts c in record { fits = omega arith }
 
 mul-n-2 : tie.Need-mul-n-2 Inv-loop μ-loop
-mul-n-2 c = let b = bounds c in omega arith
+mul-n-2 c = let b = parts c in omega arith
 
 add-n-3 : tie.Need-add-n-3 Inv-loop μ-loop
-add-n-3 c = let b = bounds c in omega arith
+add-n-3 c = let b = parts c in omega arith
 
 loop-holds : tie.Need-loop-holds Inv-loop μ-loop
 loop-holds c =
-    let S = c .before .before .before .before .before .before .before in
-    let f = S .args .f in
-    let w = S .pre in
-    let b = bounds c in
-    let all = c .before .before .before .before .tile-count .ensures in
+    let b = parts c in
     record {
       below = omega arith;
-      few = omega (arith, well-few f w, all);
-      tiles-length = well-lengths f w .0;
-      reached = omega (arith, heads-none (f .tiles));
+      few = omega (arith, well-few _ (b .well));
+      tiles-length = well-lengths _ (b .well) .0;
+      reached = omega (arith, heads-none (floor c .tiles));
       small = omega arith;
-      counts-small = λ u l. counts-few f w u (omega (arith, all));
+      counts-small = λ u l. counts-few _ (b .well) u (omega arith);
     }
 
 mul-head : tie.Need-mul-head Inv-loop μ-loop
@@ -119,14 +107,14 @@ loop-less c = search needs
 
 loop-again : tie.Need-loop-again Inv-loop μ-loop
 loop-again c =
-    let l = c .before .before .before .loop in
-    let S = c .before .before .before .before .before .before .before .before .before .before .before in
-    let k = l .inv .counts-small (l .t) (c .before .before .loop-test .taken) in
+    let I = c .before .before in
+    let l = I .before .loop in
+    let k = l .inv .counts-small (l .t) (I .loop-test .taken) in
     record {
       below = omega arith;
       few = l .inv .few;
       tiles-length = l .inv .tiles-length;
-      reached = omega (arith, heads-more (S .args .f .tiles) (l .t));
+      reached = omega (arith, heads-more (floor (I .before .before) .tiles) (l .t));
       small = omega arith;
       counts-small = l .inv .counts-small;
     }
@@ -134,15 +122,10 @@ loop-again c =
 returns : tie.Need-returns Inv-loop μ-loop
 returns c =
     let l = c .before .loop in
-    let S = c .before .before .before .before .before .before .before .before .before in
-    let f = S .args .f in
-    let w = S .pre in
-    let he = hoppers (c .before .before) in
-    let first = c .before .before .before .before .first-length in
-    let fe = first-is (f .settings) (c .before .before .before .before .before .size .result) (first .result) he (first .ensures) in
-    let le = c .before .before .laid-out .ensures .0 in
+    let f = floor (c .before .before) in
+    let b = parts (c .before .before) in
     let e : l .t ≡ f .settings .columns * f .settings .rows = omega arith in
-    rw e at (l .inv .reached) ∙ omega (arith, encode-heads f w)
+    rw e at (l .inv .reached) ∙ omega (arith, encode-heads f (b .well))
 
 pub image-length-spec : {M : Type 1} → statement M
 image-length-spec =

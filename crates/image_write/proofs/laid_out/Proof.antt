@@ -29,7 +29,8 @@ array-copy-out-x c = search needs
 
 returns : tie.Need-returns Inv-loop μ-loop
 returns c =
-    let l = c .before .before .before .before .loop in
+    let I = c .before .before .before in
+    let l = I .before .loop in
     (used-stop _ (l .k) (omega arith) (l .inv .counted) (c .if1 .taken), l .inv .below)
 
 add-k : tie.Need-add-k Inv-loop μ-loop
@@ -40,7 +41,8 @@ loop-less c = search needs
 
 loop-again : tie.Need-loop-again Inv-loop μ-loop
 loop-again c =
-    let l = c .before .before .before .before .loop in
+    let I = c .before .before .before in
+    let l = I .before .loop in
     record {
       below = omega arith;
       all-length = l .inv .all-length;

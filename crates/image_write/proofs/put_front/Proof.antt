@@ -1,5 +1,5 @@
 use native.Mathlib.Omega.{arith}
-use Rattle.image_write.proofs.ImageBytes.{first-is, more-is, front-long, front-put}
+use Rattle.image_write.proofs.ImageBytes.{FrontRoom, more-is, front-room, front-put}
 use borrow.Author.Needs.{needs}
 use Rattle.image_write.proofs.put_front.Statement.{statement}
 use Rattle.image_write.proofs.put_front.Tie as tie
@@ -11,86 +11,67 @@ use Rattle.image_write.proofs.first_length.Reads as first-length-reads
 use Rattle.image_write.proofs.laid_out.Reads as laid-out-reads
 use Rattle.image_write.proofs.put_layouts.Reads as put-layouts-reads
 
+-- where records 1 and 2 had been written
+abbrev one : tie.After-put-counters-arg → tie.After-put-settings
+one c = c .before .before .before
+
+abbrev two : tie.After-laid-out → tie.After-put-counters
+two c = c .before .before .before
+
+room : (c : tie.After-first-length) → let g = c .before .before .args in FrontRoom g.x g.y g.all g.h (c .first-length .result) (g.s .now)
+room c = let S = c .before .before in let g = S .args in front-room g.x g.y g.all g.h _ (g.s .now) (S .pre) (c .first-length .ensures)
+
+third : (c : tie.After-put-counters-arg) → let F = one c .before .before in let g = F .before .before .args in FrontRoom g.x g.y g.all g.h (F .first-length .result) (g.s .now)
+third c = room (one c .before .before)
+
 first-length-requires : tie.Need-first-length-requires
 first-length-requires c κs = search needs
 
 put-settings-requires : tie.Need-put-settings-requires
-put-settings-requires c κs =
-    let S = c .before .before .before in
-    let g = S .args in
-    let second = c .before .first-length .result in
-    let fe = first-is g.x g.h second (S .pre .1) (c .before .first-length .ensures) in
-    let n = front-long g.x g.y g.all in
-    (omega (arith, S .pre .0), more-is g.x g.h (S .pre .1))
+put-settings-requires c κs = let r = room (c .before) in let g = c .before .before .before .args in (omega arith, more-is g.x g.h (r .hoppers))
 
 put-counters-requires : tie.Need-put-counters-requires
-put-counters-requires c κs =
-    let S = c .before .before .before .before .before .before .before in
-    let g = S .args in
-    let second = c .before .before .before .before .before .first-length .result in
-    let fe = first-is g.x g.h second (S .pre .1) (c .before .before .before .before .before .first-length .ensures) in
-    let n = front-long g.x g.y g.all in
-    (omega (arith, S .pre .0, c .before .before .before .put-settings .kept .0), S .pre .2)
+put-counters-requires c κs = let r = third c in (omega (arith, one c .put-settings .kept .0), r .few)
 
 add-third : tie.Need-add-third
-add-third c =
-    let S = c .before .before .before .before .before .before .before .before .before .before in
-    let g = S .args in
-    let second = c .before .before .before .before .before .before .before .before .first-length .result in
-    let fe = first-is g.x g.h second (S .pre .1) (c .before .before .before .before .before .before .before .before .first-length .ensures) in
-    let n = front-long g.x g.y g.all in
-    omega (arith, S .pre .0)
+add-third c = let r = third (c .before .before .before) in omega arith
 
 mul-third : tie.Need-mul-third
 mul-third c = search needs
 
 add-third-2 : tie.Need-add-third-2
-add-third-2 c =
-    let S = c .before .before .before .before .before .before .before .before .before .before in
-    let g = S .args in
-    let second = c .before .before .before .before .before .before .before .before .first-length .result in
-    let fe = first-is g.x g.h second (S .pre .1) (c .before .before .before .before .before .before .before .before .first-length .ensures) in
-    let n = front-long g.x g.y g.all in
-    omega (arith, S .pre .0)
+add-third-2 c = let r = third (c .before .before .before) in omega arith
 
 laid-out-requires : tie.Need-laid-out-requires
 laid-out-requires c κs = search needs
 
 put-layouts-requires : tie.Need-put-layouts-requires
 put-layouts-requires c κs =
-    let S = c .before .before .before .before .before .before .before .before .before .before .before .before in
-    let g = S .args in
-    let second = c .before .before .before .before .before .before .before .before .before .before .first-length .result in
-    let fe = first-is g.x g.h second (S .pre .1) (c .before .before .before .before .before .before .before .before .before .before .first-length .ensures) in
-    let n = front-long g.x g.y g.all in
-    let le = c .before .laid-out .ensures in
-    (le .1, omega (arith, S .pre .0, le .0, c .before .before .before .before .before .before .before .before .put-settings .kept .0, c .before .before .before .before .put-counters .kept .0))
+    let A = c .before in
+    let C = two A in
+    let r = third (C .before) in
+    (A .laid-out .ensures .1, omega (arith, A .laid-out .ensures .0, one (C .before) .put-settings .kept .0, C .put-counters .kept .0))
 
 mul-result : tie.Need-mul-result
-mul-result c = let le = c .before .before .before .before .laid-out .ensures in omega (arith, le .1)
+mul-result c = let A = c .before .before .before in omega (arith, A .before .laid-out .ensures .1)
 
 add-result : tie.Need-add-result
 add-result c =
-    let S = c .before .before .before .before .before .before .before .before .before .before .before .before .before .before .before in
-    let g = S .args in
-    let second = c .before .before .before .before .before .before .before .before .before .before .before .before .before .first-length .result in
-    let fe = first-is g.x g.h second (S .pre .1) (c .before .before .before .before .before .before .before .before .before .before .before .before .before .first-length .ensures) in
-    let n = front-long g.x g.y g.all in
-    let le = c .before .before .before .before .laid-out .ensures in
-    omega (arith, S .pre .0, le .0)
+    let A = c .before .before .before in
+    let r = third (two (A .before) .before) in
+    omega (arith, A .before .laid-out .ensures .0)
 
 same-length : tie.Need-same-length
 same-length c = search needs
 
 returns : tie.Need-returns
 returns c =
-    let S = c .before .before .before .before .before .before .before .before .before .before .before .before .before .before .before in
-    let g = S .args in
-    let second = c .before .before .before .before .before .before .before .before .before .before .before .before .before .first-length .result in
-    let fe = first-is g.x g.h second (S .pre .1) (c .before .before .before .before .before .before .before .before .before .before .before .before .before .first-length .ensures) in
-    let n = front-long g.x g.y g.all in
-    let le = c .before .before .before .before .laid-out .ensures in
-    (omega (arith, le .0, n), front-put g.x g.y g.all (g.s .now) _ _ _ g.h _ second _ (S .pre .1) (le .0) (S .pre .0) fe (omega arith) (c .before .before .before .before .before .before .before .before .before .before .before .put-settings .ensures) (c .before .before .before .before .before .before .before .put-counters .ensures) (c .before .before .put-layouts .ensures))
+    let L = c .before .before in
+    let A = L .before .before in
+    let C = two A in
+    let r = third (C .before) in
+    let n = A .laid-out .ensures .0 in
+    (omega (arith, n), front-put r _ _ _ _ _ n (omega arith) (one (C .before) .put-settings .ensures) (C .put-counters .ensures) (L .put-layouts .ensures))
 
 pub put-front-spec : {M : Type 1} → statement M
 put-front-spec =

@@ -1,9 +1,9 @@
-use mathlib.Core.Path.{_≡_, refl, sym, _∙_}
+use mathlib.Core.Path.{_≡_, refl, sym}
 use Prim.Native.Nat.{_-_}
 use native.Mathlib.Omega.{arith}
 use Rattle.image_bytes.proofs.PutLaws.{put-none}
-use Rattle.image_write.proofs.ImageBytes.{layouts-none, layouts-turn}
-use Rattle.image_write.proofs.Loops.{LayoutsPut}
+use Rattle.image_write.proofs.ImageBytes.{layouts-none}
+use Rattle.image_write.proofs.Loops.{LayoutsPut, layout-turn}
 use borrow.Author.Needs.{needs}
 use Rattle.image_write.proofs.put_layouts.Statement.{statement}
 use Rattle.image_write.proofs.put_layouts.Tie as tie
@@ -52,17 +52,9 @@ loop-less c = search needs
 
 loop-again : tie.Need-loop-again Inv-loop μ-loop
 loop-again c =
-    let l = c .before .before .before .before .before .before .loop in
-    let g = c .before .before .before .before .before .before .before .before .args in
-    let k = c .before .before .put-layout .kept .0 in
-    record {
-      below = omega arith;
-      few = l .inv .few;
-      all-length = l .inv .all-length;
-      room = l .inv .room;
-      buffer-length = k ∙ l .inv .buffer-length;
-      written = layouts-turn (g.s .now) (l .s) _ g.from (l .k) g.t3 (omega arith) (omega arith) (l .inv .written) (c .before .before .put-layout .ensures);
-    }
+    let P = c .before .before in
+    let I = P .before .before .before in
+    layout-turn (I .before .loop .inv) (I .loop-test .taken) _ (P .put-layout .kept .0) (P .put-layout .ensures)
 
 same-length : tie.Need-same-length Inv-loop μ-loop
 same-length c = search needs

@@ -1,13 +1,8 @@
-use mathlib.Core.Path.{_≡_, refl, sym, _∙_}
-use Prim.Native.Nat.{_+_, _*_, _-_, _≤_, _<_}
+use mathlib.Core.Path.{_≡_, refl, sym}
+use Prim.Native.Nat.{_-_}
 use native.Mathlib.Omega.{arith}
-use lib.ListN.{length, take, drop}
-use Rattle.image.specs.Image.{canistersBody}
-use Rattle.image_record_write.proofs.RecordBytes.{put-turn}
-use Rattle.image_write.proofs.ImageBytes.{tileFront, at-turn, tiles-turn, upto-room}
-use Rattle.image_write.proofs.Loops.{TilesPut, CanistersPut}
-use Rattle.image_write.specs.Upto.{countAt, upto}
-use Rattle.image_bytes.specs.Put.{put}
+use Rattle.image_write.proofs.Loops.{TilesPut, CanistersPut, canister-turn, tile-fits, canisters-begin, tile-turn}
+use Rattle.image_write.specs.Upto.{upto}
 use Rattle.image_bytes.proofs.PutLaws.{put-none}
 use borrow.Author.Needs.{needs}
 use Rattle.image_write.proofs.put_tiles.Statement.{statement}
@@ -55,37 +50,16 @@ cast-put-tile : tie.Need-cast-put-tile Inv-loop2 μ-loop2 Inv-loop μ-loop
 cast-put-tile c = search needs
 
 put-tile-requires : tie.Need-put-tile-requires Inv-loop2 μ-loop2 Inv-loop μ-loop
-put-tile-requires c κs =
-    let l = c .before .before .before .loop in
-    let g = c .before .before .before .before .before .args in
-    let w : l .t < g.c = c .before .before .loop-test .taken in
-    let k : countAt g.t3 (l .t) ≤ 16 = l .inv .small (l .t) w in
-    let h : 16 * l .t + 16 ≤ length g.t4 = omega arith in
-    let r = upto-room g.t3 g.t4 (l .t) g.c w h k in
-    (omega arith, k)
+put-tile-requires c κs = let I = c .before .before in let b = tile-fits (I .before .loop .inv) (I .loop-test .taken) in (omega arith, b .0)
 
 cast-n : tie.Need-cast-n Inv-loop2 μ-loop2 Inv-loop μ-loop
 cast-n c = search needs
 
 loop2-holds : tie.Need-loop2-holds Inv-loop2 μ-loop2 Inv-loop μ-loop
-unfolding canistersBody
 loop2-holds c =
-    let l = c .before .before .before .before .before .before .before .loop in
-    let g = c .before .before .before .before .before .before .before .before .before .args in
-    let w : l .t < g.c = c .before .before .before .before .before .before .loop-test .taken in
-    let k : countAt g.t3 (l .t) ≤ 16 = l .inv .small (l .t) w in
-    let h : 16 * l .t + 16 ≤ length g.t4 = omega arith in
-    let r = upto-room g.t3 g.t4 (l .t) g.c w h k in
-    let p = c .before .before .before .put-tile in
-    record {
-      below = omega arith;
-      few = k;
-      here = omega arith;
-      all-length = l .inv .all-length;
-      room = omega (arith, p .kept .0);
-      buffer-length = refl;
-      written = sym (put-none (p .last .0) (l .at + tileFront));
-    }
+    let P = c .before .before .before in
+    let I = P .before .before .before in
+    canisters-begin (I .before .loop .inv) (I .loop-test .taken) _ (P .put-tile .kept .0)
 
 mul-x : tie.Need-mul-x Inv-loop2 μ-loop2 Inv-loop μ-loop
 mul-x c = search needs
@@ -119,18 +93,9 @@ loop2-less c = search needs
 
 loop2-again : tie.Need-loop2-again Inv-loop2 μ-loop2 Inv-loop μ-loop
 loop2-again c =
-    let i = c .before .before .before .before .before .before .loop2 in
-    let o = c .before .before .before .before .before .before .before .before .before .before .before .before .before .before .loop in
-    let g = c .before .before .before .before .before .before .before .before .before .before .before .before .before .before .before .before .args in
-    let p = c .before .before .put-canister in record {
-      below = omega arith;
-      few = i .inv .few;
-      here = i .inv .here;
-      all-length = i .inv .all-length;
-      room = i .inv .room;
-      buffer-length = p .kept .0 ∙ i .inv .buffer-length;
-      written = put-turn (c .before .before .before .before .before .before .before .before .before .before .put-tile .last .0) (i .s) _ (o .at + tileFront) (16 * o .t) (i .k) g.t4 _ (omega arith) (omega arith) (i .inv .written) (p .ensures);
-    }
+    let P = c .before .before in
+    let I = P .before .before .before in
+    canister-turn (I .before .loop2 .inv) (I .loop2-test .taken) _ _ (P .put-canister .kept .0) (P .put-canister .ensures)
 
 add-at : tie.Need-add-at Inv-loop2 μ-loop2 Inv-loop μ-loop
 add-at c = search needs
@@ -149,25 +114,10 @@ loop-less c = search needs
 
 loop-again : tie.Need-loop-again Inv-loop2 μ-loop2 Inv-loop μ-loop
 loop-again c =
-    let l = c .before .before .before .before .before .before .before .before .before .loop in
-    let g = c .before .before .before .before .before .before .before .before .before .before .before .args in
-    let w : l .t < g.c = c .before .before .before .before .before .before .before .before .loop-test .taken in
-    let k : countAt g.t3 (l .t) ≤ 16 = l .inv .small (l .t) w in
-    let h : 16 * l .t + 16 ≤ length g.t4 = omega arith in
-    let p = c .before .before .before .before .before .put-tile in
-    let i = c .before .loop2 in
-    let z : i .k ≡ countAt g.t3 (l .t) = omega arith in
-    let q : i .s ≡ put (p .last .0) (l .at + tileFront) (canistersBody (take (countAt g.t3 (l .t)) (drop (16 * l .t) g.t4))) = rw z at (i .inv .written) in record {
-      below = omega arith;
-      few = l .inv .few;
-      tiles-length = l .inv .tiles-length;
-      all-length = l .inv .all-length;
-      small = l .inv .small;
-      room = l .inv .room;
-      buffer-length = i .inv .buffer-length ∙ p .kept .0 ∙ l .inv .buffer-length;
-      reached = at-turn g.t3 g.t4 g.from (l .at) (l .t) h k (l .inv .reached);
-      written = tiles-turn g.t3 g.t4 (g.s .now) (l .s) (p .last .0) _ g.from (l .at) (l .t) h k (omega arith) (l .inv .reached) (l .inv .written) (p .ensures) q;
-    }
+    let B = c .before .before .before in
+    let P = B .before .before in
+    let I = P .before .before .before in
+    tile-turn (I .before .loop .inv) (I .loop-test .taken) _ (P .put-tile .kept .0) (P .put-tile .ensures) _ _ (c .before .loop2 .inv) (omega arith)
 
 same-length : tie.Need-same-length Inv-loop2 μ-loop2 Inv-loop μ-loop
 same-length c = search needs
