@@ -1,8 +1,4 @@
-use mathlib.Core.Path.{_≡_, sym, _∙_}
-use mathlib.Core.Bool.{true, false}
-use native.Mathlib.Omega.{arith}
-use Rattle.check_settings.specs.Groups.{rulesWrong}
-use Rattle.check_settings.proofs.Groups.{measures-are, rules-length}
+use Rattle.check_settings.proofs.Groups.{rules-broken, rules-short, rules-apart, rules-kept}
 use borrow.Author.Needs.{needs}
 use Rattle.check_settings.proofs.measures_wrong.Statement.{statement}
 use Rattle.check_settings.proofs.measures_wrong.Tie as tie
@@ -15,9 +11,7 @@ rules-wrong-requires : tie.Need-rules-wrong-requires
 rules-wrong-requires c κs = search needs
 
 returns : tie.Need-returns
-returns c =
-    let e : rulesWrong (c .before .before .args .s) ≡ true = sym (c .before .rules-wrong .ensures) ∙ c .if1 .taken in
-    rw (sym (measures-are (c .before .before .args .s)), e)
+returns c = search (rules-broken, needs)
 
 spacing-requires : tie.Need-spacing-requires
 spacing-requires c κs = tt
@@ -29,19 +23,13 @@ cast-span-2 : tie.Need-cast-span-2
 cast-span-2 c = search needs
 
 sub-span : tie.Need-sub-span
-sub-span c =
-    let e : rulesWrong (c .before .before .before .before .before .args .s) ≡ false = sym (c .before .before .before .before .rules-wrong .ensures) ∙ c .before .before .before .if1 .left in
-    omega (arith, rules-length (c .before .before .before .before .before .args .s) e)
+sub-span c = search (rules-short, needs)
 
 div-result : tie.Need-div-result
-div-result c =
-    let e : rulesWrong (c .before .before .before .before .before .args .s) ≡ false = sym (c .before .before .before .before .rules-wrong .ensures) ∙ c .before .before .before .if1 .left in
-    omega (arith, c .before .before .spacing .ensures, rules-length (c .before .before .before .before .before .args .s) e)
+div-result c = search (rules-apart, needs)
 
 returns-2 : tie.Need-returns-2
-returns-2 c =
-    let e : rulesWrong (c .before .before .before .before .before .args .s) ≡ false = sym (c .before .before .before .before .rules-wrong .ensures) ∙ c .before .before .before .if1 .left in
-    rw (c .before .before .spacing .ensures, sym (measures-are (c .before .before .before .before .before .args .s)), e)
+returns-2 c = search (rules-kept, needs)
 
 pub measures-wrong-spec : {M : Type 1} → statement M
 measures-wrong-spec =

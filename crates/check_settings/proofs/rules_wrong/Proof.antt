@@ -13,7 +13,7 @@ cast-width : tie.Need-cast-width
 cast-width c = search needs
 
 returns : tie.Need-returns
-returns c = rw (c .before .before .before .before .before .spacing .ensures) (rules-are _)
+returns c = search (rules-are, needs)
 
 pub rules-wrong-spec : {M : Type 1} → statement M
 rules-wrong-spec = tie.close (tie.spec spacing-requires cast-width returns)

@@ -1,5 +1,3 @@
-use borrow.Author.Tests.{not-true, not-false}
-use mathlib.Core.Path.{sym, _∙_}
 use native.Mathlib.Nat.{lt-of-le-of-lt}
 use lib.Dec.{lit<}
 use Rattle.check_settings.proofs.Groups.{few-tiles, hoppers-off, hoppers-on}
@@ -16,10 +14,10 @@ mul-all : tie.Need-mul-all
 mul-all c = record { fits = lt-of-le-of-lt (few-tiles (c .before .args .s) (c .before .pre)) (lit< tt) }
 
 within-requires : tie.Need-within-requires
-within-requires c κs = few-tiles (c .before .args .s) (c .before .pre)
+within-requires c κs = search (few-tiles, needs)
 
 returns : tie.Need-returns
-returns c = hoppers-off (c .before .before .before .args .s) (sym (c .before .within .ensures) ∙ not-true _ (c .if1 .taken))
+returns c = search (hoppers-off, needs)
 
 size-requires : tie.Need-size-requires
 size-requires c κs = search needs
@@ -28,12 +26,10 @@ meets-requires : tie.Need-meets-requires
 meets-requires c κs = search needs
 
 within-requires-2 : tie.Need-within-requires-2
-within-requires-2 c κs = few-tiles (c .before .before .before .before .before .args .s) (c .before .before .before .before .before .pre)
+within-requires-2 c κs = search (few-tiles, needs)
 
 returns-2 : tie.Need-returns-2
-returns-2 c =
-    let S = c .before .before .before .before .before .before in
-    hoppers-on (S .args .s) (few-tiles (S .args .s) (S .pre)) (sym (c .before .before .before .before .within .ensures) ∙ not-false _ (c .before .before .before .if1 .left)) (c .before .before .size .ensures) (c .before .meets .ensures) (c .within2 .ensures)
+returns-2 c = search (hoppers-on, needs)
 
 pub sets-wrong-spec : {M : Type 1} → statement M
 sets-wrong-spec =

@@ -1,7 +1,5 @@
-use mathlib.Core.Path.{_≡_, sym, _∙_}
-use mathlib.Core.Bool.{true, false}
-use Rattle.check_settings.specs.Groups.{sizesWrong, setsWrong, measuresWrong}
-use Rattle.check_settings.proofs.Groups.{refusal-groups}
+use mathlib.Core.Path.{sym, _∙_}
+use Rattle.check_settings.proofs.Groups.{settings-1, settings-2, settings-3, settings-0}
 use borrow.Author.Needs.{needs}
 use Rattle.check_settings.proofs.settings_refusal.Statement.{statement}
 use Rattle.check_settings.proofs.settings_refusal.Tie as tie
@@ -15,39 +13,22 @@ sizes-wrong-requires : tie.Need-sizes-wrong-requires
 sizes-wrong-requires c κs = search needs
 
 returns : tie.Need-returns
-returns c =
-    let s = c .before .before .args .s in
-    let e : sizesWrong s ≡ true = sym (c .before .sizes-wrong .ensures) ∙ c .if1 .taken in
-    rw (refusal-groups s, e)
+returns c = search (settings-1, needs)
 
 sets-wrong-requires : tie.Need-sets-wrong-requires
 sets-wrong-requires c κs = sym (c .before .sizes-wrong .ensures) ∙ c .if1 .left
 
 returns-2 : tie.Need-returns-2
-returns-2 c =
-    let s = c .before .before .before .before .args .s in
-    let e : sizesWrong s ≡ false = sym (c .before .before .before .sizes-wrong .ensures) ∙ c .before .before .if1 .left in
-    let q : setsWrong s ≡ true = sym (c .before .sets-wrong .ensures) ∙ c .if2 .taken in
-    rw (refusal-groups s, e, q)
+returns-2 c = search (settings-2, needs)
 
 measures-wrong-requires : tie.Need-measures-wrong-requires
 measures-wrong-requires c κs = search needs
 
 returns-3 : tie.Need-returns-3
-returns-3 c =
-    let s = c .before .before .before .before .before .before .args .s in
-    let e : sizesWrong s ≡ false = sym (c .before .before .before .before .before .sizes-wrong .ensures) ∙ c .before .before .before .before .if1 .left in
-    let q : setsWrong s ≡ false = sym (c .before .before .before .sets-wrong .ensures) ∙ c .before .before .if2 .left in
-    let r : measuresWrong s ≡ true = sym (c .before .measures-wrong .ensures) ∙ c .if3 .taken in
-    rw (refusal-groups s, e, q, r)
+returns-3 c = search (settings-3, needs)
 
 returns-4 : tie.Need-returns-4
-returns-4 c =
-    let s = c .before .before .before .before .before .before .args .s in
-    let e : sizesWrong s ≡ false = sym (c .before .before .before .before .before .sizes-wrong .ensures) ∙ c .before .before .before .before .if1 .left in
-    let q : setsWrong s ≡ false = sym (c .before .before .before .sets-wrong .ensures) ∙ c .before .before .if2 .left in
-    let r : measuresWrong s ≡ false = sym (c .before .measures-wrong .ensures) ∙ c .if3 .left in
-    rw (refusal-groups s, e, q, r)
+returns-4 c = search (settings-0, needs)
 
 pub settings-refusal-spec : {M : Type 1} → statement M
 settings-refusal-spec =
