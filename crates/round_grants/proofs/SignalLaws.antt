@@ -9,27 +9,33 @@ use lib.Dec.{eqb}
 use lib.ListN.{length, getD, take}
 use lib.Seq.{take-suc}
 use native.Mathlib.Numerals.{add-one}
-use borrow.Author.Tests.{lt-ltb, ne-eqb}
+use borrow.Author.Tests.{lt-ltb, eq-eqb, ne-eqb}
 use Rattle.laws.specs.Define.{firstOf}
+use Rattle.laws.proofs.Tables.{ended}
 use Rattle.floor.specs.declared.Canister.{Canister}
 use Rattle.floor.specs.declared.Settings.{Settings}
+use Rattle.floor.specs.Memory.{zeroCanister}
 use Rattle.floor.specs.Sides.{opposite, after, following, chosen, inSet}
 use Rattle.floor.specs.Settings.{spacing}
 use Rattle.floor.specs.Signal.{Signal, requests, lack, missing, waiting, signalWith, signalBy}
 use Rattle.floor.proofs.SideTables.{setOf, set-of}
 
 -- ---- the sides that want: one side's bit where the neighbour there shows the opposite side
-pub wants-bit : (k shown : ℕ) → 1 ≤ k → k ≤ 4 → shown ≡ opposite k → 1 * 2 ^ (k - 1) % 2 ^ 8 ≡ cond (eqb shown (opposite k)) (2 ^ (k - 1)) 0
+wants-opposite : (k : ℕ) → 1 ≤ k → k ≤ 4 → 1 * 2 ^ (k - 1) % 2 ^ 8 ≡ cond (eqb (opposite k) (opposite k)) (2 ^ (k - 1)) 0
 unfolding opposite
-wants-bit zero shown h g e = absurd (omega arith)
-wants-bit (suc zero) shown h g e = rw e
-wants-bit (suc (suc zero)) shown h g e = rw e
-wants-bit (suc (suc (suc zero))) shown h g e = rw e
-wants-bit (suc (suc (suc (suc zero)))) shown h g e = rw e
-wants-bit (suc (suc (suc (suc (suc k))))) shown h g e = absurd (omega arith)
+wants-opposite zero h g = absurd (omega arith)
+wants-opposite (suc zero) h g = refl
+wants-opposite (suc (suc zero)) h g = refl
+wants-opposite (suc (suc (suc zero))) h g = refl
+wants-opposite (suc (suc (suc (suc zero)))) h g = refl
+wants-opposite (suc (suc (suc (suc (suc k))))) h g = absurd (omega arith)
 
-pub wants-none : (k shown : ℕ) → shown ≢ opposite k → 0 ≡ cond (eqb shown (opposite k)) (2 ^ (k - 1)) 0
-wants-none k shown n = rw (ne-eqb shown (opposite k) n)
+module _ (k shown facing : ℕ) (o : facing ≡ opposite k) where
+  pub wants-bit : 1 ≤ k → k ≤ 4 → shown ≡ facing → 1 * 2 ^ (k - 1) % 2 ^ 8 ≡ cond (eqb shown (opposite k)) (2 ^ (k - 1)) 0
+  wants-bit h g e = rw (e ∙ o) (wants-opposite k h g)
+
+  pub wants-none : shown ≢ facing → 0 ≡ cond (eqb shown (opposite k)) (2 ^ (k - 1)) 0
+  wants-none n = rw (ne-eqb shown (opposite k) (λ e. n (e ∙ sym o)))
 
 pub requests-of : {x : ℕ} (w so n e : ℕ) → x ≡ setOf (eqb w 4) (eqb so 3) (eqb n 2) (eqb e 1) → (x < 16) × (inSet x ≡ requests w so n e)
 unfolding requests
@@ -44,7 +50,7 @@ four-le : (p : ℕ → Bool) (a b c d : ℕ) → a ≤ 4 → b ≤ 4 → c ≤ 4
 unfolding firstOf
 four-le p a b c d ha hb hc hd = cond-le (p a) ha (cond-le (p b) hb (cond-le (p c) hc (cond-le (p d) hd (omega arith))))
 
-pub following-le : (p : ℕ → Bool) (k : ℕ) → following p k ≤ 4
+following-le : (p : ℕ → Bool) (k : ℕ) → following p k ≤ 4
 unfolding following after
 following-le p zero = four-le p 1 2 3 4 (omega arith) (omega arith) (omega arith) (omega arith)
 following-le p (suc zero) = four-le p 2 3 4 1 (omega arith) (omega arith) (omega arith) (omega arith)
@@ -53,9 +59,9 @@ following-le p (suc (suc (suc zero))) = four-le p 4 1 2 3 (omega arith) (omega a
 following-le p (suc (suc (suc (suc zero)))) = four-le p 1 2 3 4 (omega arith) (omega arith) (omega arith) (omega arith)
 following-le p (suc (suc (suc (suc (suc k))))) = four-le p 1 2 3 4 (omega arith) (omega arith) (omega arith) (omega arith)
 
-pub chosen-le : (p : ℕ → Bool) (k : ℕ) → k ≤ 4 → chosen p k ≤ 4
+pub chosen-le : (p : ℕ → Bool) (token k : ℕ) → k ≡ chosen p token → token ≤ 4 → k ≤ 4
 unfolding chosen
-chosen-le p k h = cond-le (p k) h (following-le p k)
+chosen-le p token k e h = rw e (cond-le (p token) h (following-le p token))
 
 pub chosen-kept : (p : ℕ → Bool) (k : ℕ) → p k ≡ true → k ≡ chosen p k
 unfolding chosen
@@ -65,23 +71,23 @@ pub chosen-next : (p : ℕ → Bool) (k : ℕ) → p k ≡ false → following p
 unfolding chosen
 chosen-next p k h = rw h
 
--- ---- what a canister is short of the gap at a side
-module _ (s : Settings) (k : ℕ) (c : Canister) where
-  pub lack-west : k ≡ 1 → spacing s - c .a ≡ lack s k c
+-- ---- what a canister is short of the gap at a side, by what the code subtracted
+module _ (s : Settings) (k : ℕ) (c : Canister) (d r : ℕ) (e : d ≡ spacing s) where
+  pub lack-west : k ≡ 1 → r ≡ d - c .a → r ≡ lack s k c
   unfolding lack
-  lack-west e = rw e
+  lack-west h q = rw (q, e, h)
 
-  pub lack-south : k ≡ 2 → spacing s - c .b ≡ lack s k c
+  pub lack-south : k ≡ 2 → r ≡ d - c .b → r ≡ lack s k c
   unfolding lack
-  lack-south e = rw e
+  lack-south h q = rw (q, e, h)
 
-  pub lack-north : k ≡ 3 → c .b + s .length + spacing s - s .width ≡ lack s k c
+  pub lack-north : k ≡ 3 → r ≡ c .b + s .length + d - s .width → r ≡ lack s k c
   unfolding lack
-  lack-north e = rw e
+  lack-north h q = rw (q, e, h)
 
-  pub lack-east : k ≡ 4 → c .a + s .length + spacing s - s .width ≡ lack s k c
+  pub lack-east : k ≡ 4 → r ≡ c .a + s .length + d - s .width → r ≡ lack s k c
   unfolding lack
-  lack-east e = rw e
+  lack-east h q = rw (q, e, h)
 
 pub lack-none : (s : Settings) (k : ℕ) (c : Canister) → k ≢ 1 → k ≢ 2 → k ≢ 3 → k ≢ 4 → 0 ≡ lack s k c
 unfolding lack
@@ -102,8 +108,12 @@ unfolding missing
 missing-snoc s k [] c = omega arith
 missing-snoc s k (x ∷ l) c = omega (arith, missing-snoc s k l c)
 
-pub missing-step : (s : Settings) (side : ℕ) (l : List Canister) (k : ℕ) (z : Canister) {w r : ℕ} → k < length l → w ≡ missing s side (take k l) → r ≡ lack s side (getD l k z) → max w r ≡ missing s side (take (k + 1) l)
-missing-step s side l k z h e q = rw (e, q, add-one, take-suc l k z h) (sym (missing-snoc s side (take k l) (getD l k z)))
+module _ (s : Settings) (side : ℕ) (l : List Canister) (k w : ℕ) (e : w ≡ missing s side (take k l)) where
+  pub missing-step : (n one r : ℕ) → k < n → n ≤ 16 → length l ≡ 16 → one ≡ lack s side (getD l k zeroCanister) → r ≡ max w one → r ≡ missing s side (take (k + 1) l)
+  missing-step n one r h few z q m = rw (m, e, q, add-one, take-suc l k zeroCanister (omega arith)) (sym (missing-snoc s side (take k l) (getD l k zeroCanister)))
+
+  pub missing-end : (n : ℕ) → n ≤ k → k ≤ n → w ≡ missing s side (take n l)
+  missing-end n lo hi = ended (λ (k : ℕ). missing s side (take k l)) lo hi e
 
 -- nothing is missing at the side none
 missing-none : (s : Settings) (l : List Canister) → missing s 0 l ≡ 0
@@ -112,20 +122,25 @@ missing-none s [] = refl
 missing-none s (c ∷ l) = omega (arith, missing-none s l)
 
 -- ---- one tile
-module _ (s : Settings) (running : Bool) (token : ℕ) (l : List Canister) (p : ℕ → Bool) where
-  pub signal-stopped : running ≡ false → waiting token 0 ≡ signalBy s running token l p
+module _ (s : Settings) (running token : ℕ) (l : List Canister) (p : ℕ → Bool) where
+  pub signal-stopped : running ≢ 1 → waiting token 0 ≡ signalBy s (eqb running 1) token l p
   unfolding signalBy
-  signal-stopped r = rw r
+  signal-stopped r = rw (ne-eqb running 1 r)
 
-  pub signal-none : running ≡ true → chosen p token ≡ 0 → waiting 0 0 ≡ signalBy s running token l p
-  unfolding signalBy signalWith
-  signal-none r e = rw (r, e, missing-none s l)
+  -- k the side chosen of the set of those that want, n what is missing there
+  module _ (r : running ≡ 1) (set : ℕ) (q : inSet set ≡ p) (k : ℕ) (e : k ≡ chosen (inSet set) token) where
+    turn : chosen p token ≡ k
+    turn = rw (sym q, sym e)
 
-  module _ (k : ℕ) (r : running ≡ true) (e : chosen p token ≡ k) (some : k ≢ 0) where
-    pub signal-grants : {next : ℕ} → next ≡ following p k → missing s k l ≡ 0 → _≡_ {A = Signal} (record { token = next; grant = k; turn = k; missing = 0 }) (signalBy s running token l p)
+    pub signal-none : k ≡ 0 → waiting 0 0 ≡ signalBy s (eqb running 1) token l p
     unfolding signalBy signalWith
-    signal-grants q g = rw (q, r, e, lt-ltb 0 k (omega arith), g)
+    signal-none z = rw (eq-eqb running 1 r, turn, z, missing-none s l)
 
-    pub signal-stays : {n : ℕ} → n ≡ missing s k l → n ≢ 0 → waiting k n ≡ signalBy s running token l p
-    unfolding signalBy signalWith
-    signal-stays q g = rw (q, r, e, lt-ltb 0 k (omega arith), ne-eqb (missing s k l) 0 (λ z. g (q ∙ z)))
+    module _ (some : k ≢ 0) (n : ℕ) (m : n ≡ missing s k l) where
+      pub signal-grants : (next : ℕ) → n ≡ 0 → next ≡ following (inSet set) k → _≡_ {A = Signal} (record { token = next; grant = k; turn = k; missing = 0 }) (signalBy s (eqb running 1) token l p)
+      unfolding signalBy signalWith
+      signal-grants next z f = rw (f, q, eq-eqb running 1 r, turn, lt-ltb 0 k (omega arith), sym m, z)
+
+      pub signal-stays : n ≢ 0 → waiting k n ≡ signalBy s (eqb running 1) token l p
+      unfolding signalBy signalWith
+      signal-stays g = rw (eq-eqb running 1 r, turn, lt-ltb 0 k (omega arith), sym m, ne-eqb n 0 g)

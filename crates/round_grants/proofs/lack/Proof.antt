@@ -1,6 +1,4 @@
 use Rattle.round_grants.proofs.SignalLaws.{lack-west, lack-south, lack-north, lack-east, lack-none}
-use mathlib.Core.Path.{_∙_}
-use native.Mathlib.Omega.{arith}
 use borrow.Author.Needs.{needs}
 use Rattle.round_grants.proofs.lack.Statement.{statement}
 use Rattle.round_grants.proofs.lack.Tie as tie
@@ -34,7 +32,7 @@ add-less : tie.Need-add-less
 add-less c = search needs
 
 add-less-2 : tie.Need-add-less-2
-add-less-2 c = omega (arith, c .before .before .before .before .spacing .ensures)
+add-less-2 c = search needs
 
 less-requires-3 : tie.Need-less-requires-3
 less-requires-3 c κs = search needs
@@ -43,25 +41,25 @@ add-less-3 : tie.Need-add-less-3
 add-less-3 c = search needs
 
 add-less-4 : tie.Need-add-less-4
-add-less-4 c = omega (arith, c .before .before .before .before .spacing .ensures)
+add-less-4 c = search needs
 
 less-requires-4 : tie.Need-less-requires-4
 less-requires-4 c κs = search needs
 
 returns : tie.Need-returns
-returns c = let g = c .before .before .before .before .before .before .before .args in (rw (c .before .before .before .before .before .spacing .ensures) at (c .less .ensures)) ∙ lack-west g.s (g.side .code) g.c (c .before .match .keys1)
+returns c = search (lack-west, needs)
 
 returns-2 : tie.Need-returns-2
-returns-2 c = let g = c .before .before .before .before .before .before .before .args in (rw (c .before .before .before .before .before .spacing .ensures) at (c .less2 .ensures)) ∙ lack-south g.s (g.side .code) g.c (c .before .match .keys2)
+returns-2 c = search (lack-south, needs)
 
 returns-3 : tie.Need-returns-3
-returns-3 c = let g = c .before .before .before .before .before .before .before .args in (rw (c .before .before .before .before .before .spacing .ensures) at (c .less3 .ensures)) ∙ lack-north g.s (g.side .code) g.c (c .before .match .keys3)
+returns-3 c = search (lack-north, needs)
 
 returns-4 : tie.Need-returns-4
-returns-4 c = let g = c .before .before .before .before .before .before .before .args in (rw (c .before .before .before .before .before .spacing .ensures) at (c .less4 .ensures)) ∙ lack-east g.s (g.side .code) g.c (c .before .match .keys4)
+returns-4 c = search (lack-east, needs)
 
 returns-5 : tie.Need-returns-5
-returns-5 c = let g = c .before .before .before .before .before .before .args in let r = c .match .rest in lack-none g.s (g.side .code) g.c (r .0 .0 .0 .1) (r .0 .0 .1) (r .0 .1) (r .1)
+returns-5 c = search (lack-none, needs)
 
 pub lack-spec : {M : Type 1} → statement M
 lack-spec =

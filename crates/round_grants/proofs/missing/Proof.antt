@@ -1,11 +1,6 @@
-use Prim.Native.Nat.{ℕ, _-_}
-use mathlib.Core.Path.{_∙_}
+use Prim.Native.Nat.{_-_}
 use native.Mathlib.Omega.{arith}
-use lib.ListN.{take}
-use Rattle.laws.proofs.Tables.{ended}
-use Rattle.round_grants.proofs.SignalLaws.{missing-zero, missing-step}
-use Rattle.floor.specs.Memory.{zeroCanister}
-use Rattle.floor.specs.Signal as G
+use Rattle.round_grants.proofs.SignalLaws.{missing-zero, missing-step, missing-end}
 use Rattle.floor.proofs.Sized.{items-length}
 use Rattle.round_grants.proofs.Loops.{LackFound}
 use borrow.Author.Needs.{needs}
@@ -55,20 +50,15 @@ loop-less c = search needs
 
 loop-again : tie.Need-loop-again Inv-loop μ-loop
 loop-again c =
-    let l = c .before .before .before .before .loop in
-    let g = c .before .before .before .before .before .before .before .args in
     record {
       below = omega arith;
-      few = l .inv .few;
-      items-length = l .inv .items-length;
-      found = c .worse .ensures ∙ missing-step g.s (g.side .code) (g.members .items) (l .k) zeroCanister (omega arith) (l .inv .found) (c .before .lack .ensures);
+      few = search needs;
+      items-length = search needs;
+      found = search (missing-step, needs);
     }
 
 returns : tie.Need-returns Inv-loop μ-loop
-returns c =
-    let l = c .before .loop in
-    let g = c .before .before .before .before .args in
-    ended (λ (k : ℕ). G.missing g.s (g.side .code) (take k (g.members .items))) (omega arith) (l .inv .below) (l .inv .found)
+returns c = search (missing-end, needs)
 
 pub missing-spec : {M : Type 1} → statement M
 missing-spec =

@@ -22,8 +22,9 @@ wanting-requires-4 c κs = search needs
 returns : tie.Need-returns
 unfolding opposite
 returns c =
-    let g = c .before .before .before .before .args in
-    requests-of g.west g.south g.north g.east (rw (c .before .before .before .wanting .ensures, c .before .before .wanting2 .ensures, c .before .wanting3 .ensures, c .wanting4 .ensures))
+    let w = c .before .before .before in
+    let g = w .before .args in
+    requests-of g.west g.south g.north g.east (rw (w .wanting .ensures, c .before .before .wanting2 .ensures, c .before .wanting3 .ensures, c .wanting4 .ensures))
 
 pub requesting-spec : {M : Type 1} → statement M
 requesting-spec =

@@ -1,4 +1,3 @@
-use mathlib.Core.Path.{sym, _∙_}
 use Rattle.round_grants.proofs.SignalLaws.{wants-bit, wants-none}
 use borrow.Author.Needs.{needs}
 use Rattle.round_grants.proofs.wanting.Statement.{statement}
@@ -17,10 +16,10 @@ shl-result : tie.Need-shl-result
 shl-result c = search needs
 
 returns : tie.Need-returns
-returns c = let S = c .before .before .before .before in wants-bit (S .args .side .code) (S .args .shown) (S .pre .0) (S .pre .1) (c .before .if1 .taken ∙ c .before .before .before .opposite .ensures)
+returns c = search (wants-bit, needs)
 
 returns-2 : tie.Need-returns-2
-returns-2 c = let S = c .before .before .before in wants-none (S .args .side .code) (S .args .shown) (λ e. c .if1 .left (e ∙ sym (c .before .before .opposite .ensures)))
+returns-2 c = search (wants-none, needs)
 
 pub wanting-spec : {M : Type 1} → statement M
 wanting-spec = tie.close (tie.spec opposite-requires sub-result shl-result returns returns-2)
