@@ -1,17 +1,21 @@
 -- Route, branch by branch.
-use mathlib.Core.Path.{_≡_, refl}
+use mathlib.Core.Path.{_≡_, refl, sym, ap, _∙_}
 use mathlib.Core.Bool.{Bool, true, false, not, _||_}
 use mathlib.Core.List.{List}
-use Prim.Native.Nat.{ℕ, zero, suc}
+use Prim.Native.Nat.{ℕ, zero, suc, _+_, _≤_, _<_}
+use native.Mathlib.Omega.{arith}
 use lib.Dec.{eqb}
-use lib.ListN.{getD}
+use lib.ListN.{getD, set}
+use Rattle.laws.specs.Define.{bit}
+use Rattle.laws.specs.Filled.{Upto}
 use Rattle.floor.specs.declared.Settings.{Settings}
 use Rattle.floor.specs.declared.Tile.{Tile}
 use Rattle.floor.specs.Settings.{total, isHopper}
 use Rattle.floor.specs.Grid.{neighbour}
 use Rattle.floor.specs.Memory.{zeroTile}
 use Rattle.floor.specs.Route.{Heading, nearest, liesAt, kept, onward, headingOf}
-use Rattle.round_route.specs.Routed.{within, distanceIn, headed, routedTile, routedAt}
+use Rattle.round_route.proofs.Passes.{shows-near, near-read, redone-turn, redone-end}
+use Rattle.round_route.specs.Routed.{Redone, within, distanceIn, headed, routedTile, routedAt}
 
 -- ---- the distance beyond a side, side by side
 module _ (w s n e d : ℕ) where
@@ -50,21 +54,38 @@ module _ (own w s n e : ℕ) {b : Heading} {r : Bool} (is : b ≡ nearest w s n 
   unfolding kept
   kept-no h = rw (← is, ← test, h)
 
--- ---- one tile: it keeps its own, or takes the heading onward
-module _ (s : Settings) (t : ℕ) (h : Tile) (w so n e : ℕ) where
-  pub tile-still : (isHopper s t || not (eqb (h .running) 1)) ≡ true → h ≡ routedTile s t h w so n e
-  unfolding routedTile headingOf
-  tile-still p = rw p
+-- ---- one tile: it keeps its own, or takes the heading onward; x tells whether it is a hopper
+module _ (s : Settings) (t : ℕ) (h : Tile) (w so n e : ℕ) (x : Bool) (p : x ≡ bit (s .hoppers) t) where
+  pub tile-still : (x || not (eqb (h .running) 1)) ≡ true → h ≡ routedTile s t h w so n e
+  unfolding routedTile headingOf isHopper
+  tile-still q = rw (sym p, q)
 
-  pub tile-on : (isHopper s t || not (eqb (h .running) 1)) ≡ false → headed h (onward (total s) (kept (h .next .code) w so n e)) ≡ routedTile s t h w so n e
-  unfolding routedTile headingOf
-  tile-on p = rw p
+  pub tile-on : (x || not (eqb (h .running) 1)) ≡ false → (near : Heading) (d k : ℕ) → near ≡ kept (h .next .code) w so n e → record { distance = d; side = k } ≡ onward (total s) near
+      → _≡_ {A = Tile} (record { running = h .running; distance = d; next = record { code = k }; token = h .token; count = h .count }) (routedTile s t h w so n e)
+  unfolding routedTile headingOf isHopper
+  tile-on q near d k e o = rw (sym p, q, sym e) (ap (headed h) o)
 
--- ---- the pass: the tile from what was read of its neighbours
-module _ (s : Settings) (ts : List Tile) (t : ℕ) where
-  abbrev old : ℕ → ℕ
-  old k = within (total s) (distanceIn ts) 255 (neighbour s k t)
+-- ---- the pass: a tile of the floor, its neighbours, and what was read of them in the old distances d
+module _ (s : Settings) (t all : ℕ) (a : all ≡ total s) (h : t < all) where
+  pub tile-in : t < total s
+  tile-in = omega arith
 
-  pub routed-read : {r : Tile} {w so n e : ℕ} → r ≡ routedTile s t (getD ts t zeroTile) w so n e → w ≡ old 1 → so ≡ old 2 → n ≡ old 3 → e ≡ old 4 → r ≡ routedAt s ts t
-  unfolding routedAt
-  routed-read v p q r u = rw (v, p, q, r, u)
+  module _ (few : total s ≤ 64) where
+    pub near-in : (k u : ℕ) → u ≡ neighbour s k t → u < 65
+    near-in k u e = near-read s k t tile-in few e
+
+    pub routed-read : (ts : List Tile) (d : List ℕ) → Upto 65 (within (total s) (distanceIn ts) 255) 0 d → (r : Tile) (w so n e : ℕ)
+        → w ≡ neighbour s 1 t → so ≡ neighbour s 2 t → n ≡ neighbour s 3 t → e ≡ neighbour s 4 t
+        → r ≡ routedTile s t (getD ts t zeroTile) (getD d w 0) (getD d so 0) (getD d n 0) (getD d e 0) → r ≡ routedAt s ts t
+    unfolding routedAt
+    routed-read ts d u r w so n e p q o i v =
+        v ∙ rw (near 1 p, near 2 q, near 3 o, near 4 i)
+      where
+        near : (k : ℕ) {x : ℕ} → x ≡ neighbour s k t → getD d x 0 ≡ within (total s) (distanceIn ts) 255 (neighbour s k t)
+        near k e = shows-near s (distanceIn ts) 255 d k t tile-in few u e
+
+pub routed-turn : (s : Settings) (ts out : List Tile) (t : ℕ) (r : Tile) → t < 64 → Redone t (routedAt s ts) ts out → r ≡ routedAt s ts t → Redone (t + 1) (routedAt s ts) ts (set out t r)
+routed-turn s ts = redone-turn (routedAt s ts) ts
+
+pub routed-end : (s : Settings) (ts out : List Tile) (t all : ℕ) → all ≡ total s → all ≤ t → t ≤ all → Redone t (routedAt s ts) ts out → Redone (total s) (routedAt s ts) ts out
+routed-end s ts out t all a lo hi r = redone-end (routedAt s ts) ts out t (total s) (omega arith) r

@@ -51,13 +51,12 @@ loop-less c = search needs
 loop-again : tie.Need-loop-again Inv-loop μ-loop
 loop-again c =
     let l = c .before .before .loop in
-    let g = c .before .before .before .before .args in
     record {
       below = omega arith;
       few = l .inv .few;
       tiles-length = l .inv .tiles-length;
       distances-length = simp length-set (l .inv .distances-length);
-      filled = within-turn (distanceIn g.t2) 255 (l .d) 65 (l .t) _ (omega arith) refl (l .inv .filled);
+      filled = within-turn _ 255 (l .d) 65 (l .t) _ (omega arith) refl (l .inv .filled);
     }
 
 returns : tie.Need-returns Inv-loop μ-loop

@@ -1,9 +1,8 @@
-use Prim.Native.Nat.{_<_, _-_}
+use Prim.Native.Nat.{_-_}
 use native.Mathlib.Omega.{arith}
-use Rattle.floor.specs.Settings.{total}
-use Rattle.round_route.specs.Routed.{distanceIn, routedAt}
-use Rattle.round_route.proofs.Passes.{shows-near, near-read, redone-none, redone-turn, redone-end}
-use Rattle.round_route.proofs.RouteLaws.{routed-read}
+use Rattle.round_route.specs.Routed.{routedAt}
+use Rattle.round_route.proofs.Passes.{redone-none}
+use Rattle.round_route.proofs.RouteLaws.{tile-in, near-in, routed-read, routed-turn, routed-end}
 use Rattle.round_route.proofs.Loops.{TilesRouted}
 use borrow.Author.Needs.{needs}
 use Rattle.round_route.proofs.route_pass.Statement.{statement}
@@ -39,28 +38,28 @@ loop-holds c =
     }
 
 neighbour-requires : tie.Need-neighbour-requires Inv-loop μ-loop
-neighbour-requires c κs = let s = c .before .before .before .before in (s .pre .0, s .pre .1, s .pre .2, omega arith)
+neighbour-requires c κs = search (tile-in, needs)
 
 array-read-west : tie.Need-array-read-west Inv-loop μ-loop
-array-read-west c = let s = c .before .before .before .before .before in near-read (s .args .s) 1 (c .before .before .loop .t) (omega arith) (s .pre .2) (c .neighbour .ensures)
+array-read-west c = search (near-in, needs)
 
 neighbour-requires-2 : tie.Need-neighbour-requires-2 Inv-loop μ-loop
-neighbour-requires-2 c κs = let s = c .before .before .before .before .before in (s .pre .0, s .pre .1, s .pre .2, omega arith)
+neighbour-requires-2 c κs = search (tile-in, needs)
 
 array-read-south : tie.Need-array-read-south Inv-loop μ-loop
-array-read-south c = let s = c .before .before .before .before .before .before in near-read (s .args .s) 2 (c .before .before .before .loop .t) (omega arith) (s .pre .2) (c .neighbour2 .ensures)
+array-read-south c = search (near-in, needs)
 
 neighbour-requires-3 : tie.Need-neighbour-requires-3 Inv-loop μ-loop
-neighbour-requires-3 c κs = let s = c .before .before .before .before .before .before in (s .pre .0, s .pre .1, s .pre .2, omega arith)
+neighbour-requires-3 c κs = search (tile-in, needs)
 
 array-read-north : tie.Need-array-read-north Inv-loop μ-loop
-array-read-north c = let s = c .before .before .before .before .before .before .before in near-read (s .args .s) 3 (c .before .before .before .before .loop .t) (omega arith) (s .pre .2) (c .neighbour3 .ensures)
+array-read-north c = search (near-in, needs)
 
 neighbour-requires-4 : tie.Need-neighbour-requires-4 Inv-loop μ-loop
-neighbour-requires-4 c κs = let s = c .before .before .before .before .before .before .before in (s .pre .0, s .pre .1, s .pre .2, omega arith)
+neighbour-requires-4 c κs = search (tile-in, needs)
 
 array-read-east : tie.Need-array-read-east Inv-loop μ-loop
-array-read-east c = let s = c .before .before .before .before .before .before .before .before in near-read (s .args .s) 4 (c .before .before .before .before .before .loop .t) (omega arith) (s .pre .2) (c .neighbour4 .ensures)
+array-read-east c = search (near-in, needs)
 
 mul-route-tile : tie.Need-mul-route-tile Inv-loop μ-loop
 mul-route-tile c = search needs
@@ -69,7 +68,7 @@ array-copy-out-route-tile : tie.Need-array-copy-out-route-tile Inv-loop μ-loop
 array-copy-out-route-tile c = search needs
 
 route-tile-requires : tie.Need-route-tile-requires Inv-loop μ-loop
-route-tile-requires c κs = c .before .before .before .before .before .before .before .before .before .pre .2
+route-tile-requires c κs = search needs
 
 mul-out : tie.Need-mul-out Inv-loop μ-loop
 mul-out c = search needs
@@ -85,30 +84,18 @@ loop-less c = search needs
 
 loop-again : tie.Need-loop-again Inv-loop μ-loop
 loop-again c =
-    let l = c .before .before .before .before .before .before .before .loop in
-    let s = c .before .before .before .before .before .before .before .before .before .before in
-    let g = s .args in
-    let on : l .t < total g.s = omega arith in
-    let d = c .before .before .before .before .before .before .before .before .distances in
-    let old = distanceIn g.t2 in
-    let w = shows-near g.s old 255 (d .result) 1 (l .t) on (s .pre .2) (d .ensures) (c .before .before .before .before .before .neighbour .ensures) in
-    let so = shows-near g.s old 255 (d .result) 2 (l .t) on (s .pre .2) (d .ensures) (c .before .before .before .before .neighbour2 .ensures) in
-    let n = shows-near g.s old 255 (d .result) 3 (l .t) on (s .pre .2) (d .ensures) (c .before .before .before .neighbour3 .ensures) in
-    let e = shows-near g.s old 255 (d .result) 4 (l .t) on (s .pre .2) (d .ensures) (c .before .before .neighbour4 .ensures) in
-    let r = c .route-tile in
-    let v = routed-read g.s g.t2 (l .t) (r .ensures) w so n e in
+    let north = c .before .before .before in
+    let west = north .before .before in
+    let l = west .before .before .loop in
     record {
       below = omega arith;
       few = l .inv .few;
       tiles-length = l .inv .tiles-length;
-      routed = redone-turn (routedAt g.s g.t2) g.t2 (l .out) (l .t) (r .result) (omega arith) (l .inv .routed) v;
+      routed = routed-turn _ _ (l .out) (l .t) (c .route-tile .result) (omega arith) (l .inv .routed) (search (routed-read, needs));
     }
 
 returns : tie.Need-returns Inv-loop μ-loop
-returns c =
-    let l = c .before .loop in
-    let g = c .before .before .before .before .args in
-    redone-end (routedAt g.s g.t2) g.t2 (l .out) (l .t) (total g.s) (omega arith) (l .inv .routed)
+returns c = search (routed-end, needs)
 
 pub route-pass-spec : {M : Type 1} → statement M
 route-pass-spec =

@@ -1,6 +1,3 @@
-use mathlib.Core.Path.{ap, _∙_}
-use Rattle.floor.specs.Settings.{isHopper}
-use Rattle.round_route.specs.Routed.{headed}
 use Rattle.round_route.proofs.RouteLaws.{tile-still, tile-on}
 use borrow.Author.Needs.{needs}
 use Rattle.round_route.proofs.route_tile.Statement.{statement}
@@ -15,8 +12,7 @@ holds-requires : tie.Need-holds-requires
 holds-requires c κs = search needs
 
 returns : tie.Need-returns
-unfolding isHopper
-returns c = let g = c .before .before .before .args in tile-still g.s g.t g.tile g.west g.south g.north g.east (rw (c .before .before .holds .ensures) at (c .if1 .taken))
+returns c = search (tile-still, needs)
 
 mul-all : tie.Need-mul-all
 mul-all c = search needs
@@ -25,14 +21,14 @@ kept-requires : tie.Need-kept-requires
 kept-requires c κs = search needs
 
 onward-requires : tie.Need-onward-requires
-onward-requires c κs = c .before .before .before .before .before .before .pre
+onward-requires c κs = search needs
 
 returns-2 : tie.Need-returns-2
-unfolding isHopper
 returns-2 c =
-    let g = c .before .before .before .before .before .before .before .before .before .args in
-    let e = rw (c .before .before .before .kept .ensures) at (c .before .before .onward .ensures) in
-    ap (headed g.tile) e ∙ tile-on g.s g.t g.tile g.west g.south g.north g.east (rw (c .before .before .before .before .before .before .before .before .holds .ensures) at (c .before .before .before .before .before .before .if1 .left))
+    let near = c .before .before .before in
+    let moves = near .before .before .before in
+    let g = moves .before .before .before .args in
+    tile-on g.s g.t g.tile g.west g.south g.north g.east _ (moves .before .before .holds .ensures) (moves .if1 .left) _ _ _ (near .kept .ensures) (c .before .before .onward .ensures)
 
 pub route-tile-spec : {M : Type 1} → statement M
 route-tile-spec =
