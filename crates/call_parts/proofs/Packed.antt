@@ -3,8 +3,8 @@ use mathlib.Core.Path.{_≡_, ap, _∙_}
 use mathlib.Core.Bool.{true, false}
 use mathlib.Core.List.{List, []}
 use Prim.Native.Nat.{ℕ, _≤_, _<_}
-use lib.ListN.{length, getD, set, replicate, length-replicate, getD-replicate}
-use Rattle.laws.specs.Filled.{Upto, From}
+use native.Mathlib.Omega.{arith}
+use lib.ListN.{getD, set, replicate, length-replicate, getD-replicate}
 use Rattle.laws.proofs.Tables.{zeros-at}
 use Rattle.floor.specs.declared.Settings.{Settings}
 use Rattle.floor.specs.declared.Tile.{Tile}
@@ -17,6 +17,7 @@ use Rattle.floor.specs.Calls.{freshTile, freshFloor, stopped, repaired}
 use Rattle.floor.proofs.Well.{settings-fact}
 use Rattle.floor.proofs.Rows.{view-at}
 use Rattle.floor.proofs.Pack.{pack-head, pack-tab, well-fits, well-few}
+use Rattle.call_parts.proofs.Loops.{Freshened}
 
 -- ---- one tile anew
 module _ (f : Floor) (t : ℕ) (w : wellFormed f ≡ true) (on : t < total (f .settings)) where
@@ -60,14 +61,14 @@ zero-tiles z e i = ap (λ (x : Floor). getD (x .tiles) i zeroTile) e ∙ zeros-a
 pub fresh-few : (s : Settings) → settingsPass s ≡ true → total s ≤ 64
 fresh-few s p = settings-fact s .0 p .few
 
-pub fresh-pack : (s : Settings) (z : Floor) (ts : List Tile) → z ≡ zeroFloor → length ts ≡ 64
-    → Upto (total s) (λ t. head (freshTile s t)) zeroTile ts → From (total s) (λ t. zeroTile) zeroTile ts
+pub fresh-pack : (s : Settings) (z : Floor) (ts : List Tile) (all t : ℕ) → all ≡ total s → z ≡ zeroFloor → Freshened s all ts t → all ≤ t
     → _≡_ {A = Floor} (retiled (refitted z s) ts) (pack (freshFloor s))
 unfolding freshFloor freshTile zeroFloor layoutPlaces
-fresh-pack s z ts e l up off =
+fresh-pack s z ts all t m e l done =
+    let n : t ≡ total s = omega arith in
     ap (λ (x : Floor). retiled (refitted x s) ts) e
-    ∙ pack-tab s zeroCounters (freshTile s) ts (replicate 1024 zeroCanister) [] l (length-replicate 1024 zeroCanister)
-    (λ t _ k. up t k) (λ t _ k. off t k) (λ i k _. none i k) (λ i k _. none i k)
+    ∙ pack-tab s zeroCounters (freshTile s) ts (replicate 1024 zeroCanister) [] (l .tiles-length) (length-replicate 1024 zeroCanister)
+    (λ u _ k. rw n at (l .fresh) u k) (λ u _ k. rw n at (l .rest) u k) (λ i k _. none i k) (λ i k _. none i k)
   where
     none : (i : ℕ) → i < 1024 → getD (replicate 1024 zeroCanister) i zeroCanister ≡ zeroCanister
     none i k = getD-replicate 1024 i zeroCanister zeroCanister k

@@ -1,11 +1,11 @@
 -- The refusals of stop, repair and read on a well-formed floor, branch by branch; what an accepted call's tests tell.
 use mathlib.Core.Path.{_≡_, sym, ap, _∙_}
 use mathlib.Core.Logic.{_≢_}
-use mathlib.Core.Bool.{true, false}
+use mathlib.Core.Bool.{Bool, true, false}
 use Prim.Native.Nat.{ℕ, _≤_, _<_}
 use native.Mathlib.Omega.{arith}
 use borrow.Author.Tests.{le-leb, lt-leb, eq-eqb, ne-eqb, leb-false}
-use Rattle.laws.specs.Define.{refusal}
+use Rattle.laws.specs.Define.{bit, refusal}
 use Rattle.laws.proofs.Tests.{refusal-none}
 use Rattle.floor.specs.declared.Tile.{Tile}
 use Rattle.floor.specs.declared.Floor.{Floor}
@@ -39,42 +39,48 @@ module _ (f : Floor) (t : ℕ) where
   read-on h = leb-false _ _ (refusal-none (readTests (view f) t) (omega arith) h .0)
 
 -- ---- repair
-module _ (f : Floor) (t : ℕ) where
-  pub repair-4 : total (f .settings) ≤ t → 4 ≡ refusal (repairTests (view f) t)
+module _ (f : Floor) (t all : ℕ) (e : all ≡ total (f .settings)) where
+  pub repair-4 : all ≤ t → 4 ≡ refusal (repairTests (view f) t)
   unfolding repairTests refusal view
-  repair-4 h = rw (le-leb (total (f .settings)) t h)
+  repair-4 off = rw (sym e, le-leb all t off)
 
-  pub repair-32 : t < total (f .settings) → (h : Tile) → h ≡ head (tileOf (view f) t) → h .running ≡ 1 → 32 ≡ refusal (repairTests (view f) t)
-  unfolding repairTests refusal view
-  repair-32 on h e r = rw (lt-leb (total (f .settings)) t on, runs-yes f t h e r)
+  module _ (on : t < all) where
+    pub is-tile : t < total (f .settings)
+    is-tile = omega arith
 
-  pub repair-0 : t < total (f .settings) → (h : Tile) → h ≡ head (tileOf (view f) t) → h .running ≢ 1 → 0 ≡ refusal (repairTests (view f) t)
-  unfolding repairTests refusal view
-  repair-0 on h e r = rw (lt-leb (total (f .settings)) t on, runs-no f t h e r)
+    module _ (h : Tile) (k : h ≡ head (tileOf (view f) t)) where
+      pub repair-32 : h .running ≡ 1 → 32 ≡ refusal (repairTests (view f) t)
+      unfolding repairTests refusal view
+      repair-32 r = rw (runs-yes f t h k r, sym e, lt-leb all t on)
 
-  pub repair-on : refusal (repairTests (view f) t) ≡ 0 → t < total (f .settings)
-  unfolding repairTests view
-  repair-on h = leb-false _ _ (refusal-none (repairTests (view f) t) (omega arith) h .0)
+      pub repair-0 : h .running ≢ 1 → 0 ≡ refusal (repairTests (view f) t)
+      unfolding repairTests refusal view
+      repair-0 r = rw (runs-no f t h k r, sym e, lt-leb all t on)
+
+pub repair-on : (f : Floor) (t : ℕ) → refusal (repairTests (view f) t) ≡ 0 → t < total (f .settings)
+unfolding repairTests view
+repair-on f t h = leb-false _ _ (refusal-none (repairTests (view f) t) (omega arith) h .0)
 
 -- ---- stop
-module _ (f : Floor) (t : ℕ) where
-  pub stop-4 : total (f .settings) ≤ t → 4 ≡ refusal (stopTests (view f) t)
+module _ (f : Floor) (t all : ℕ) (e : all ≡ total (f .settings)) where
+  pub stop-4 : all ≤ t → 4 ≡ refusal (stopTests (view f) t)
   unfolding stopTests refusal view
-  stop-4 h = rw (le-leb (total (f .settings)) t h)
+  stop-4 off = rw (sym e, le-leb all t off)
 
-  pub stop-8 : t < total (f .settings) → isHopper (f .settings) t ≡ true → 8 ≡ refusal (stopTests (view f) t)
-  unfolding stopTests refusal view
-  stop-8 on e = rw (lt-leb (total (f .settings)) t on, e)
+  module _ (on : t < all) (hop : Bool) (b : hop ≡ bit (f .settings .hoppers) t) where
+    pub stop-8 : hop ≡ true → 8 ≡ refusal (stopTests (view f) t)
+    unfolding stopTests refusal view isHopper
+    stop-8 y = rw (sym e, lt-leb all t on, sym b, y)
 
-  module _ (on : t < total (f .settings)) (n : isHopper (f .settings) t ≡ false) (h : Tile) (e : h ≡ head (tileOf (view f) t)) where
-    pub stop-31 : h .running ≢ 1 → 31 ≡ refusal (stopTests (view f) t)
-    unfolding stopTests refusal view
-    stop-31 r = rw (lt-leb (total (f .settings)) t on, n, runs-no f t h e r)
+    module _ (n : hop ≡ false) (h : Tile) (k : h ≡ head (tileOf (view f) t)) where
+      pub stop-31 : h .running ≢ 1 → 31 ≡ refusal (stopTests (view f) t)
+      unfolding stopTests refusal view isHopper
+      stop-31 r = rw (runs-no f t h k r, sym e, lt-leb all t on, sym b, n)
 
-    pub stop-0 : h .running ≡ 1 → 0 ≡ refusal (stopTests (view f) t)
-    unfolding stopTests refusal view
-    stop-0 r = rw (lt-leb (total (f .settings)) t on, n, runs-yes f t h e r)
+      pub stop-0 : h .running ≡ 1 → 0 ≡ refusal (stopTests (view f) t)
+      unfolding stopTests refusal view isHopper
+      stop-0 r = rw (runs-yes f t h k r, sym e, lt-leb all t on, sym b, n)
 
-  pub stop-on : refusal (stopTests (view f) t) ≡ 0 → t < total (f .settings)
-  unfolding stopTests view
-  stop-on h = leb-false _ _ (refusal-none (stopTests (view f) t) (omega arith) h .0)
+pub stop-on : (f : Floor) (t : ℕ) → refusal (stopTests (view f) t) ≡ 0 → t < total (f .settings)
+unfolding stopTests view
+stop-on f t h = leb-false _ _ (refusal-none (stopTests (view f) t) (omega arith) h .0)

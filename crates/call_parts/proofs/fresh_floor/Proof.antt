@@ -1,9 +1,8 @@
-use mathlib.Core.Path.{_≡_, _∙_}
+use mathlib.Core.Path.{_∙_}
 use Prim.Native.Nat.{_-_}
 use native.Mathlib.Omega.{arith}
 use lib.ListN.{length-set}
 use Rattle.laws.proofs.Tables.{upto-turn, rest-turn}
-use Rattle.floor.specs.Settings.{total}
 use Rattle.floor.specs.Memory.{zeroTile, head}
 use Rattle.floor.specs.Calls.{freshTile}
 use Rattle.floor.proofs.Sized.{tiles-length}
@@ -60,22 +59,16 @@ loop-less c = search needs
 loop-again : tie.Need-loop-again Inv-loop μ-loop
 loop-again c =
     let l = c .before .before .loop in
-    let g = c .before .before .before .before .before .before .args in
     record {
       below = omega arith;
       few = l .inv .few;
       tiles-length = length-set (l .tiles) (l .t) _ ∙ l .inv .tiles-length;
-      fresh = upto-turn (l .t) (λ k. head (freshTile g.s k)) zeroTile (l .tiles) _ (omega arith) (l .inv .fresh) (c .fresh-tile .ensures);
+      fresh = upto-turn (l .t) (λ k. head (freshTile _ k)) zeroTile (l .tiles) _ (omega arith) (l .inv .fresh) (c .fresh-tile .ensures);
       rest = rest-turn (l .t) (λ k. zeroTile) zeroTile (l .tiles) _ (l .inv .rest);
     }
 
 returns : tie.Need-returns Inv-loop μ-loop
-returns c =
-    let l = c .before .loop in
-    let g = c .before .before .before .before .before .args in
-    let z = c .before .before .before .zero-floor in
-    let n : l .t ≡ total g.s = omega arith in
-    fresh-pack g.s (z .result) (l .tiles) (z .ensures) (l .inv .tiles-length) (rw n at (l .inv .fresh)) (rw n at (l .inv .rest))
+returns c = search (fresh-pack, needs)
 
 pub fresh-floor-spec : {M : Type 1} → statement M
 fresh-floor-spec =
