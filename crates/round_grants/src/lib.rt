@@ -29,20 +29,20 @@ pub struct Signal {
 }
 
 // The set of one side, bit k - 1 for side k, if the neighbour there shows that it faces here; else the empty set.
-fn wanting(side: Side, shown: u8) -> u8
+fn wanting(side: Side, shown: Side) -> u8
     requires { ⌜ (1 ≤ side .code) × (side .code ≤ 4) ⌝ }
-    ensures { λ r. ⌜ r ≡ cond (eqb shown (S.opposite (side .code))) (2 ^ (side .code - 1)) 0 ⌝ }
+    ensures { λ r. ⌜ r ≡ cond (eqb (shown .code) (S.opposite (side .code))) (2 ^ (side .code - 1)) 0 ⌝ }
 {
     let facing = side.opposite();
-    if shown == facing.code {
+    if shown.code == facing.code {
         return 1 << (side.code - 1);
     }
     0
 }
 
 // The set of the sides that want, from what the neighbours show.
-fn requesting(west: u8, south: u8, north: u8, east: u8) -> u8
-    ensures { λ r. ⌜ (r < 16) × (inSet r ≡ requests west south north east) ⌝ }
+fn requesting(west: Side, south: Side, north: Side, east: Side) -> u8
+    ensures { λ r. ⌜ (r < 16) × (inSet r ≡ requests (west .code) (south .code) (north .code) (east .code)) ⌝ }
 {
     wanting(Side::WEST, west)
         | wanting(Side::SOUTH, south)
@@ -115,13 +115,13 @@ pub fn signal_tile(
     running: u8,
     token: Side,
     members: Members,
-    west: u8,
-    south: u8,
-    north: u8,
-    east: u8,
+    west: Side,
+    south: Side,
+    north: Side,
+    east: Side,
 ) -> Signal
     requires { ⌜ (token .code ≤ 4) × (members .count ≤ 16) ⌝ }
-    ensures { λ r. ⌜ given r ≡ signalFrom s running (token .code) (take (members .count) (members .items)) west south north east ⌝ }
+    ensures { λ r. ⌜ given r ≡ signalFrom s running (token .code) (take (members .count) (members .items)) (west .code) (south .code) (north .code) (east .code) ⌝ }
 {
     if running != 1 {
         return Signal {

@@ -120,7 +120,16 @@ pub fn signal_at(s: Settings, t: usize, tile: Tile, items: [Canister; 16], show:
     let south = show[Side::SOUTH.neighbour(s, t)];
     let north = show[Side::NORTH.neighbour(s, t)];
     let east = show[Side::EAST.neighbour(s, t)];
-    signal_tile(s, tile.running, token, members, west, south, north, east)
+    signal_tile(
+        s,
+        tile.running,
+        token,
+        members,
+        Side { code: west },
+        Side { code: south },
+        Side { code: north },
+        Side { code: east },
+    )
 }
 
 // Why each tile stood: it tells by itself, or by the tile ahead of it, from that one's turn before it passed on and the

@@ -24,7 +24,7 @@ unfolding opposite
 returns c =
     let w = c .before .before .before in
     let g = w .before .args in
-    requests-of g.west g.south g.north g.east (rw (w .wanting .ensures, c .before .before .wanting2 .ensures, c .before .wanting3 .ensures, c .wanting4 .ensures))
+    requests-of (g.west .code) (g.south .code) (g.north .code) (g.east .code) (rw (w .wanting .ensures, c .before .before .wanting2 .ensures, c .before .wanting3 .ensures, c .wanting4 .ensures))
 
 pub requesting-spec : {M : Type 1} → statement M
 requesting-spec =
