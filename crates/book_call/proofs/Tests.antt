@@ -1,26 +1,26 @@
 -- A booking's tests on a floor: they are those that the code made, and what they tell where it is accepted.
 use mathlib.Core.Path.{_≡_, sym, _∙_}
-use mathlib.Core.Bool.{Bool, true, false, true≢false}
+use mathlib.Core.Bool.{true, false, true≢false}
 use mathlib.Core.List.{List}
 use Prim.Native.Nat.{ℕ, suc, _≤_, _<_}
 use native.Mathlib.Omega.{arith}
 use native.Mathlib.Decide.{decLe}
 use lib.ListN.{length}
-use borrow.Author.Tests.{le-leb, leb-false, not-false}
-use Rattle.laws.specs.Define.{allOf, refusal}
-use Rattle.laws.specs.Every.{All}
+use borrow.Author.Tests.{le-leb, leb-false}
+use Rattle.laws.specs.Define.{refusal}
 use Rattle.laws.proofs.Tests.{refusal-none}
 use Rattle.floor.specs.declared.Canister.{Canister}
 use Rattle.floor.specs.declared.Floor.{Floor}
-use Rattle.floor.specs.Settings.{total, spacing}
+use Rattle.floor.specs.Settings.{total}
 use Rattle.floor.specs.Model.{tileOf, membersOf}
 use Rattle.floor.specs.Memory.{view}
-use Rattle.floor.specs.Well.{apart, wellFormed}
+use Rattle.floor.specs.Well.{wellFormed}
 use Rattle.floor.specs.Calls.{bookingTests, bookTests}
 use Rattle.floor.proofs.Sound.{Inside}
 use Rattle.floor.proofs.Well.{inside-fact}
 use Rattle.floor.proofs.Pack.{well-sound}
 use Rattle.floor.proofs.Capacity.{full-refused, sound-small}
+use Rattle.floor.proofs.Calls.{BookPassed, book-tests-passed}
 
 module _ (f : Floor) (t : ℕ) (c : Canister) where
   -- they are the floor's tests, where the tile has what the code read
@@ -35,17 +35,17 @@ module _ (f : Floor) (t : ℕ) (c : Canister) where
 
   -- accepted
   module _ (h : refusal (bookTests (view f) t c) ≡ 0) where
-    passed : All {A = Bool × ℕ} (λ x. x .0 ≡ false) (bookTests (view f) t c)
+    passed : BookPassed (view f) t c
     unfolding bookTests
-    passed = refusal-none (bookTests (view f) t c) (omega arith) h
+    passed = book-tests-passed (view f) t c (refusal-none (bookTests (view f) t c) (omega arith) h)
 
     pub book-on : t < total (f .settings)
-    unfolding bookTests view
-    book-on = leb-false _ _ (passed .0)
+    unfolding view
+    book-on = leb-false _ _ (passed .on-floor)
 
     book-above : f .counters .last < c .number
-    unfolding bookTests view
-    book-above = leb-false _ _ (passed .1 .1 .1 .1 .1 .0)
+    unfolding view
+    book-above = leb-false _ _ (passed .above)
 
     -- the counter of bookings has room for one more
     pub book-fits : wellFormed f ≡ true → f .counters .booked < c .number
@@ -53,12 +53,8 @@ module _ (f : Floor) (t : ℕ) (c : Canister) where
     book-fits w = omega (arith, well-sound f w .booked-last, book-above)
 
     book-inside : Inside (f .settings) c
-    unfolding bookTests view
-    book-inside = inside-fact (f .settings) c .0 (not-false _ (passed .1 .1 .1 .0))
-
-    book-apart : allOf (apart (spacing (f .settings)) c) (membersOf (view f) t) ≡ true
-    unfolding bookTests view
-    book-apart = not-false _ (passed .1 .1 .1 .1 .1 .1 .0)
+    unfolding view
+    book-inside = inside-fact (f .settings) c .0 (passed .within)
 
     -- a full tile has no place for another
     pub book-room : wellFormed f ≡ true → length (membersOf (view f) t) < 16
@@ -70,4 +66,4 @@ module _ (f : Floor) (t : ℕ) (c : Canister) where
         go (no p) =
             let S = well-sound f w in
             let n : length (membersOf (view f) t) ≡ 16 = omega (arith, sound-small (view f) S t) in
-            absurd (true≢false (sym book-apart ∙ full-refused (f .settings) (S .measured) (membersOf (view f) t) c (S .inside t) (S .spaced t) n book-inside))
+            absurd (true≢false (sym (passed .room) ∙ full-refused (f .settings) (S .measured) (membersOf (view f) t) c (S .inside t) (S .spaced t) n book-inside))

@@ -7,7 +7,7 @@ use mathlib.Core.List.{List·Permᴰ, List·Permᴰ·trans, Permᴰ·refl, Perm�
 use Prim.Native.Nat.{ℕ, suc, _+_, _^_, _≤_, _<_}
 use native.Mathlib.Omega.{arith}
 use native.Mathlib.Decide.{ℕ-discrete}
-use lib.Dec.{eqb}
+use lib.Dec.{leb, ltb, eqb}
 use lib.ListN.{length, getD, set, length-set, length-append}
 use lib.Seq.{getD-set-same, getD-set-other}
 use borrow.Author.Tests.{leb-false, ltb-false, le-leb, le-ltb, eq-eqb, ne-eqb, not-false}
@@ -218,22 +218,75 @@ no-source : (s : Settings) → Measured s → (t : ℕ) → t < total s → isHo
 unfolding isHopper hoppersOf
 no-source s M = bits-each (λ t. bit (s .sources) t ≡ false) (s .hoppers) (total s) (M .no-source)
 
+-- what an accepted booking has passed, with its place and without one
+pub record BookPassed (m : Model) (t : ℕ) (c : Canister) : Type 0 where
+  pub on-floor : leb (total (m .settings)) t ≡ false
+  pub source : bit (m .settings .sources) t ≡ true
+  pub numbered : eqb (c .number) 0 ≡ false
+  pub within : inside (m .settings) c ≡ true
+  pub running : runsOf m t ≡ true
+  pub above : leb (c .number) (m .counters .last) ≡ false
+  pub room : allOf (apart (spacing (m .settings)) c) (membersOf m t) ≡ true
+
+pub record AnywherePassed (m : Model) (t number : ℕ) : Type 0 where
+  pub on-floor : leb (total (m .settings)) t ≡ false
+  pub source : bit (m .settings .sources) t ≡ true
+  pub numbered : eqb number 0 ≡ false
+  pub running : runsOf m t ≡ true
+  pub above : leb number (m .counters .last) ≡ false
+  pub place : ltb (span (m .settings)) (placeB (m .settings) (membersOf m t)) ≡ false
+
+module _ (m : Model) (t : ℕ) (c : Canister) where
+  pub book-tests-passed : Accepted (bookTests m t c) → BookPassed m t c
+  unfolding bookTests
+  book-tests-passed T =
+      record {
+        on-floor = T .0;
+        source = not-false (bit (m .settings .sources) t) (T .1 .0);
+        numbered = T .1 .1 .0;
+        within = not-false (inside (m .settings) c) (T .1 .1 .1 .0);
+        running = not-false (runsOf m t) (T .1 .1 .1 .1 .0);
+        above = T .1 .1 .1 .1 .1 .0;
+        room = not-false (allOf (apart (spacing (m .settings)) c) (membersOf m t)) (T .1 .1 .1 .1 .1 .1 .0);
+      }
+
+  pub book-tests-pass : BookPassed m t c → Accepted (bookTests m t c)
+  unfolding bookTests
+  book-tests-pass P = (P .on-floor, (ap not (P .source), (P .numbered, (ap not (P .within), (ap not (P .running), (P .above, (ap not (P .room), tt)))))))
+
+module _ (m : Model) (t number : ℕ) where
+  pub anywhere-tests-passed : Accepted (anywhereTests m t number) → AnywherePassed m t number
+  unfolding anywhereTests
+  anywhere-tests-passed T =
+      record {
+        on-floor = T .0;
+        source = not-false (bit (m .settings .sources) t) (T .1 .0);
+        numbered = T .1 .1 .0;
+        running = not-false (runsOf m t) (T .1 .1 .1 .0);
+        above = T .1 .1 .1 .1 .0;
+        place = T .1 .1 .1 .1 .1 .0;
+      }
+
+  anywhere-tests-pass : AnywherePassed m t number → Accepted (anywhereTests m t number)
+  unfolding anywhereTests
+  anywhere-tests-pass P = (P .on-floor, (ap not (P .source), (P .numbered, (ap not (P .running), (P .above, (P .place, tt))))))
+
 -- Booking. A number of 32 bits is asked for, since the counters have no more.
 pub book-keeps : (m : Model) → Sound m → (t : ℕ) (c : Canister) → Accepted (bookTests m t c) → c .number < 2 ^ 32 → Keeps m (booked m t c) (c .number ∷ []) none
-unfolding bookTests booked
+unfolding booked
 book-keeps m S t c T fit =
-    let on = leb-false (total (m .settings)) t (T .0) in
-    let new : m .counters .last < c .number = leb-false (c .number) (m .counters .last) (T .1 .1 .1 .1 .1 .0) in
-    let r : runsOf m t ≡ true = not-false (runsOf m t) (T .1 .1 .1 .1 .0) in
+    let P = book-tests-passed m t c T in
+    let on = leb-false (total (m .settings)) t (P .on-floor) in
+    let new : m .counters .last < c .number = leb-false (c .number) (m .counters .last) (P .above) in
     let n : isHopper (m .settings) t ≡ false = off (by-test (isHopper (m .settings) t)) in
-    let i = inside-fact (m .settings) c .0 (not-false (inside (m .settings) c) (T .1 .1 .1 .0)) in
-    let far = r-all (apart (spacing (m .settings)) c) (Apart (spacing (m .settings)) c) (apart-fact (spacing (m .settings)) c) (membersOf m t) .0 (not-false (allOf (apart (spacing (m .settings)) c) (membersOf m t)) (T .1 .1 .1 .1 .1 .1 .0)) in
+    let i = inside-fact (m .settings) c .0 (P .within) in
+    let far = r-all (apart (spacing (m .settings)) c) (Apart (spacing (m .settings)) c) (apart-fact (spacing (m .settings)) c) (membersOf m t) .0 (P .room) in
     let x = withMembers (tileOf m t) (insert c (membersOf m t)) in
     let k = withBooking (m .counters) (c .number) in
     let p = put-numbers m S t on x k (c .number ∷ []) (List·Permᴰ·trans (map-perm (λ c. c .number) (insert-perm c (membersOf m t))) (swap-append (c .number ∷ []) (numbers (membersOf m t)))) in
     let q = List·Permᴰ·trans (swap-append (c .number ∷ []) (numbersOn m)) (Permᴰ·symm p) in
     record {
-      well = put-sound m S t on x k n (book-fine m S t on c new r n i far)
+      well = put-sound m S t on x k n (book-fine m S t on c new (P .running) n i far)
           (all-perm (λ n. 0 < n) q (omega arith, S .positive))
           (all-perm (λ n. n ≤ c .number) q (omega arith, all-imp (λ n. n ≤ m .counters .last) (λ n. n ≤ c .number) (numbersOn m) (λ n h. omega arith) (S .below)))
           (pairs-perm (λ x y. x ≢ y) (λ x y n e. n (sym e)) q (all-imp (λ n. n ≤ m .counters .last) (λ n. c .number ≢ n) (numbersOn m) (λ n h. omega arith) (S .below), S .unique))
@@ -250,7 +303,7 @@ book-keeps m S t c T fit =
   where
     off : (isHopper (m .settings) t ≡ true) ⊎ (isHopper (m .settings) t ≡ false) → isHopper (m .settings) t ≡ false
     off (inr n) = n
-    off (inl h) = not-both (not-false (bit (m .settings .sources) t) (T .1 .0)) (no-source (m .settings) (S .measured) t (leb-false (total (m .settings)) t (T .0)) h)
+    off (inl h) = let P = book-tests-passed m t c T in not-both (P .source) (no-source (m .settings) (S .measured) t (leb-false (total (m .settings)) t (P .on-floor)) h)
 
 -- ---- a booking without a place
 -- a canister keeps the spacing where its place does, whatever its number
@@ -260,24 +313,41 @@ clear-any d number a b l = refl
 
 -- accepted, it is an accepted booking at its place
 pub anywhere-accepts : (m : Model) (t number : ℕ) → Accepted (anywhereTests m t number) → Accepted (bookTests m t (placedAt m t number))
-unfolding anywhereTests bookTests placedAt inside placeA placeB
+unfolding placedAt inside placeA placeB
 anywhere-accepts m t number T =
+    let P = anywhere-tests-passed m t number T in
     let s = m .settings in
     let l = membersOf m t in
-    let b : placeB s l ≤ span s = ltb-false (span s) (placeB s l) (T .1 .1 .1 .1 .1 .0) in
+    let b : placeB s l ≤ span s = ltb-false (span s) (placeB s l) (P .place) in
     let L = lowest-is (spacing s) (suc (span s)) l (omega arith) in
     let in-a = le-leb (placeA s l) (span s) (omega (arith, L .a-within)) in
-    (T .0, (T .1 .0, (T .1 .1 .0, (ap not (and-true in-a (le-leb (placeB s l) (span s) b)), (T .1 .1 .1 .0, (T .1 .1 .1 .1 .0, (ap not (clear-any (spacing s) number (placeA s l) (placeB s l) l ∙ L .keeps), tt)))))))
+    book-tests-pass m t (placedAt m t number) (record {
+      on-floor = P .on-floor;
+      source = P .source;
+      numbered = P .numbered;
+      within = and-true in-a (le-leb (placeB s l) (span s) b);
+      running = P .running;
+      above = P .above;
+      room = clear-any (spacing s) number (placeA s l) (placeB s l) l ∙ L .keeps;
+    })
 
 -- where a booking is accepted, one without a place is
 pub book-anywhere : (m : Model) (t : ℕ) (c : Canister) → Accepted (bookTests m t c) → Accepted (anywhereTests m t (c .number))
-unfolding anywhereTests bookTests placeB
+unfolding placeB
 book-anywhere m t c T =
+    let P = book-tests-passed m t c T in
     let s = m .settings in
     let l = membersOf m t in
-    let i = inside-fact s c .0 (not-false (inside s c) (T .1 .1 .1 .0)) in
-    let h = found (spacing s) (suc (span s)) l (c .a) (c .b) (omega (arith, i .in-a)) (omega (arith, i .in-b)) (sym (clear-any (spacing s) (c .number) (c .a) (c .b) l) ∙ not-false (allOf (apart (spacing s) c) l) (T .1 .1 .1 .1 .1 .1 .0)) in
-    (T .0, (T .1 .0, (T .1 .1 .0, (T .1 .1 .1 .1 .0, (T .1 .1 .1 .1 .1 .0, (le-ltb (span s) (placeB s l) (omega arith), tt))))))
+    let i = inside-fact s c .0 (P .within) in
+    let h = found (spacing s) (suc (span s)) l (c .a) (c .b) (omega (arith, i .in-a)) (omega (arith, i .in-b)) (sym (clear-any (spacing s) (c .number) (c .a) (c .b) l) ∙ P .room) in
+    anywhere-tests-pass m t (c .number) (record {
+      on-floor = P .on-floor;
+      source = P .source;
+      numbered = P .numbered;
+      running = P .running;
+      above = P .above;
+      place = le-ltb (span s) (placeB s l) (omega arith);
+    })
 
 pub anywhere-keeps : (m : Model) → Sound m → (t number : ℕ) → Accepted (anywhereTests m t number) → number < 2 ^ 32 → Keeps m (booked m t (placedAt m t number)) (number ∷ []) none
 unfolding placedAt

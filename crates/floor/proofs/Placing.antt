@@ -21,7 +21,7 @@ use Rattle.floor.specs.Anywhere.{clear, placeB, placeA, anywhereTests, p
 use Rattle.floor.specs.Placing.{Free, LowestPlace, OthersPass, bookedAt, Placing, PlaceFound}
 use Rattle.floor.specs.Together.{unplaced}
 use Rattle.floor.proofs.Lowest.{at, clear-fact, lowest-is, found}
-use Rattle.floor.proofs.Calls.{clear-any}
+use Rattle.floor.proofs.Calls.{anywhere-tests-passed, clear-any}
 use Rattle.floor.proofs.Forms.{accepted, booking-pos}
 
 -- ---- the place
@@ -112,19 +112,19 @@ module _ (f : Floor) (t number : ℕ) where
   number-is = refl
 
   passes : r .refusal ≡ 0 → (OthersPass f t number) × (B (view f) t ≤ U)
-  unfolding anywhereTests view
+  unfolding view
   passes h =
       let T = accepted f (anywhereTests (view f) t number) (booking-pos {t = t} (unplaced number) (view f)) (sym number-is ∙ h) in
-      let K = T .1 in (
+      let P = anywhere-tests-passed (view f) t number (T .1) in (
         record {
           well = T .0;
-          on-floor = leb-false (total (f .settings)) t (K .0);
-          fill-tile = not-false (bit (f .settings .sources) t) (K .1 .0);
-          not-zero = eqb-false number 0 (K .1 .1 .0);
-          running = not-false (runsOf (view f) t) (K .1 .1 .1 .0);
-          above-last = leb-false number (f .counters .last) (K .1 .1 .1 .1 .0);
+          on-floor = leb-false (total (f .settings)) t (P .on-floor);
+          fill-tile = P .source;
+          not-zero = eqb-false number 0 (P .numbered);
+          running = P .running;
+          above-last = leb-false number (f .counters .last) (P .above);
         },
-        ltb-false U (B (view f) t) (K .1 .1 .1 .1 .1 .0),
+        ltb-false U (B (view f) t) (P .place),
       )
 
   -- the tests but the last

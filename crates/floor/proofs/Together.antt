@@ -9,7 +9,7 @@ use native.Mathlib.Decide.{ℕ-discrete}
 use lib.Dec.{eqb}
 use lib.ListN.{set}
 use lib.Seq.{getD-set-same, getD-set-other, set-comm, set-set, set-getD}
-use borrow.Author.Tests.{leb-false, le-leb, lt-leb, eq-eqb, not-false}
+use borrow.Author.Tests.{leb-false, le-leb, lt-leb, eq-eqb}
 use Rattle.laws.specs.Define.{allOf, refusal}
 use Rattle.laws.proofs.Lists.{all-perm, all-true, true-all}
 use Rattle.laws.proofs.Tests.{by-test, not-both}
@@ -28,7 +28,7 @@ use Rattle.floor.proofs.Sound.{Sound}
 use Rattle.floor.proofs.Pack.{well-sound}
 use Rattle.floor.proofs.First.{pack-view-well}
 use Rattle.floor.proofs.Lowest.{at}
-use Rattle.floor.proofs.Calls.{Accepted, book-anywhere, stop-keeps, book-runs}
+use Rattle.floor.proofs.Calls.{Accepted, book-tests-passed, book-tests-pass, anywhere-tests-passed, book-anywhere, stop-keeps, book-runs}
 use Rattle.floor.proofs.Insertion.{insert-perm}
 use Rattle.floor.proofs.Tables.{run-on}
 use Rattle.floor.proofs.Lists.{after-both, passed}
@@ -327,8 +327,8 @@ book-passed f {t} (unplaced number) h = accepted f (anywhereTests (view f) t num
 
 -- an accepted number is above the last booked, and becomes it
 book-above : (f : Floor) {t : ℕ} {c : Call} (p : Books t c) → outcome f c .refusal ≡ 0 → f .counters .last < numberOf p
-unfolding bookTests view
-book-above f p h = omega (arith, number-is p (view f), leb-false (canisterOf p (view f) .number) (f .counters .last) (booking-accepts p (view f) (book-passed f p h .1) .1 .1 .1 .1 .1 .0))
+unfolding view
+book-above f {t} p h = omega (arith, number-is p (view f), leb-false (canisterOf p (view f) .number) (f .counters .last) (book-tests-passed (view f) t (canisterOf p (view f)) (booking-accepts p (view f) (book-passed f p h .1)) .above))
 
 book-last : (f : Floor) {t : ℕ} {c : Call} (p : Books t c) → outcome f c .refusal ≡ 0 → outcome f c .floor .counters .last ≡ numberOf p
 unfolding outcome bookAnswer anywhereAnswer answer pack build booked placedAt numberOf
@@ -390,12 +390,20 @@ module _ (f : Floor) (t u : ℕ) (c e : Call) (p : Books t c) (q : Books u e) (h
           ap (λ i. allOf far (membersOf (view f) i)) r ∙ true-all far (membersOf (view f) t) (all .1)
 
   Ad′ : Accepted (bookTests (view f) u d)
-  unfolding bookTests booked
+  unfolding booked
   Ad′ =
-      let r : runsOf (view f) u ≡ true = sym (book-runs (view f) S t b Ab u) ∙ not-false (runsOf (booked (view f) t b) u) (Ad .1 .1 .1 .1 .0) in
-      let far = fewer (not-false _ (Ad .1 .1 .1 .1 .1 .1 .0)) in
-      let last : view f .counters .last < d .number = omega (arith, number-is p (view f), number-is q (booked (view f) t b), leb-false (b .number) (view f .counters .last) (Ab .1 .1 .1 .1 .1 .0), rises f p q h) in
-      (Ad .0, (Ad .1 .0, (Ad .1 .1 .0, (Ad .1 .1 .1 .0, (rw r, (lt-leb (d .number) (view f .counters .last) last, (rw far, tt)))))))
+      let B = book-tests-passed (view f) t b Ab in
+      let D = book-tests-passed (booked (view f) t b) u d Ad in
+      let last : view f .counters .last < d .number = omega (arith, number-is p (view f), number-is q (booked (view f) t b), leb-false (b .number) (view f .counters .last) (B .above), rises f p q h) in
+      book-tests-pass (view f) u d (record {
+        on-floor = D .on-floor;
+        source = D .source;
+        numbered = D .numbered;
+        within = D .within;
+        running = sym (book-runs (view f) S t b Ab u) ∙ D .running;
+        above = lt-leb (d .number) (view f .counters .last) last;
+        room = fewer (D .room);
+      })
 
   -- so it is accepted first
   Aq : Accepted (bookTestsOf q (view f))
@@ -422,8 +430,11 @@ module _ (f : Floor) (t u : ℕ) (c e : Call) (p : Books t c) (q : Books u e) (h
 
       go : {c : Call} (p : Books t c) → Accepted (bookTestsOf p (view f)) → numberOf p < numberOf q → refusal (bookTestsOf p (booked (view f) u x)) ≡ 33
       go (placed y) A k =
-          rw (A .0, A .1 .0, A .1 .1 .0, A .1 .1 .1 .0, runs-still (not-false (runsOf (view f) t) (A .1 .1 .1 .1 .0)), le-leb (y .number) (x .number) (omega (arith, number-is q (view f))))
-      go (unplaced number) A k = rw (A .0, A .1 .0, A .1 .1 .0, runs-still (not-false (runsOf (view f) t) (A .1 .1 .1 .0)), le-leb number (x .number) (omega (arith, number-is q (view f))))
+          let P = book-tests-passed (view f) t y A in
+          rw (P .on-floor, P .source, P .numbered, P .within, runs-still (P .running), le-leb (y .number) (x .number) (omega (arith, number-is q (view f))))
+      go (unplaced number) A k =
+          let P = anywhere-tests-passed (view f) t number A in
+          rw (P .on-floor, P .source, P .numbered, runs-still (P .running), le-leb number (x .number) (omega (arith, number-is q (view f))))
 
   other-order : (outcome f e .refusal ≡ 0) × (outcome (outcome f e .floor) c .refusal ≡ 33)
   other-order =
