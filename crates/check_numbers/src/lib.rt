@@ -10,13 +10,20 @@ const REMAINDERS: u32 = 2039;
 // How many comparisons the chains may take: eight for each place.
 const STEPS: u32 = 8192;
 
+// What the chains tell: two numbers are equal, all differ, or the steps ran out.
+const EQUAL: u8 = 0;
+
+const DIFFERENT: u8 = 1;
+
+const UNKNOWN: u8 = 2;
+
 fn wide(x: u16) -> usize
     ensures { λ r. ⌜ r ≡ x ⌝ }
 {
     x as usize
 }
 
-// 1 where all numbers differ, 0 where two are equal, 2 where the steps ran out. heads[h] is 1 + the last place so far whose
+// EQUAL, DIFFERENT or UNKNOWN. heads[h] is 1 + the last place so far whose
 // number has the remainder h, prev[i] is 1 + the last one before place i with i's remainder; 0 where there is none.
 fn chained(keys: [u32; 1024]) -> u8
     requires { ⌜ Runs keys ⌝ }
@@ -37,10 +44,10 @@ fn chained(keys: [u32; 1024]) -> u8
             while 0 < p {
                 let q = p - 1;
                 if keys[q] == n {
-                    return 0;
+                    return EQUAL;
                 }
                 if left == 0 {
-                    return 2;
+                    return UNKNOWN;
                 }
                 left -= 1;
                 let before = prev[q];
@@ -51,7 +58,7 @@ fn chained(keys: [u32; 1024]) -> u8
             i += 1;
         }
     }
-    1
+    DIFFERENT
 }
 
 // By chains; where they are too long, in order.
@@ -60,10 +67,10 @@ pub fn numbers_differ(keys: [u32; 1024]) -> bool
     ensures { λ r. ⌜ r ≡ differ keys ⌝ }
 {
     let told = chained(keys);
-    if told == 0 {
+    if told == EQUAL {
         return false;
     }
-    if told == 1 {
+    if told == DIFFERENT {
         return true;
     }
     all_differ(keys)

@@ -41,7 +41,7 @@ pub fn follow(records: [Throughput; 4], deliveries: [Delivery; 4]) -> Followed
     let next = [first, second, third, fourth];
     Followed {
         records: next,
-        closed: told.kind == 2,
+        closed: told.kind == throughput::FED_CLOSED,
     }
 }
 

@@ -29,6 +29,14 @@ pub struct Takings {
     pub found: u8,
 }
 
+impl Takings {
+    // None was found yet.
+    pub const ZERO: Takings = Takings {
+        deliveries: [Delivery::ZERO; 4],
+        found: 0,
+    };
+}
+
 // The number where there is one, else 0.
 pub fn known(on: bool, n: u8) -> u8
     ensures { λ r. ⌜ r ≡ cond on n 0 ⌝ }

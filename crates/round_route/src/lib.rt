@@ -110,6 +110,7 @@ fn route_tile(s: Settings, t: usize, tile: Tile, west: u8, south: u8, north: u8,
     if still {
         return tile;
     }
+    // C in a byte, for [5]
     let all = s.columns * s.rows;
     let own = tile.next;
     let near = kept(own, west, south, north, east);
@@ -131,7 +132,7 @@ fn distances(s: Settings, tiles: [Tile; 64]) -> [u8; 65]
     ensures { λ r. ⌜ Upto 65 (within (total s) (distanceIn tiles) 255) 0 r ⌝ }
 {
     let all = s.tile_count();
-    let mut d = [255u8; 65];
+    let mut d = [DISTANCE_NONE; 65];
     for t in 0usize..all {
         let tile = tiles[t];
         d[t] = tile.distance;

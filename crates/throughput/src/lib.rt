@@ -36,7 +36,14 @@ pub struct Feeding {
     pub fed: Fed,
 }
 
-// The same for C and Rust: kind 0 refused, 1 open with its rounds, 2 closed with its rate; what a kind does not have is 0.
+// The kinds of an answer for C and Rust: refused, open with its rounds, closed with its rate.
+pub const FED_REFUSED: u8 = 0;
+
+pub const FED_OPEN: u8 = 1;
+
+pub const FED_CLOSED: u8 = 2;
+
+// The same for C and Rust; what a kind does not have is 0.
 #[repr(C)]
 pub struct Told {
     pub throughput: Throughput,
@@ -215,21 +222,21 @@ fn tell(feeding: Feeding) -> Told
             throughput: throughput,
             rate: 0.0,
             rounds: k,
-            kind: 1,
+            kind: FED_OPEN,
             refusal: 0,
         },
         Fed::Closed(x) => Told {
             throughput: throughput,
             rate: x,
             rounds: 0,
-            kind: 2,
+            kind: FED_CLOSED,
             refusal: 0,
         },
         Fed::Refused(n) => Told {
             throughput: throughput,
             rate: 0.0,
             rounds: 0,
-            kind: 0,
+            kind: FED_REFUSED,
             refusal: n,
         },
     }
