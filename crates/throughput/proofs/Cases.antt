@@ -38,18 +38,18 @@ rec last least greatest rounds deliveries closed =
     record { last = ofBits binary64 last; least = ofBits binary64 least; greatest = ofBits binary64 greatest; rounds = rounds; deliveries = deliveries; closed = closed }
 
 -- the record's three rates, its open window and its flag
-unfoldable pub held : Throughput → List ℕ
+unfoldable pub bitsOf : Throughput → List ℕ
 unfolding toBits
-held t = toBits binary64 (t .last) ∷ toBits binary64 (t .least) ∷ toBits binary64 (t .greatest) ∷ t .rounds ∷ t .deliveries ∷ t .closed ∷ []
+bitsOf t = toBits binary64 (t .last) ∷ toBits binary64 (t .least) ∷ toBits binary64 (t .greatest) ∷ t .rounds ∷ t .deliveries ∷ t .closed ∷ []
 
 -- refusal, kind, rounds and rate, then the record
 unfoldable pub fed : Throughput → ℕ → List ℕ
-unfolding held toBits feedTold toldOf feedAnswer feedRefusal refusal recordSound ratesSound rateSound ratesInOrder le lt eq opened closedBy lower higher rateOf div ofInt ofBits
-fed t n = let a = feedTold t n in a .refusal ∷ a .kind ∷ a .rounds ∷ toBits binary64 (a .rate) ∷ held (a .throughput)
+unfolding bitsOf toBits feedTold toldOf feedAnswer feedRefusal refusal recordSound ratesSound rateSound ratesInOrder le lt eq opened closedBy lower higher rateOf div ofInt ofBits
+fed t n = let a = feedTold t n in a .refusal ∷ a .kind ∷ a .rounds ∷ toBits binary64 (a .rate) ∷ bitsOf (a .throughput)
 
 -- refused by k, and the record as it came
 unfoldable pub refused : ℕ → Throughput → List ℕ
-refused k t = k ∷ 0 ∷ 0 ∷ 0 ∷ held t
+refused k t = k ∷ 0 ∷ 0 ∷ 0 ∷ bitsOf t
 
 unfoldable pub table : List (List ℕ × List ℕ)
 table =
@@ -87,8 +87,8 @@ table =
     ∷ (fed (rec one one one 0 0 0) 0, refused 30 (rec one one one 0 0 0))
     ∷ (fed (rec 0 0 part 0 0 0) 0, refused 30 (rec 0 0 part 0 0 0))
     -- whole lists: 256 rounds with one each, then 256 with none, and refused counts between them
-    ∷ (held (feedAll zeroThroughput (replicate 256 1)), one ∷ one ∷ one ∷ 0 ∷ 0 ∷ 1 ∷ [])
-    ∷ (held (feedAll zeroThroughput (replicate 256 4 ++ (7 ∷ replicate 256 0) ++ (9 ∷ 3 ∷ []))), 0 ∷ 0 ∷ four ∷ 1 ∷ 3 ∷ 1 ∷ [])
+    ∷ (bitsOf (feedAll zeroThroughput (replicate 256 1)), one ∷ one ∷ one ∷ 0 ∷ 0 ∷ 1 ∷ [])
+    ∷ (bitsOf (feedAll zeroThroughput (replicate 256 4 ++ (7 ∷ replicate 256 0) ++ (9 ∷ 3 ∷ []))), 0 ∷ 0 ∷ four ∷ 1 ∷ 3 ∷ 1 ∷ [])
     ∷ []
 
 -- what is no rate is 30 in each of the three places
@@ -99,9 +99,9 @@ wrong x =
     && same (fed (rec 0 0 x 0 0 1) 0) (refused 30 (rec 0 0 x 0 0 1)))
 
 pub cases : allOf (λ r. same (r .0) (r .1)) table ≡ true
-unfolding allOf same table fed held refused rec zeroThroughput feedAll
+unfolding allOf same table fed bitsOf refused rec zeroThroughput feedAll
 cases = refl
 
 pub no-rates : allOf wrong wrongs ≡ true
-unfolding allOf wrong same fed held refused rec
+unfolding allOf wrong same fed bitsOf refused rec
 no-rates = refl

@@ -15,7 +15,7 @@ use Rattle.throughput.specs.Feeds.{Held64}
 use Rattle.throughput.proofs.Exact.{rate-fits, sound-rate}
 use Rattle.throughput.proofs.Order.{rate-lower, rate-higher}
 use Rattle.throughput.proofs.Answers.{sound-window, told-many, told-open, told-close}
-use Rattle.throughput.proofs.Records.{held-sound}
+use Rattle.throughput.proofs.Records.{closed-sound}
 
 abbrev Kept : Throughput → Type 0
 Kept r = Held64 r × (recordSound r ≡ true)
@@ -43,7 +43,7 @@ close-keeps r m h f s = go (by-test (eqb (r .closed) 0))
     both = let e = and-right (rateSound (r .last)) (rateSound (r .least) && rateSound (r .greatest)) three in (and-left (rateSound (r .least)) (rateSound (r .greatest)) e, and-right (rateSound (r .least)) (rateSound (r .greatest)) e)
 
     go : (eqb (r .closed) 0 ≡ true) ⊎ (eqb (r .closed) 0 ≡ false) → Kept (closedBy r (rateOf m))
-    go (inl e) = rw e ((rate-fits m, rate-fits m, rate-fits m), held-sound m m m 0 0 (omega arith, omega arith, h) (omega arith, omega arith))
+    go (inl e) = rw e ((rate-fits m, rate-fits m, rate-fits m), closed-sound m m m 0 0 (omega arith, omega arith, h) (omega arith, omega arith))
     go (inr e) =
         let a = sound-rate (r .least) (f .1) (both .0) in
         let g = sound-rate (r .greatest) (f .2) (both .1) in
@@ -51,7 +51,7 @@ close-keeps r m h f s = go (by-test (eqb (r .closed) 0))
         let q = g .1 in
         let l : lower (r .least) (rateOf m) ≡ rateOf (min (a .0) m) = ap (λ (x : Float). lower x (rateOf m)) (a .2) ∙ rate-lower (a .0) m p h in
         let u : higher (r .greatest) (rateOf m) ≡ rateOf (max (g .0) m) = ap (λ (x : Float). higher x (rateOf m)) (g .2) ∙ rate-higher (g .0) m q h in
-        rw (e, l, u) ((rate-fits m, rate-fits (min (a .0) m), rate-fits (max (g .0) m)), held-sound m (min (a .0) m) (max (g .0) m) 0 0 (omega arith, omega arith, omega (arith, q, h)) (omega arith, omega arith))
+        rw (e, l, u) ((rate-fits m, rate-fits (min (a .0) m), rate-fits (max (g .0) m)), closed-sound m (min (a .0) m) (max (g .0) m) 0 0 (omega arith, omega arith, omega (arith, q, h)) (omega arith, omega arith))
 
 pub feed-keeps : (r : Throughput) (n : ℕ) → Held64 r → recordSound r ≡ true → Kept (feedTold r n .throughput)
 feed-keeps r n f s = go (by-test (ltb 4 n)) (by-test (ltb (r .rounds + 1) 256))

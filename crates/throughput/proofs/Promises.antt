@@ -19,7 +19,7 @@ use Rattle.throughput.specs.declared.Throughput.{Throughput}
 use Rattle.throughput.specs.declared.Told.{Told}
 use Rattle.throughput.specs.Rate.{rateOf, rateSound, deliveriesOf}
 use Rattle.throughput.specs.Window.{zero64, ratesSound, ratesInOrder, recordSound, closedBy, feedTold}
-use Rattle.throughput.specs.Lists.{zeroThroughput, feedAll, ratesTold, counted, windows, openRounds, openDeliveries, lastOf, leastOf, greatestOf, recordOf}
+use Rattle.throughput.specs.Lists.{zeroThroughput, feedAll, ratesTold, counted, windows, openRounds, openDeliveries, lastOf, leastOf, greatestOf, recordAfter}
 use Rattle.throughput.specs.Feeds.{IsRate, Held64, SoundRecord, SoundIs, Opens, Closes, FeedIs, Feeds}
 use Rattle.throughput.proofs.Exact.{cut as cut-back, rate-exact, rate-fits, value-sound, sound-value, sound-rate, times}
 use Rattle.throughput.proofs.Answers.{sound-window, told-unsound, told-many, told-open, told-close, refused-nothing}
@@ -167,8 +167,8 @@ zero-start : zeroThroughput ≡ start 0 0
 unfolding zeroThroughput
 zero-start = refl
 
-record-held : (ws : List ℕ) (k s : ℕ) → Held64 (recordOf ws k s)
-unfolding recordOf fits
+record-held : (ws : List ℕ) (k s : ℕ) → Held64 (recordAfter ws k s)
+unfolding recordAfter fits
 record-held [] k s = (tt, tt, tt)
 record-held (w ∷ ws) k s = (rate-fits (lastOf w ws), rate-fits (leastOf w ws), rate-fits (greatestOf w ws))
 
@@ -180,7 +180,7 @@ feeds l =
     let c = cut m in
     let k = refused-nothing zeroThroughput l in
     let z : feedAll zeroThroughput l ≡ feedAll (start 0 0) m = k .0 ∙ ap (λ (t : Throughput). feedAll t m) zero-start in
-    let e : feedAll zeroThroughput l ≡ recordOf (windows m) (openRounds m) (openDeliveries m) = z ∙ s .0 ∙ (λ i. recordOf (c .0 i) (c .1 i) (c .2 i)) in
+    let e : feedAll zeroThroughput l ≡ recordAfter (windows m) (openRounds m) (openDeliveries m) = z ∙ s .0 ∙ (λ i. recordAfter (c .0 i) (c .1 i) (c .2 i)) in
     record {
       after = e;
       sound = sound-facts (feedAll zeroThroughput l) (subst Held64 (sym e) (record-held (windows m) (openRounds m) (openDeliveries m))) (ap recordSound z ∙ s .2);

@@ -13,7 +13,7 @@ use Rattle.laws.proofs.Tests.{by-test}
 use Rattle.throughput.specs.declared.Throughput.{Throughput}
 use Rattle.throughput.specs.Rate.{rateOf, rateSound}
 use Rattle.throughput.specs.Window.{ratesSound, ratesInOrder, recordSound, opened, closedBy, zero64}
-use Rattle.throughput.specs.Lists.{feedAll, ratesTold, lastOf, leastOf, greatestOf, held, recordOf}
+use Rattle.throughput.specs.Lists.{feedAll, ratesTold, lastOf, leastOf, greatestOf, closedRecord, recordAfter}
 use Rattle.throughput.proofs.Answers.{told-open, told-close}
 use Rattle.throughput.proofs.Order.{rate-le, rate-is-sound, rate-lower, rate-higher}
 use Rattle.throughput.proofs.Windows.{cuts, leftRounds, leftDeliveries}
@@ -37,9 +37,9 @@ pub start-sound : (k s : ℕ) → Window k s → recordSound (start k s) ≡ tru
 unfolding recordSound
 start-sound k s w = rw (lt-ltb k 256 (w .0), le-leb s (4 * k) (w .1)) zeros-sound
 
-pub held-sound : (z a g k s : ℕ) → Three z a g → Window k s → recordSound (held z a g k s) ≡ true
+pub closed-sound : (z a g k s : ℕ) → Three z a g → Window k s → recordSound (closedRecord z a g k s) ≡ true
 unfolding recordSound ratesSound ratesInOrder
-held-sound z a g k s t w =
+closed-sound z a g k s t w =
     rw (
       lt-ltb k 256 (w .0),
       le-leb s (4 * k) (w .1),
@@ -52,13 +52,13 @@ held-sound z a g k s t w =
     refl
 
 -- ---- closing
-start-close : (k s n : ℕ) → closedBy (start k s) (rateOf n) ≡ held n n n 0 0
+start-close : (k s n : ℕ) → closedBy (start k s) (rateOf n) ≡ closedRecord n n n 0 0
 unfolding closedBy
 start-close k s n = refl
 
-held-close : (z a g k s n : ℕ) → Three z a g → n ≤ 1024 → closedBy (held z a g k s) (rateOf n) ≡ held n (min a n) (max g n) 0 0
+closed-close : (z a g k s n : ℕ) → Three z a g → n ≤ 1024 → closedBy (closedRecord z a g k s) (rateOf n) ≡ closedRecord n (min a n) (max g n) 0 0
 unfolding closedBy
-held-close z a g k s n t h = rw (rate-lower a n (omega (arith, t .0, t .1, t .2)) h, rate-higher g n (t .2) h) refl
+closed-close z a g k s n t h = rw (rate-lower a n (omega (arith, t .0, t .1, t .2)) h, rate-higher g n (t .2) h) refl
 
 three-next : (z a g n : ℕ) → Three z a g → n ≤ 1024 → Three n (min a n) (max g n)
 three-next z a g n t h = let t2 = t .2 in (omega arith, omega arith, omega arith)
@@ -66,19 +66,19 @@ three-next z a g n t h = let t2 = t .2 in (omega arith, omega arith, omega arith
 -- ---- after the first close: the record after the list, and the rates told
 abbrev Held : List ℕ → ℕ → ℕ → ℕ → ℕ → ℕ → Type 0
 Held l z a g k s =
-    (feedAll (held z a g k s) l ≡ held (lastOf z (cuts k s l)) (leastOf a (cuts k s l)) (greatestOf g (cuts k s l)) (leftRounds k l) (leftDeliveries k s l))
-    × (ratesTold (held z a g k s) l ≡ map rateOf (cuts k s l))
-    × (recordSound (feedAll (held z a g k s) l) ≡ true)
+    (feedAll (closedRecord z a g k s) l ≡ closedRecord (lastOf z (cuts k s l)) (leastOf a (cuts k s l)) (greatestOf g (cuts k s l)) (leftRounds k l) (leftDeliveries k s l))
+    × (ratesTold (closedRecord z a g k s) l ≡ map rateOf (cuts k s l))
+    × (recordSound (feedAll (closedRecord z a g k s) l) ≡ true)
 
 held-step : (n : ℕ) (l : List ℕ) → n ≤ 4 → ((z a g k s : ℕ) → Three z a g → Window k s → Held l z a g k s) → (z a g k s : ℕ) → Three z a g → Window k s → Held (n ∷ l) z a g k s
 unfolding feedAll ratesTold cuts lastOf leastOf greatestOf leftRounds leftDeliveries opened
 held-step n l c ih z a g k s t w = go (by-test (ltb (k + 1) 256))
   where
     r : Throughput
-    r = held z a g k s
+    r = closedRecord z a g k s
 
     good : recordSound r ≡ true
-    good = held-sound z a g k s t w
+    good = closed-sound z a g k s t w
 
     go : (ltb (k + 1) 256 ≡ true) ⊎ (ltb (k + 1) 256 ≡ false) → Held (n ∷ l) z a g k s
     go (inl y) =
@@ -88,22 +88,22 @@ held-step n l c ih z a g k s t w = go (by-test (ltb (k + 1) 256))
         let d = ltb-false (k + 1) 256 y in
         let e : s + n ≤ 1024 = omega (arith, w .0, w .1) in
         let i = ih (s + n) (min a (s + n)) (max g (s + n)) 0 0 (three-next z a g (s + n) t e) (omega arith, omega arith) in
-        rw (told-close r n good c (omega arith), y, held-close z a g k s (s + n) t e) (i .0, ap (λ (x : List Float). rateOf (s + n) ∷ x) (i .1), i .2)
+        rw (told-close r n good c (omega arith), y, closed-close z a g k s (s + n) t e) (i .0, ap (λ (x : List Float). rateOf (s + n) ∷ x) (i .1), i .2)
 
 feeds-held : (l : List ℕ) → All (λ n. n ≤ 4) l → (z a g k s : ℕ) → Three z a g → Window k s → Held l z a g k s
 unfolding feedAll ratesTold cuts lastOf leastOf greatestOf leftRounds leftDeliveries
-feeds-held [] h z a g k s t w = (refl, refl, held-sound z a g k s t w)
+feeds-held [] h z a g k s t w = (refl, refl, closed-sound z a g k s t w)
 feeds-held (n ∷ l) h z a g k s t w = held-step n l (h .0) (feeds-held l (h .1)) z a g k s t w
 
 -- ---- before it
 abbrev pub Start : List ℕ → ℕ → ℕ → Type 0
 Start l k s =
-    (feedAll (start k s) l ≡ recordOf (cuts k s l) (leftRounds k l) (leftDeliveries k s l))
+    (feedAll (start k s) l ≡ recordAfter (cuts k s l) (leftRounds k l) (leftDeliveries k s l))
     × (ratesTold (start k s) l ≡ map rateOf (cuts k s l))
     × (recordSound (feedAll (start k s) l) ≡ true)
 
 start-step : (n : ℕ) (l : List ℕ) → n ≤ 4 → All (λ m. m ≤ 4) l → ((k s : ℕ) → Window k s → Start l k s) → (k s : ℕ) → Window k s → Start (n ∷ l) k s
-unfolding feedAll ratesTold cuts recordOf leftRounds leftDeliveries opened
+unfolding feedAll ratesTold cuts recordAfter leftRounds leftDeliveries opened
 start-step n l c h ih k s w = go (by-test (ltb (k + 1) 256))
   where
     r : Throughput
@@ -123,6 +123,6 @@ start-step n l c h ih k s w = go (by-test (ltb (k + 1) 256))
         rw (told-close r n good c (omega arith), y, start-close k s (s + n)) (i .0, ap (λ (x : List Float). rateOf (s + n) ∷ x) (i .1), i .2)
 
 pub feeds-start : (l : List ℕ) → All (λ n. n ≤ 4) l → (k s : ℕ) → Window k s → Start l k s
-unfolding feedAll ratesTold cuts recordOf leftRounds leftDeliveries
+unfolding feedAll ratesTold cuts recordAfter leftRounds leftDeliveries
 feeds-start [] h k s w = (refl, refl, start-sound k s w)
 feeds-start (n ∷ l) h k s w = start-step n l (h .0) (h .1) (feeds-start l (h .1)) k s w

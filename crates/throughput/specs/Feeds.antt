@@ -14,7 +14,7 @@ use Rattle.throughput.specs.declared.Throughput.{Throughput}
 use Rattle.throughput.specs.declared.Told.{Told}
 use Rattle.throughput.specs.Rate.{perWindow, rateOf}
 use Rattle.throughput.specs.Window.{zero64, recordSound, opened, lower, higher, feedTold}
-use Rattle.throughput.specs.Lists.{zeroThroughput, feedAll, ratesTold, counted, windows, openRounds, openDeliveries, recordOf}
+use Rattle.throughput.specs.Lists.{zeroThroughput, feedAll, ratesTold, counted, windows, openRounds, openDeliveries, recordAfter}
 
 -- "The rate times 256 is the deliveries exactly, and lies between 0 and 1,024": x is an f64 and n its whole number of deliveries
 pub record IsRate (x : Float) (n : ℕ) : Type 0 where
@@ -80,7 +80,7 @@ RefusedNothing = (t : Throughput) (l : List ℕ) → (feedAll t l ≡ feedAll t 
 
 -- any list of counts l, fed to the all-zero record
 pub record ListPromises (l : List ℕ) : Type 0 where
-  pub after : feedAll zeroThroughput l ≡ recordOf (windows (counted l)) (openRounds (counted l)) (openDeliveries (counted l))
+  pub after : feedAll zeroThroughput l ≡ recordAfter (windows (counted l)) (openRounds (counted l)) (openDeliveries (counted l))
   pub sound : SoundRecord (feedAll zeroThroughput l)
   -- the k-th closed rate is that of the k-th window
   pub told : ratesTold zeroThroughput l ≡ map rateOf (windows (counted l))

@@ -60,10 +60,10 @@ greatestOf x [] = x
 greatestOf x (w ∷ ws) = greatestOf (max x w) ws
 
 -- the record of closed windows with these last, least and greatest deliveries, and an open one of k rounds with s
-abbrev pub held : ℕ → ℕ → ℕ → ℕ → ℕ → Throughput
-held z a g k s = record { last = rateOf z; least = rateOf a; greatest = rateOf g; rounds = k; deliveries = s; closed = 1 }
+abbrev pub closedRecord : ℕ → ℕ → ℕ → ℕ → ℕ → Throughput
+closedRecord z a g k s = record { last = rateOf z; least = rateOf a; greatest = rateOf g; rounds = k; deliveries = s; closed = 1 }
 
 -- the record that the closed windows ws and an open one make; "before that all three are 0"
-unfoldable pub recordOf : List ℕ → ℕ → ℕ → Throughput
-recordOf [] k s = record { last = zero64; least = zero64; greatest = zero64; rounds = k; deliveries = s; closed = 0 }
-recordOf (w ∷ ws) k s = held (lastOf w ws) (leastOf w ws) (greatestOf w ws) k s
+unfoldable pub recordAfter : List ℕ → ℕ → ℕ → Throughput
+recordAfter [] k s = record { last = zero64; least = zero64; greatest = zero64; rounds = k; deliveries = s; closed = 0 }
+recordAfter (w ∷ ws) k s = closedRecord (lastOf w ws) (leastOf w ws) (greatestOf w ws) k s

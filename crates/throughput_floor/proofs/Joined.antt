@@ -26,7 +26,7 @@ use Rattle.floor.proofs.Deliveries.{delivered-few}
 use Rattle.floor.proofs.Lists.{report-at, round-report, listed-all}
 use Rattle.floor.proofs.Theorem.{demand3}
 use Rattle.throughput.specs.Rate.{rateOf}
-use Rattle.throughput.specs.Lists.{counted, windows, openRounds, openDeliveries, recordOf}
+use Rattle.throughput.specs.Lists.{counted, windows, openRounds, openDeliveries, recordAfter}
 use Rattle.throughput.proofs.Promises.{feeds}
 use Rattle.throughput_floor.specs.Rounds.{countOf, countsIn, Joined}
 
@@ -100,7 +100,7 @@ joined f w cs t k =
       are-counts = refl;
       rounds = a .1;
       few = a .0;
-      after = p .after ∙ ap (λ (m : List ℕ). recordOf (windows m) (openRounds m) (openDeliveries m)) e;
+      after = p .after ∙ ap (λ (m : List ℕ). recordAfter (windows m) (openRounds m) (openDeliveries m)) e;
       told = p .told ∙ ap (λ (m : List ℕ). map rateOf (windows m)) e;
       rose = ap (λ (g : Floor). getD (g .counters .delivered) k 0) (sym (d .is-now)) ∙ d .delivered k ∙ ap (λ (n : ℕ). getD (f .counters .delivered) k 0 + n) (sym total);
     }

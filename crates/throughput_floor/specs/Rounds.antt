@@ -12,7 +12,7 @@ use Rattle.floor.specs.Well.{wellFormed}
 use Rattle.floor.specs.Calls.{noDelivery, roundAnswer}
 use Rattle.floor.specs.Demand3.{Call, book, anywhere, stop, repair, round, keep, forget, recall, Typed, outcome, floorAfter, roundsIn}
 use Rattle.throughput.specs.Rate.{rateOf}
-use Rattle.throughput.specs.Lists.{zeroThroughput, feedAll, ratesTold, windows, openRounds, openDeliveries, recordOf}
+use Rattle.throughput.specs.Lists.{zeroThroughput, feedAll, ratesTold, windows, openRounds, openDeliveries, recordAfter}
 
 -- a report's delivered count for hopper k, the hoppers in tile order from 0 on
 abbrev pub countAt : Report → ℕ → ℕ
@@ -40,7 +40,7 @@ pub record Follows (f : Floor) (cs : List Call) (k : ℕ) : Type 0 where
   -- one for each round, and none is refused
   pub rounds : length counts ≡ roundsIn cs
   pub few : All (λ n. n ≤ 4) counts
-  pub after : feedAll zeroThroughput counts ≡ recordOf (windows counts) (openRounds counts) (openDeliveries counts)
+  pub after : feedAll zeroThroughput counts ≡ recordAfter (windows counts) (openRounds counts) (openDeliveries counts)
   pub told : ratesTold zeroThroughput counts ≡ map rateOf (windows counts)
   -- the closed windows and the open one have what the hopper's delivered counter rose by
   pub rose : getD (floorAfter f cs .counters .delivered) k 0 ≡ getD (f .counters .delivered) k 0 + (sum (windows counts) + openDeliveries counts)
