@@ -39,7 +39,7 @@ module _ (s : List ℕ) (at : ℕ) where
   unfolding settingsIn oneTile
   tile-code h = rw (field-in (settingsWidths false) 2 at s (omega arith), le-one s (at + 2) (omega arith))
 
-  pub settings-code : (n : ℕ) (b : Bool) → eqb n 28 ≡ b → at + 20 ≤ length s
+  settings-code : (n : ℕ) (b : Bool) → eqb n 28 ≡ b → at + 20 ≤ length s
       → settingsIn n (drop at s) ≡ record { columns = getD s at 0; rows = getD s (at + 1) 0; hoppers = settingsIn n (drop at s) .hoppers; sources = le 8 (drop (at + 12) s); width = le 2 (drop (at + 4) s); length = le 2 (drop (at + 6) s); gap = le 2 (drop (at + 8) s); travel = le 2 (drop (at + 10) s) }
   unfolding settingsIn
   settings-code n true e h =
@@ -70,6 +70,12 @@ module _ (s : List ℕ) (at : ℕ) where
         le-one s at (omega arith),
         le-one s (at + 1) (omega arith),
       )
+
+  -- the settings that the code makes
+  pub settings-made : (n : ℕ) → at + 20 ≤ length s → (h w l g v k : ℕ) → h ≡ settingsIn n (drop at s) .hoppers → w ≡ le 2 (drop (at + 4) s) → l ≡ le 2 (drop (at + 6) s) → g ≡ le 2 (drop (at + 8) s) → v ≡ le 2 (drop (at + 10) s) → k ≡ le 8 (drop (at + 12) s)
+      → record { columns = getD s at 0; rows = getD s (at + 1) 0; hoppers = h; sources = k; width = w; length = l; gap = g; travel = v } ≡ settingsIn n (drop at s)
+  settings-made n r h w l g v k eh ew el eg ev ek =
+      (λ i. record { columns = getD s at 0; rows = getD s (at + 1) 0; hoppers = eh i; sources = ek i; width = ew i; length = el i; gap = eg i; travel = ev i }) ∙ sym (settings-code n (eqb n 28) refl r)
 
 three-tests : {a b c : Bool} {z : ℕ} → a ≡ true → z ≡ 0 → b ≡ c → (l : List (Bool × ℕ)) → refusal ((not a, 11) ∷ (not (eqb z 0), 11) ∷ (b, 11) ∷ l) ≡ cond c 11 (refusal l)
 unfolding refusal
@@ -129,33 +135,49 @@ module _ (s : List ℕ) (at n : ℕ) where
   byte-is r true e = rw (e, field-in (settingsWidths true) 2 at s (omega arith), le-one s (at + 2) (omega arith))
   byte-is r false e = rw e
 
-  module _ (r : at + n ≤ length s) (h : (n ≡ 20) ⊎ (n ≡ 28)) (r20 : at + 20 ≤ length s) where
+  module _ (h : (n ≡ 20) ⊎ (n ≡ 28)) (r20 : at + 20 ≤ length s) where
     pub settings-byte : getD s (at + 3) 0 ≢ 0 → 11 ≡ refusal (settingsFaults n (drop at s))
     unfolding refusal settingsFaults
     settings-byte e = rw (right-long h, zero-byte (eqb n 28) r20, ne-eqb (getD s (at + 3) 0) 0 e)
 
-    module _ (z : getD s (at + 3) 0 ≡ 0) where
-      tests-left : refusal (settingsFaults n (drop at s)) ≡ cond (eqb n 28 && (not (eqb (x .hoppers) 0) && not (eqb (getD s (at + 2) 0) (lowest (x .hoppers))))) 11 (refusal (sizeTests x ((eqb n 28 && ltb (hopperCount x) 2, 2) ∷ setTests x (measureTests x))))
-      unfolding settingsFaults
-      tests-left = three-tests (right-long h) (zero-byte (eqb n 28) r20 ∙ z) (byte-is r20 (eqb n 28) refl) _
+    tests-left : getD s (at + 3) 0 ≡ 0 → refusal (settingsFaults n (drop at s)) ≡ cond (eqb n 28 && (not (eqb (x .hoppers) 0) && not (eqb (getD s (at + 2) 0) (lowest (x .hoppers))))) 11 (refusal (sizeTests x ((eqb n 28 && ltb (hopperCount x) 2, 2) ∷ setTests x (measureTests x))))
+    unfolding settingsFaults
+    tests-left z = three-tests (right-long h) (zero-byte (eqb n 28) r20 ∙ z) (byte-is r20 (eqb n 28) refl) _
 
-      pub settings-lowest : (eqb n 28 && (not (eqb (x .hoppers) 0) && not (eqb (getD s (at + 2) 0) (lowest (x .hoppers))))) ≡ true → 11 ≡ refusal (settingsFaults n (drop at s))
-      settings-lowest e = sym (tests-left ∙ rw e)
+-- what was read so far: the settings, and whether the hopper byte is wrong
+pub record SettingsFound (s : List ℕ) (at n : ℕ) (y : Settings) (wrong : Bool) : Type 0 where
+  pub long : (n ≡ 20) ⊎ (n ≡ 28)
+  pub room : at + 20 ≤ length s
+  pub zero-byte : getD s (at + 3) 0 ≡ 0
+  pub settings : y ≡ settingsIn n (drop at s)
+  pub byte : wrong ≡ (not (eqb (y .hoppers) 0) && not (eqb (getD s (at + 2) 0) (lowest (y .hoppers))))
 
-      module _ (e : (eqb n 28 && (not (eqb (x .hoppers) 0) && not (eqb (getD s (at + 2) 0) (lowest (x .hoppers))))) ≡ false) where
-        pub settings-sizes : sizesWrong x ≡ true → 1 ≡ refusal (settingsFaults n (drop at s))
-        settings-sizes q = sym (tests-left ∙ rw (e, sizes-first x ((eqb n 28 && ltb (hopperCount x) 2, 2) ∷ setTests x (measureTests x)), q))
+-- its sizes are right too
+pub record SettingsSized (s : List ℕ) (at n : ℕ) (y : Settings) (wrong : Bool) : Type 0 where
+  pub found : SettingsFound s at n y wrong
+  pub lowest : (eqb n 28 && wrong) ≡ false
+  pub sizes : sizesWrong y ≡ false
 
-        module _ (q : sizesWrong x ≡ false) where
-          then : refusal (settingsFaults n (drop at s)) ≡ cond (eqb n 28 && ltb (length (bitsBelow (x .hoppers) 64)) 2) 2 (refusal (setTests x (measureTests x)))
-          then = tests-left ∙ rw (e, sizes-first x ((eqb n 28 && ltb (hopperCount x) 2, 2) ∷ setTests x (measureTests x)), q) (few-two x (few-tiles x q) (eqb n 28))
+module _ {s : List ℕ} {at n : ℕ} {y : Settings} {wrong : Bool} (F : SettingsFound s at n y wrong) where
+  next : refusal (settingsFaults n (drop at s)) ≡ cond (eqb n 28 && wrong) 11 (refusal (sizeTests y ((eqb n 28 && ltb (hopperCount y) 2, 2) ∷ setTests y (measureTests y))))
+  next = rw (F .byte, F .settings) (tests-left s at n (F .long) (F .room) (F .zero-byte))
 
-          pub settings-few : (eqb n 28 && ltb (length (bitsBelow (x .hoppers) 64)) 2) ≡ true → 2 ≡ refusal (settingsFaults n (drop at s))
-          settings-few k = sym (then ∙ rw k)
+  pub settings-lowest : (eqb n 28 && wrong) ≡ true → 11 ≡ refusal (settingsFaults n (drop at s))
+  settings-lowest e = sym (next ∙ rw e)
 
-          pub settings-right : (eqb n 28 && ltb (length (bitsBelow (x .hoppers) 64)) 2) ≡ false → settingsRefusal x ≡ refusal (settingsFaults n (drop at s))
-          unfolding settingsRefusal settingsTests
-          settings-right k = sizes-first x (setTests x (measureTests x)) ∙ rw q (sym (then ∙ rw k))
+  pub settings-sizes : (eqb n 28 && wrong) ≡ false → sizesWrong y ≡ true → 1 ≡ refusal (settingsFaults n (drop at s))
+  settings-sizes e q = sym (next ∙ rw (e, sizes-first y ((eqb n 28 && ltb (hopperCount y) 2, 2) ∷ setTests y (measureTests y)), q))
+
+module _ {s : List ℕ} {at n : ℕ} {y : Settings} {wrong : Bool} (F : SettingsSized s at n y wrong) (count : ℕ) (c : count ≡ length (bitsBelow (y .hoppers) 64)) where
+  then : refusal (settingsFaults n (drop at s)) ≡ cond (eqb n 28 && ltb count 2) 2 (refusal (setTests y (measureTests y)))
+  then = next (F .found) ∙ rw (F .lowest, sizes-first y ((eqb n 28 && ltb (hopperCount y) 2, 2) ∷ setTests y (measureTests y)), F .sizes, c) (few-two y (few-tiles y (F .sizes)) (eqb n 28))
+
+  pub settings-few : (eqb n 28 && ltb count 2) ≡ true → 2 ≡ refusal (settingsFaults n (drop at s))
+  settings-few k = sym (then ∙ rw k)
+
+  pub settings-right : (eqb n 28 && ltb count 2) ≡ false → settingsRefusal y ≡ refusal (settingsFaults n (drop at s))
+  unfolding settingsRefusal settingsTests
+  settings-right k = sizes-first y (setTests y (measureTests y)) ∙ rw (F .sizes) (sym (then ∙ rw k))
 
 -- ---- kinds 2 and 4
 pub counters-long : (h n : ℕ) → n ≢ 8 + 4 * h → 11 ≡ refusal (countersFaults h n)
@@ -212,65 +234,90 @@ module _ (s : List ℕ) (at n t : ℕ) where
     tile-right e m w = rw (tile-tests r h, eq-eqb (getD s at 0) t e, le-ltb 16 (getD s (at + 5) 0) m, eq-eqb n (6 + 8 * getD s (at + 5) 0) w)
 
 -- ---- a record of any kind
-module _ (s : List ℕ) (at due t : ℕ) where
-  pub record-bare : at ≤ length s → length s - at < 4 → 9 ≡ recordFault due t (drop at s)
+abbrev Told : ℕ → ℕ → List ℕ → Found → Type 0
+Told due t xs r = (r .fault ≡ recordFault due t xs) × (r .fault ≡ 0 → Holds due t xs r)
+
+refused : {k : ℕ} (due t : ℕ) (xs : List ℕ) (r : Found) → k ≢ 0 → r .fault ≡ k → k ≡ recordFault due t xs → Told due t xs r
+refused due t xs r n e q = (e ∙ q, λ z. absurd (n (sym e ∙ z)))
+
+module _ (s : List ℕ) (at due t : ℕ) (r : Found) where
+  cut : length (drop at s) < 4 + lengthIn (drop at s) → 9 ≡ recordFault due t (drop at s)
   unfolding refusal recordFault
-  record-bare r h = let k : length (drop at s) < 4 + lengthIn (drop at s) = rw length-drop (omega arith) in rw (lt-ltb (length (drop at s)) (4 + lengthIn (drop at s)) k)
+  cut k = rw (lt-ltb (length (drop at s)) (4 + lengthIn (drop at s)) k)
 
-  module _ (n : ℕ) (e : n ≡ le 2 (drop at s)) (r : at + 4 ≤ length s) where
-    pub record-cut : length s - at - 4 < n → 9 ≡ recordFault due t (drop at s)
-    unfolding refusal recordFault
-    record-cut h = let k : length (drop at s) < 4 + lengthIn (drop at s) = rw length-drop (omega arith) in rw (lt-ltb (length (drop at s)) (4 + lengthIn (drop at s)) k)
+  pub record-bare : at ≤ length s → length s - at < 4 → r .fault ≡ 9 → Told due t (drop at s) r
+  record-bare l h e = refused due t (drop at s) r (omega arith) e (cut (rw length-drop (omega arith)))
 
-    module _ (whole : at + 4 + n ≤ length s) where
-      enough : ltb (length (drop at s)) (4 + lengthIn (drop at s)) ≡ false
-      enough = let k : 4 + lengthIn (drop at s) ≤ length (drop at s) = rw length-drop (omega arith) in le-ltb (length (drop at s)) (4 + lengthIn (drop at s)) k
+  pub record-cut : (n : ℕ) → n ≡ le 2 (drop at s) → at + 4 ≤ length s → length s - at - 4 < n → r .fault ≡ 9 → Told due t (drop at s) r
+  record-cut n q l h e = refused due t (drop at s) r (omega arith) e (cut (rw length-drop (omega arith)))
 
-      pub record-other : le 2 (drop (at + 2) s) ≢ due → 10 ≡ recordFault due t (drop at s)
-      unfolding refusal recordFault
-      record-other h = rw (enough, drop-drop 2 at s, ne-eqb (le 2 (drop (at + 2) s)) due h)
+-- its first four bytes were read: n the length of its body, k its kind
+pub record Headed (s : List ℕ) (at n k : ℕ) : Type 0 where
+  pub long : n ≡ le 2 (drop at s)
+  pub kind : k ≡ le 2 (drop (at + 2) s)
+  pub whole : at + 4 + n ≤ length s
 
-      pub record-own : le 2 (drop (at + 2) s) ≡ due → refusal (ownFaults due t n (drop (at + 4) s)) ≡ recordFault due t (drop at s)
-      unfolding refusal recordFault
-      record-own h = rw (enough, drop-drop 2 at s, eq-eqb (le 2 (drop (at + 2) s)) due h, drop-drop 4 at s, e)
+module _ {s : List ℕ} {at n k : ℕ} (h : Headed s at n k) (due t : ℕ) (r : Found) where
+  abbrev xs : List ℕ
+  xs = drop at s
 
-module _ (due t n : ℕ) (b : List ℕ) where
-  pub own-1 : due ≡ 1 → refusal (settingsFaults n b) ≡ refusal (ownFaults due t n b)
-  unfolding ownFaults
-  own-1 e = rw e
+  abbrev b : List ℕ
+  b = drop (at + 4) s
 
-  pub own-2 : due ≡ 2 → refusal (countersFaults t n) ≡ refusal (ownFaults due t n b)
-  unfolding ownFaults
-  own-2 e = rw e
+  enough : ltb (length xs) (4 + lengthIn xs) ≡ false
+  enough = let k : 4 + lengthIn xs ≤ length xs = rw length-drop (omega (arith, h .long)) in le-ltb (length xs) (4 + lengthIn xs) k
 
-  pub own-3 : due ≡ 3 → refusal (tileFaults t n b) ≡ refusal (ownFaults due t n b)
-  unfolding ownFaults
-  own-3 e = rw e
+  pub record-other : k ≢ due → r .fault ≡ 10 → Told due t xs r
+  unfolding refusal recordFault
+  record-other o e = refused due t xs r (omega arith) e (rw (enough, drop-drop 2 at s, ← h .kind, ne-eqb k due o))
 
-  pub own-4 : due ≡ 4 → refusal (endFaults n) ≡ refusal (ownFaults due t n b)
-  unfolding ownFaults
-  own-4 e = rw e
+  -- kind m came where another was due
+  pub record-not : (m : ℕ) → k ≡ m → due ≢ m → r .fault ≡ 10 → Told due t xs r
+  record-not m q o e = record-other (λ d. o (sym d ∙ q)) e
 
-  pub own-5 : due ≡ 5 → refusal (layoutFaults n) ≡ refusal (ownFaults due t n b)
-  unfolding ownFaults
-  own-5 e = rw e
+  own : k ≡ due → refusal (ownFaults due t n b) ≡ recordFault due t xs
+  unfolding refusal recordFault
+  own e = rw (enough, drop-drop 2 at s, ← h .kind, eq-eqb k due e, drop-drop 4 at s, h .long)
 
--- ---- what a record of each kind holds
-module _ (s : List ℕ) (at due t n : ℕ) (e : n ≡ le 2 (drop at s)) (r : Found) where
-  body : drop (at + 4) s ≡ drop 4 (drop at s)
+  body : b ≡ drop 4 xs
   body = sym (drop-drop 4 at s)
 
-  pub holds-1 : due ≡ 1 → r .settings ≡ settingsIn n (drop (at + 4) s) → Holds due t (drop at s) r
-  holds-1 d q = record { settings = λ k. q ∙ rw (body, e); counters = λ k. absurd (omega arith); tile = λ k. absurd (omega arith); layout = λ k. absurd (omega arith) }
+  pub record-1 : k ≡ 1 → due ≡ 1 → (r .fault ≡ refusal (settingsFaults n b)) × (r .fault ≡ 0 → r .settings ≡ settingsIn n b) → Told due t xs r
+  unfolding ownFaults
+  record-1 e d p =
+      let same : refusal (settingsFaults n b) ≡ refusal (ownFaults due t n b) = rw d in (
+        p .0 ∙ same ∙ own (e ∙ sym d),
+        λ z. record { settings = λ k. p .1 z ∙ rw (body, h .long); counters = λ k. absurd (omega arith); tile = λ k. absurd (omega arith); layout = λ k. absurd (omega arith) },
+      )
 
-  pub holds-2 : due ≡ 2 → r .counters ≡ countersIn t (drop (at + 4) s) → Holds due t (drop at s) r
-  holds-2 d q = record { settings = λ k. absurd (omega arith); counters = λ k. q ∙ rw body; tile = λ k. absurd (omega arith); layout = λ k. absurd (omega arith) }
+  pub record-2 : k ≡ 2 → due ≡ 2 → (r .fault ≡ refusal (countersFaults t n)) × (r .fault ≡ 0 → r .counters ≡ countersIn t b) → Told due t xs r
+  unfolding ownFaults
+  record-2 e d p =
+      let same : refusal (countersFaults t n) ≡ refusal (ownFaults due t n b) = rw d in (
+        p .0 ∙ same ∙ own (e ∙ sym d),
+        λ z. record { settings = λ k. absurd (omega arith); counters = λ k. p .1 z ∙ rw body; tile = λ k. absurd (omega arith); layout = λ k. absurd (omega arith) },
+      )
 
-  pub holds-3 : due ≡ 3 → r .tile ≡ head (tileIn (drop (at + 4) s)) → Holds due t (drop at s) r
-  holds-3 d q = record { settings = λ k. absurd (omega arith); counters = λ k. absurd (omega arith); tile = λ k. q ∙ rw body; layout = λ k. absurd (omega arith) }
+  pub record-3 : k ≡ 3 → due ≡ 3 → (r .fault ≡ refusal (tileFaults t n b)) × (r .fault ≡ 0 → r .tile ≡ head (tileIn b)) → Told due t xs r
+  unfolding ownFaults
+  record-3 e d p =
+      let same : refusal (tileFaults t n b) ≡ refusal (ownFaults due t n b) = rw d in (
+        p .0 ∙ same ∙ own (e ∙ sym d),
+        λ z. record { settings = λ k. absurd (omega arith); counters = λ k. absurd (omega arith); tile = λ k. p .1 z ∙ rw body; layout = λ k. absurd (omega arith) },
+      )
 
-  pub holds-4 : due ≡ 4 → Holds due t (drop at s) r
-  holds-4 d = record { settings = λ k. absurd (omega arith); counters = λ k. absurd (omega arith); tile = λ k. absurd (omega arith); layout = λ k. absurd (omega arith) }
+  pub record-4 : k ≡ 4 → due ≡ 4 → r .fault ≡ refusal (endFaults n) → Told due t xs r
+  unfolding ownFaults
+  record-4 e d p =
+      let same : refusal (endFaults n) ≡ refusal (ownFaults due t n b) = rw d in (
+        p ∙ same ∙ own (e ∙ sym d),
+        λ z. record { settings = λ k. absurd (omega arith); counters = λ k. absurd (omega arith); tile = λ k. absurd (omega arith); layout = λ k. absurd (omega arith) },
+      )
 
-  pub holds-5 : due ≡ 5 → r .layout ≡ layoutIn (drop (at + 4) s) → Holds due t (drop at s) r
-  holds-5 d q = record { settings = λ k. absurd (omega arith); counters = λ k. absurd (omega arith); tile = λ k. absurd (omega arith); layout = λ k. q ∙ rw body }
+  pub record-5 : k ≡ 5 → due ≡ 5 → (r .fault ≡ refusal (layoutFaults n)) × (r .fault ≡ 0 → r .layout ≡ layoutIn b) → Told due t xs r
+  unfolding ownFaults
+  record-5 e d p =
+      let same : refusal (layoutFaults n) ≡ refusal (ownFaults due t n b) = rw d in (
+        p .0 ∙ same ∙ own (e ∙ sym d),
+        λ z. record { settings = λ k. absurd (omega arith); counters = λ k. absurd (omega arith); tile = λ k. absurd (omega arith); layout = λ k. p .1 z ∙ rw body },
+      )

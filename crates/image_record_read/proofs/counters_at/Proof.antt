@@ -67,8 +67,10 @@ loop-less c = search needs
 
 loop-again : tie.Need-loop-again Inv-loop μ-loop
 loop-again c =
-    let l = c .before .before .loop in
-    let g = c .before .before .before .before .before .before .args in
+    let L = c .before .before in
+    let l = L .loop in
+    let U = L .before .before in
+    let g = U .before .before .args in
     record {
       below = omega arith;
       few = l .inv .few;
@@ -82,9 +84,10 @@ loop-again c =
 returns : tie.Need-returns Inv-loop μ-loop
 returns c =
     let l = c .before .loop in
-    let g = c .before .before .before .before .before .args in
+    let U = c .before .before .before in
+    let g = U .before .before .args in
     let e : l .k ≡ g.h = omega (arith, c .loop-test .left) in
-    rw (counters-code (g.s .now) g.at g.h (l .delivered) (l .inv .delivered-length) (λ k h. l .inv .read k (omega arith)) (λ k h. l .inv .zeros k (omega arith)), c .before .before .before .u32-at .ensures, c .before .before .u32-at2 .ensures)
+    rw (counters-code (g.s .now) g.at g.h (l .delivered) (l .inv .delivered-length) (λ k h. l .inv .read k (omega arith)) (λ k h. l .inv .zeros k (omega arith)), U .u32-at .ensures, c .before .before .u32-at2 .ensures)
 
 pub counters-at-spec : {M : Type 1} → statement M
 counters-at-spec =

@@ -41,10 +41,11 @@ single-requires c κs = search needs
 
 returns-2 : tie.Need-returns-2
 returns-2 c =
-    let S = c .before .before .before .before in
+    let E = c .before .before in
+    let S = E .before .before in
     let g = S .args in
     let r = room-20 g.at g.n (length (g.s .now)) (S .pre .0) (S .pre .1) in
-    let e = is-20 g.n (S .pre .1) (c .before .before .if1 .left) in
+    let e = is-20 g.n (S .pre .1) (E .if1 .left) in
     c .single .ensures ∙ sym (ap (λ (n : ℕ). settingsIn n (drop g.at (g.s .now)) .hoppers) e ∙ tile-code (g.s .now) g.at r)
 
 pub hoppers-at-spec : {M : Type 1} → statement M

@@ -28,7 +28,7 @@ counters-at-requires : tie.Need-counters-at-requires
 counters-at-requires c κs = search needs
 
 returns-2 : tie.Need-returns-2
-returns-2 c = let g = c .before .before .before .before .args in (c .before .unread2 .ensures ∙ counters-right g.h g.n (omega arith), λ z. c .counters-at .ensures)
+returns-2 c = (c .before .unread2 .ensures ∙ counters-right _ _ (omega arith), λ z. c .counters-at .ensures)
 
 pub read-counters-spec : {M : Type 1} → statement M
 read-counters-spec =

@@ -22,7 +22,7 @@ layout-at-requires : tie.Need-layout-at-requires
 layout-at-requires c κs = search needs
 
 returns-2 : tie.Need-returns-2
-returns-2 c = (c .before .unread2 .ensures ∙ layout-right (c .before .before .before .before .args .n) (omega arith), λ z. c .layout-at .ensures)
+returns-2 c = (c .before .unread2 .ensures ∙ layout-right _ (omega arith), λ z. c .layout-at .ensures)
 
 pub read-layout-spec : {M : Type 1} → statement M
 read-layout-spec = tie.close (tie.spec unread-requires returns unread-requires-2 layout-at-requires returns-2)

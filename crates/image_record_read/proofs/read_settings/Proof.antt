@@ -1,7 +1,9 @@
-use mathlib.Core.Path.{sym, _∙_}
+use mathlib.Core.Path.{_≡_, sym, _∙_}
+use mathlib.Core.Logic.{_⊎_}
+use Prim.Native.Nat.{_+_, _≤_}
 use native.Mathlib.Omega.{arith}
 use lib.ListN.{length}
-use Rattle.image_record_read.proofs.Refusals.{lengths-out, lengths-in, room-20, settings-long, settings-byte, settings-lowest, settings-sizes, settings-few, settings-right}
+use Rattle.image_record_read.proofs.Refusals.{SettingsFound, SettingsSized, lengths-out, lengths-in, room-20, settings-long, settings-byte, settings-lowest, settings-sizes, settings-few, settings-right}
 use borrow.Author.Needs.{needs}
 use Rattle.image_record_read.proofs.read_settings.Statement.{statement}
 use Rattle.image_record_read.proofs.read_settings.Tie as tie
@@ -13,6 +15,29 @@ use Rattle.sets.proofs.size.Reads as size-reads
 use Rattle.check_settings.proofs.settings_refusal.Reads as settings-refusal-reads
 use Rattle.check_settings.proofs.sizes_wrong.Reads as sizes-wrong-reads
 use Rattle.image_record_read.proofs.unread.Reads as unread-reads
+
+-- after the test of the length, of the hopper byte, and of the sizes
+shaped : (c : tie.Else1) → let g = c .before .before .args in ((g.n ≡ 20) ⊎ (g.n ≡ 28)) × (g.at + 20 ≤ length (g.s .now))
+shaped c =
+    let S = c .before .before in
+    let g = S .args in
+    let h = lengths-in g.n (c .if1 .left) in
+    (h, room-20 g.at g.n (length (g.s .now)) (S .pre) h)
+
+abbrev before-byte : tie.After-byte-wrong → tie.Else1
+before-byte c = let A = c .before .before in A .before .before .before
+
+found : (c : tie.After-byte-wrong) → let g = before-byte c .before .before .args in SettingsFound (g.s .now) g.at g.n (c .before .before .settings-at .result) (c .byte-wrong .result)
+found c =
+    let A = c .before .before in
+    let b = shaped (before-byte c) in
+    record { long = b .0; room = b .1; zero-byte = A .before .if2 .left; settings = A .settings-at .ensures; byte = c .byte-wrong .ensures }
+
+abbrev before-sizes : tie.Else4 → tie.After-byte-wrong
+before-sizes c = c .before .before .before
+
+sized : (c : tie.Else4) → let B = before-sizes c in let g = before-byte B .before .before .args in SettingsSized (g.s .now) g.at g.n (B .before .before .settings-at .result) (B .byte-wrong .result)
+sized c = record { found = found (before-sizes c); lowest = c .before .before .if3 .left; sizes = sym (c .before .sizes-wrong .ensures) ∙ c .if4 .left }
 
 unread-requires : tie.Need-unread-requires
 unread-requires c κs = search needs
@@ -27,37 +52,26 @@ add-if2 : tie.Need-add-if2
 add-if2 c = search needs
 
 shared-slice-read-if2 : tie.Need-shared-slice-read-if2
-shared-slice-read-if2 c =
-    let S = c .before .before .before in
-    let g = S .args in
-    omega (arith, room-20 g.at g.n (length (g.s .now)) (S .pre) (lengths-in g.n (c .before .if1 .left)))
+shared-slice-read-if2 c = let b = shaped (c .before) in omega arith
 
 unread-requires-2 : tie.Need-unread-requires-2
 unread-requires-2 c κs = search needs
 
 returns-2 : tie.Need-returns-2
 returns-2 c =
-    let S = c .before .before .before .before .before in
-    let g = S .args in
-    let h = lengths-in g.n (c .before .before .before .if1 .left) in
-    let r = room-20 g.at g.n (length (g.s .now)) (S .pre) h in
-    (c .unread2 .ensures ∙ settings-byte (g.s .now) g.at g.n (S .pre) h r (c .before .if2 .taken), λ z. absurd (omega (arith, c .unread2 .ensures, z)))
+    let I = c .before .before .before in
+    let g = I .before .before .args in
+    let b = shaped I in
+    (c .unread2 .ensures ∙ settings-byte (g.s .now) g.at g.n (b .0) (b .1) (c .before .if2 .taken), λ z. absurd (omega (arith, c .unread2 .ensures, z)))
 
 settings-at-requires : tie.Need-settings-at-requires
-settings-at-requires c κs =
-    let S = c .before .before .before .before in
-    (S .pre, lengths-in (S .args .n) (c .before .before .if1 .left))
+settings-at-requires c κs = let I = c .before .before in (I .before .before .pre, shaped I .0)
 
 add-byte-wrong : tie.Need-add-byte-wrong
 add-byte-wrong c = search needs
 
 shared-slice-read-byte-wrong : tie.Need-shared-slice-read-byte-wrong
-shared-slice-read-byte-wrong c =
-    let S = c .before .before .before .before .before .before in
-    let g = S .args in
-    let h = lengths-in g.n (c .before .before .before .before .if1 .left) in
-    let r = room-20 g.at g.n (length (g.s .now)) (S .pre) h in
-    omega (arith, r)
+shared-slice-read-byte-wrong c = let E = c .before .before in let b = shaped (E .before .before) in omega arith
 
 byte-wrong-requires : tie.Need-byte-wrong-requires
 byte-wrong-requires c κs = search needs
@@ -66,14 +80,7 @@ unread-requires-3 : tie.Need-unread-requires-3
 unread-requires-3 c κs = search needs
 
 returns-3 : tie.Need-returns-3
-returns-3 c =
-    let S = c .before .before .before .before .before .before .before .before .before in
-    let g = S .args in
-    let h = lengths-in g.n (c .before .before .before .before .before .before .before .if1 .left) in
-    let r = room-20 g.at g.n (length (g.s .now)) (S .pre) h in
-    let x = c .before .before .before .before .settings-at .ensures in
-    let e = rw (c .before .before .byte-wrong .ensures, x) at (c .before .if3 .taken) in
-    (c .unread3 .ensures ∙ settings-lowest (g.s .now) g.at g.n (S .pre) h r (c .before .before .before .before .before .if2 .left) e, λ z. absurd (omega (arith, c .unread3 .ensures, z)))
+returns-3 c = (c .unread3 .ensures ∙ settings-lowest (found (c .before .before)) (c .before .if3 .taken), λ z. absurd (omega (arith, c .unread3 .ensures, z)))
 
 sizes-wrong-requires : tie.Need-sizes-wrong-requires
 sizes-wrong-requires c κs = search needs
@@ -83,14 +90,8 @@ unread-requires-4 c κs = search needs
 
 returns-4 : tie.Need-returns-4
 returns-4 c =
-    let S = c .before .before .before .before .before .before .before .before .before .before .before in
-    let g = S .args in
-    let h = lengths-in g.n (c .before .before .before .before .before .before .before .before .before .if1 .left) in
-    let r = room-20 g.at g.n (length (g.s .now)) (S .pre) h in
-    let x = c .before .before .before .before .before .before .settings-at .ensures in
-    let e = rw (c .before .before .before .before .byte-wrong .ensures, x) at (c .before .before .before .if3 .left) in
-    let q = rw x at (sym (c .before .before .sizes-wrong .ensures) ∙ c .before .if4 .taken) in
-    (c .unread4 .ensures ∙ settings-sizes (g.s .now) g.at g.n (S .pre) h r (c .before .before .before .before .before .before .before .if2 .left) e q, λ z. absurd (omega (arith, c .unread4 .ensures, z)))
+    let Z = c .before .before in
+    (c .unread4 .ensures ∙ settings-sizes (found (Z .before .before)) (Z .before .if3 .left) (sym (Z .sizes-wrong .ensures) ∙ c .before .if4 .taken), λ z. absurd (omega (arith, c .unread4 .ensures, z)))
 
 size-requires : tie.Need-size-requires
 size-requires c κs = search needs
@@ -100,15 +101,8 @@ unread-requires-5 c κs = search needs
 
 returns-5 : tie.Need-returns-5
 returns-5 c =
-    let S = c .before .before .before .before .before .before .before .before .before .before .before .before .before in
-    let g = S .args in
-    let h = lengths-in g.n (c .before .before .before .before .before .before .before .before .before .before .before .if1 .left) in
-    let r = room-20 g.at g.n (length (g.s .now)) (S .pre) h in
-    let x = c .before .before .before .before .before .before .before .before .settings-at .ensures in
-    let e = rw (c .before .before .before .before .before .before .byte-wrong .ensures, x) at (c .before .before .before .before .before .if3 .left) in
-    let q = rw x at (sym (c .before .before .before .before .sizes-wrong .ensures) ∙ c .before .before .before .if4 .left) in
-    let k = rw (c .before .before .size .ensures, x) at (c .before .if5 .taken) in
-    (c .unread5 .ensures ∙ settings-few (g.s .now) g.at g.n (S .pre) h r (c .before .before .before .before .before .before .before .before .before .if2 .left) e q k, λ z. absurd (omega (arith, c .unread5 .ensures, z)))
+    let Z = c .before .before in
+    (c .unread5 .ensures ∙ settings-few (sized (Z .before)) _ (Z .size .ensures) (c .before .if5 .taken), λ z. absurd (omega (arith, c .unread5 .ensures, z)))
 
 settings-refusal-requires : tie.Need-settings-refusal-requires
 settings-refusal-requires c κs = search needs
@@ -118,15 +112,9 @@ unread-requires-6 c κs = search needs
 
 returns-6 : tie.Need-returns-6
 returns-6 c =
-    let S = c .before .before .before .before .before .before .before .before .before .before .before .before .before .before in
-    let g = S .args in
-    let h = lengths-in g.n (c .before .before .before .before .before .before .before .before .before .before .before .before .if1 .left) in
-    let r = room-20 g.at g.n (length (g.s .now)) (S .pre) h in
-    let x = c .before .before .before .before .before .before .before .before .before .settings-at .ensures in
-    let e = rw (c .before .before .before .before .before .before .before .byte-wrong .ensures, x) at (c .before .before .before .before .before .before .if3 .left) in
-    let q = rw x at (sym (c .before .before .before .before .before .sizes-wrong .ensures) ∙ c .before .before .before .before .if4 .left) in
-    let k = rw (c .before .before .before .size .ensures, x) at (c .before .before .if5 .left) in
-    (c .unread6 .ensures ∙ c .before .settings-refusal .ensures ∙ rw x (settings-right (g.s .now) g.at g.n (S .pre) h r (c .before .before .before .before .before .before .before .before .before .before .if2 .left) e q k), λ z. x)
+    let Z = c .before .before .before in
+    let F = sized (Z .before) in
+    (c .unread6 .ensures ∙ c .before .settings-refusal .ensures ∙ settings-right F _ (Z .size .ensures) (c .before .before .if5 .left), λ z. F .found .settings)
 
 pub read-settings-spec : {M : Type 1} → statement M
 read-settings-spec =

@@ -9,6 +9,13 @@ use Rattle.image_record_read.proofs.read_tile.Lts as lts
 use Rattle.image_record_read.proofs.tile_at.Reads as tile-at-reads
 use Rattle.image_record_read.proofs.unread.Reads as unread-reads
 
+-- from where the bytes were read that the tests are about
+abbrev start : tie.After-shared-slice-known2 → tie.Start
+start c = c .before .before .before
+
+abbrev start3 : tie.After-shared-slice-known3 → tie.Start
+start3 c = start (c .before .before)
+
 unread-requires : tie.Need-unread-requires
 unread-requires c κs = search needs
 
@@ -25,7 +32,7 @@ unread-requires-2 c κs = search needs
 
 returns-2 : tie.Need-returns-2
 returns-2 c =
-    let g = c .before .before .before .before .before .args in
+    let g = start (c .before .before) .args in
     (c .unread2 .ensures ∙ tile-other (g.s .now) g.at g.n g.tile (omega arith) (omega arith) (omega arith), λ z. absurd (omega (arith, c .unread2 .ensures, z)))
 
 add-count : tie.Need-add-count
@@ -39,7 +46,7 @@ unread-requires-3 c κs = search needs
 
 returns-3 : tie.Need-returns-3
 returns-3 c =
-    let g = c .before .before .before .before .before .before .before .args in
+    let g = start3 (c .before .before) .args in
     (c .unread3 .ensures ∙ tile-many (g.s .now) g.at g.n g.tile (omega arith) (omega arith) (omega arith) (omega arith), λ z. absurd (omega (arith, c .unread3 .ensures, z)))
 
 cast-if4 : tie.Need-cast-if4
@@ -56,7 +63,7 @@ unread-requires-4 c κs = search needs
 
 returns-4 : tie.Need-returns-4
 returns-4 c =
-    let g = c .before .before .before .before .before .before .before .before .args in
+    let g = start3 (c .before .before .before) .args in
     (c .unread4 .ensures ∙ tile-wrong (g.s .now) g.at g.n g.tile (omega arith) (omega arith) (omega arith) (omega arith) (omega arith), λ z. absurd (omega (arith, c .unread4 .ensures, z)))
 
 unread-requires-5 : tie.Need-unread-requires-5
@@ -67,7 +74,8 @@ tile-at-requires c κs = search needs
 
 returns-5 : tie.Need-returns-5
 returns-5 c =
-    let g = c .before .before .before .before .before .before .before .before .before .args in
+    let E = c .before .before .before in
+    let g = start3 (E .before) .args in
     (c .before .unread5 .ensures ∙ tile-right (g.s .now) g.at g.n g.tile (omega arith) (omega arith) (omega arith) (omega arith) (omega arith), λ z. c .tile-at .ensures)
 
 pub read-tile-spec : {M : Type 1} → statement M

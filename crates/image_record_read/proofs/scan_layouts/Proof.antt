@@ -1,14 +1,10 @@
-use mathlib.Core.Path.{_≡_, refl, sym, ap, _∙_}
-use mathlib.Core.Bool.{true, false}
-use Prim.Native.Nat.{ℕ, _+_, _*_, _-_}
+use mathlib.Core.Path.{sym}
+use Prim.Native.Nat.{_-_}
 use native.Mathlib.Omega.{arith}
-use lib.ListN.{drop}
-use borrow.Author.Tests.{not-true, not-false}
 use Rattle.floor.specs.Memory.{zeroLayout}
-use Rattle.image.specs.Image.{isLayout, recordFault}
 use Rattle.image_record_read.proofs.Filled.{filled-none}
-use Rattle.image_record_read.proofs.Walk.{layoutAt, laid-turn, passed-none, passed-stop, passed-off, passed-all, passed-room, passed-on}
-use Rattle.image_record_read.proofs.Loops.{LayoutsScanned}
+use Rattle.image_record_read.proofs.Walk.{layoutAt, passed-none, passed-all}
+use Rattle.image_record_read.proofs.Loops.{LayoutsScanned, layouts-off, layout-stop, layout-room, layout-turn}
 use borrow.Author.Needs.{needs}
 use Rattle.image_record_read.proofs.scan_layouts.Statement.{statement}
 use Rattle.image_record_read.proofs.scan_layouts.Tie as tie
@@ -35,23 +31,17 @@ is-layout-requires : tie.Need-is-layout-requires Inv-loop μ-loop
 is-layout-requires c κs = let l = c .before .loop in omega (arith, l .inv .reached, l .inv .passed .room)
 
 returns : tie.Need-returns Inv-loop μ-loop
-returns c =
-    let l = c .before .before .before .loop in
-    let g = c .before .before .before .before .before .args in
-    let e : isLayout (drop (g.from + 20 * l .n) (g.s .now)) ≡ false = ap (λ (k : ℕ). isLayout (drop k (g.s .now))) (sym (l .inv .reached)) ∙ sym (c .before .is-layout .ensures) ∙ not-true _ (c .if1 .taken) in
-    let r = passed-off (g.s .now) g.from (l .n) (l .inv .passed) (l .layouts) (l .inv .laid) (l .inv .below) e in
-    (sym (r .0), λ z. r .1)
+returns c = let I = c .before .before in layouts-off (I .before .loop .inv) _ (c .before .is-layout .ensures) (c .if1 .taken)
 
 read-record-requires : tie.Need-read-record-requires Inv-loop μ-loop
 read-record-requires c κs = let l = c .before .before .before .loop in (omega (arith, l .inv .reached, l .inv .passed .room), omega arith, omega arith, λ e. absurd (omega arith))
 
 returns-2 : tie.Need-returns-2 Inv-loop μ-loop
 returns-2 c =
-    let l = c .before .before .before .before .before .before .loop in
-    let g = c .before .before .before .before .before .before .before .before .args in
-    let e : isLayout (drop (g.from + 20 * l .n) (g.s .now)) ≡ true = ap (λ (k : ℕ). isLayout (drop k (g.s .now))) (sym (l .inv .reached)) ∙ sym (c .before .before .before .before .is-layout .ensures) ∙ not-false _ (c .before .before .before .if1 .left) in
-    let f : c .before .before .read-record .result .fault ≡ recordFault 5 0 (drop (g.from + 20 * l .n) (g.s .now)) = c .before .before .read-record .ensures .0 ∙ ap (λ (k : ℕ). recordFault 5 0 (drop k (g.s .now))) (l .inv .reached) in
-    (f ∙ passed-stop (g.s .now) g.from (l .n) (l .inv .passed) (omega arith) e (λ z. c .if2 .taken (f ∙ z)), λ z. absurd (c .if2 .taken z))
+    let R = c .before .before in
+    let E = R .before in
+    let I = E .before .before in
+    (layout-stop (I .before .loop .inv) _ (E .before .is-layout .ensures) (E .if1 .left) (omega arith) (R .read-record .result) (R .read-record .ensures .0) (c .if2 .taken), λ z. absurd (c .if2 .taken z))
 
 mul-layouts : tie.Need-mul-layouts Inv-loop μ-loop
 mul-layouts c = search needs
@@ -61,10 +51,11 @@ array-set-from-layouts c = search needs
 
 add-at : tie.Need-add-at Inv-loop μ-loop
 add-at c =
-    let l = c .before .before .before .before .before .before .before .loop in
-    let g = c .before .before .before .before .before .before .before .before .before .args in
-    let f : c .before .before .before .read-record .result .fault ≡ recordFault 5 0 (drop (g.from + 20 * l .n) (g.s .now)) = c .before .before .before .read-record .ensures .0 ∙ ap (λ (k : ℕ). recordFault 5 0 (drop k (g.s .now))) (l .inv .reached) in
-    omega (arith, l .inv .reached, passed-room (g.s .now) g.from (l .n) (l .inv .passed) (sym f ∙ c .before .if2 .left))
+    let R = c .before .before .before in
+    let E = R .before in
+    let I = E .before .before in
+    let m = layout-room (I .before .loop .inv) _ (E .before .is-layout .ensures) (E .if1 .left) (omega arith) (R .read-record .result) (R .read-record .ensures .0) (c .before .if2 .left) in
+    omega arith
 
 add-n : tie.Need-add-n Inv-loop μ-loop
 add-n c = search needs
@@ -74,16 +65,11 @@ loop-less c = search needs
 
 loop-again : tie.Need-loop-again Inv-loop μ-loop
 loop-again c =
-    let l = c .before .before .before .before .before .before .before .loop in
-    let g = c .before .before .before .before .before .before .before .before .before .args in
-    let e : isLayout (drop (g.from + 20 * l .n) (g.s .now)) ≡ true = ap (λ (k : ℕ). isLayout (drop k (g.s .now))) (sym (l .inv .reached)) ∙ sym (c .before .before .before .before .before .is-layout .ensures) ∙ not-false _ (c .before .before .before .before .if1 .left) in
-    let f : c .before .before .before .read-record .result .fault ≡ recordFault 5 0 (drop (g.from + 20 * l .n) (g.s .now)) = c .before .before .before .read-record .ensures .0 ∙ ap (λ (k : ℕ). recordFault 5 0 (drop k (g.s .now))) (l .inv .reached) in
-    let H = c .before .before .before .read-record .ensures .1 (c .before .if2 .left) in record {
-      below = omega arith;
-      reached = omega arith;
-      passed = passed-on (g.s .now) g.from (l .n) (l .inv .passed) (omega arith) e (sym f ∙ c .before .if2 .left);
-      laid = laid-turn (g.s .now) g.from (l .n) (l .at) (l .layouts) _ (omega arith) (l .inv .reached) (H .layout refl) (l .inv .laid);
-    }
+    let R = c .before .before .before in
+    let E = R .before in
+    let I = E .before .before in
+    let z = c .before .if2 .left in
+    layout-turn (I .before .loop .inv) _ (E .before .is-layout .ensures) (E .if1 .left) (omega arith) (R .read-record .result) (R .read-record .ensures .0) z (R .read-record .ensures .1 z)
 
 returns-3 : tie.Need-returns-3 Inv-loop μ-loop
 returns-3 c =

@@ -1,13 +1,12 @@
-use mathlib.Core.Path.{_≡_, refl, sym, _∙_}
-use mathlib.Core.Logic.{_≢_}
-use Prim.Native.Nat.{_+_, _-_}
+use mathlib.Core.Path.{refl, sym, _∙_}
+use Prim.Native.Nat.{_+_, _-_, _≤_}
 use native.Mathlib.Omega.{arith}
-use lib.ListN.{drop, length-set}
+use lib.ListN.{length, drop}
 use Rattle.image_record_read.proofs.Filled.{filled-none}
-use Rattle.image_record_read.proofs.Walk.{headOf, tiled-turn, tiled-all, after-more, after-none, record-room, rest-at, start-at, starts-more, tiles-end, tiles-on, tiles-stop, tiles-zero}
+use Rattle.image_record_read.proofs.Walk.{headOf, tiled-all, after-none, tiles-end, tiles-zero}
 use Rattle.floor.specs.Memory.{zeroTile}
-use Rattle.image.specs.Image.{recordFault}
-use Rattle.image_record_read.proofs.Loops.{TilesScanned}
+use Rattle.image_bytes.specs.Bytes.{le}
+use Rattle.image_record_read.proofs.Loops.{TilesScanned, tile-stop, tile-room, tile-turn}
 use borrow.Author.Needs.{needs}
 use Rattle.image_record_read.proofs.scan_tiles.Statement.{statement}
 use Rattle.image_record_read.proofs.scan_tiles.Tie as tie
@@ -22,6 +21,10 @@ Inv-loop s from c tiles₀ starts₀ at₀ t₀ tiles starts at t = TilesScanned
 
 abbrev μ-loop : tie.MeasureT-loop
 μ-loop s from c tiles₀ starts₀ at₀ t₀ tiles starts at t = c - t
+
+-- the tile's record stands in the bytes
+room : (c : tie.Else1 Inv-loop μ-loop) → let I = c .before .before .before in let l = I .before .loop in let s = I .before .before .before .args .s .now in l .at + 4 + le 2 (drop (l .at) s) ≤ length s
+room c = let R = c .before .before in let I = R .before in tile-room (I .before .loop .inv) (I .loop-test .taken) _ (R .read-record .ensures .0) (c .if1 .left)
 
 loop-holds : tie.Need-loop-holds Inv-loop μ-loop
 loop-holds c =
@@ -44,11 +47,9 @@ read-record-requires c κs = (c .before .loop .inv .inside, omega arith, omega a
 
 returns : tie.Need-returns Inv-loop μ-loop
 returns c =
-    let l = c .before .before .before .before .loop in
-    let g = c .before .before .before .before .before .before .args in
-    let e = c .before .before .read-record .ensures .0 in
-    let n : recordFault 3 (l .t) (drop (l .at) (g.s .now)) ≢ 0 = omega (arith, e) in
-    (e ∙ sym (tiles-stop g.c (l .t) (drop (l .at) (g.s .now)) (omega arith) n) ∙ l .inv .faults, λ z. absurd (omega arith))
+    let R = c .before .before in
+    let I = R .before in
+    (tile-stop (I .before .loop .inv) (I .loop-test .taken) _ (R .read-record .ensures .0) (c .if1 .taken), λ z. absurd (c .if1 .taken z))
 
 mul-tiles : tie.Need-mul-tiles Inv-loop μ-loop
 mul-tiles c = search needs
@@ -57,12 +58,7 @@ array-set-from-tiles : tie.Need-array-set-from-tiles Inv-loop μ-loop
 array-set-from-tiles c = search needs
 
 add-starts : tie.Need-add-starts Inv-loop μ-loop
-add-starts c =
-    let l = c .before .before .before .before .before .loop in
-    let g = c .before .before .before .before .before .before .before .args in
-    let z : recordFault 3 (l .t) (drop (l .at) (g.s .now)) ≡ 0 = omega (arith, c .before .before .before .read-record .ensures .0) in
-    let m = record-room (g.s .now) (l .at) 3 (l .t) (l .inv .inside) z in
-    omega arith
+add-starts c = let m = room (c .before) in omega arith
 
 mul-starts : tie.Need-mul-starts Inv-loop μ-loop
 mul-starts c = search needs
@@ -71,31 +67,16 @@ array-write-starts : tie.Need-array-write-starts Inv-loop μ-loop
 array-write-starts c = search needs
 
 u16-at-requires : tie.Need-u16-at-requires Inv-loop μ-loop
-u16-at-requires c κs =
-    let l = c .before .before .before .before .before .loop in
-    let g = c .before .before .before .before .before .before .before .args in
-    let z : recordFault 3 (l .t) (drop (l .at) (g.s .now)) ≡ 0 = omega (arith, c .before .before .before .read-record .ensures .0) in
-    let m = record-room (g.s .now) (l .at) 3 (l .t) (l .inv .inside) z in
-    omega arith
+u16-at-requires c κs = let m = room (c .before) in omega arith
 
 add-at : tie.Need-add-at Inv-loop μ-loop
-add-at c =
-    let l = c .before .before .before .before .before .before .loop in
-    let g = c .before .before .before .before .before .before .before .before .args in
-    let z : recordFault 3 (l .t) (drop (l .at) (g.s .now)) ≡ 0 = omega (arith, c .before .before .before .before .read-record .ensures .0) in
-    let m = record-room (g.s .now) (l .at) 3 (l .t) (l .inv .inside) z in
-    omega arith
+add-at c = let m = room (c .before .before) in omega arith
 
 cast-at : tie.Need-cast-at Inv-loop μ-loop
 cast-at c = search needs
 
 add-at-2 : tie.Need-add-at-2 Inv-loop μ-loop
-add-at-2 c =
-    let l = c .before .before .before .before .before .before .loop in
-    let g = c .before .before .before .before .before .before .before .before .args in
-    let z : recordFault 3 (l .t) (drop (l .at) (g.s .now)) ≡ 0 = omega (arith, c .before .before .before .before .read-record .ensures .0) in
-    let m = record-room (g.s .now) (l .at) 3 (l .t) (l .inv .inside) z in
-    omega (arith, c .u16-at .ensures)
+add-at-2 c = let m = room (c .before .before) in omega (arith, c .u16-at .ensures)
 
 add-t : tie.Need-add-t Inv-loop μ-loop
 add-t c = search needs
@@ -105,28 +86,20 @@ loop-less c = search needs
 
 loop-again : tie.Need-loop-again Inv-loop μ-loop
 loop-again c =
-    let l = c .before .before .before .before .before .before .loop in
-    let g = c .before .before .before .before .before .before .before .before .args in
-    let z : recordFault 3 (l .t) (drop (l .at) (g.s .now)) ≡ 0 = omega (arith, c .before .before .before .before .read-record .ensures .0) in
-    let m = record-room (g.s .now) (l .at) 3 (l .t) (l .inv .inside) z in
-    let n = c .u16-at .ensures in
-    let r = rest-at (g.s .now) (l .at) _ n in record {
-      below = omega arith;
-      inside = omega (arith, n);
-      starts-length = simp length-set (l .inv .starts-length);
-      reached = after-more (l .t) (drop (l .at) (g.s .now)) (drop g.from (g.s .now)) _ (l .inv .reached) r;
-      faults = rw (← r) (sym (tiles-on g.c (l .t) (drop (l .at) (g.s .now)) (omega arith) z) ∙ l .inv .faults);
-      started = starts-more (g.s .now) (drop g.from (g.s .now)) (l .starts) (l .t) (l .at + 4) (omega arith) (l .inv .started) (start-at (g.s .now) (drop g.from (g.s .now)) (l .at) (l .t) (l .inv .inside) (l .inv .reached) z);
-      tiled = tiled-turn g.c (drop g.from (g.s .now)) (l .t) (l .tiles) _ (drop (l .at) (g.s .now)) (omega arith) (omega arith) (l .inv .reached) (c .before .before .before .before .read-record .ensures .1 (c .before .before .if1 .left) .tile refl) (l .inv .tiled);
-    }
+    let E = c .before .before in
+    let R = E .before .before in
+    let I = R .before in
+    let z = E .if1 .left in
+    tile-turn (I .before .loop .inv) (I .loop-test .taken) _ (R .read-record .ensures .0) z (omega arith) (R .read-record .result) (R .read-record .ensures .1 z) _ (c .u16-at .ensures)
 
 end-fault-requires : tie.Need-end-fault-requires Inv-loop μ-loop
 end-fault-requires c κs = c .before .loop .inv .inside
 
 returns-2 : tie.Need-returns-2 Inv-loop μ-loop
 returns-2 c =
-    let l = c .before .before .loop in
-    let g = c .before .before .before .before .args in (
+    let L = c .before .before in
+    let l = L .loop in
+    let g = L .before .before .args in (
       c .end-fault .ensures ∙ sym (tiles-end g.c (l .t) (drop (l .at) (g.s .now)) (omega arith)) ∙ l .inv .faults,
       λ y. (λ t h. l .inv .started t (omega arith), tiled-all g.c (drop g.from (g.s .now)) (l .t) (l .tiles) (omega arith) (omega arith) (l .inv .tiled)),
     )

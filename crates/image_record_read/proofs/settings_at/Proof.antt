@@ -1,8 +1,7 @@
-use mathlib.Core.Path.{refl}
+use Prim.Native.Nat.{_+_, _≤_}
 use native.Mathlib.Omega.{arith}
-use lib.Dec.{eqb}
 use lib.ListN.{length}
-use Rattle.image_record_read.proofs.Refusals.{settings-code, room-20}
+use Rattle.image_record_read.proofs.Refusals.{settings-made, room-20}
 use borrow.Author.Needs.{needs}
 use Rattle.image_record_read.proofs.settings_at.Statement.{statement}
 use Rattle.image_record_read.proofs.settings_at.Tie as tie
@@ -12,6 +11,12 @@ use Rattle.image_record_read.proofs.hoppers_at.Reads as hoppers-at-read
 use Rattle.image_bytes.proofs.u16_at.Reads as u16-at-reads
 use Rattle.image_bytes.proofs.u64_at.Reads as u64-at-reads
 
+room : (c : tie.After-hoppers-at) → c .before .before .args .at + 20 ≤ length (c .before .before .args .s .now)
+room c = let S = c .before .before in room-20 (S .args .at) (S .args .n) _ (S .pre .0) (S .pre .1)
+
+abbrev after-hoppers : tie.After-u16-at3 → tie.After-hoppers-at
+after-hoppers c = c .before .before .before
+
 hoppers-at-requires : tie.Need-hoppers-at-requires
 hoppers-at-requires c κs = search needs
 
@@ -19,61 +24,48 @@ add-u16-at : tie.Need-add-u16-at
 add-u16-at c = search needs
 
 u16-at-requires : tie.Need-u16-at-requires
-u16-at-requires c κs =
-    let S = c .before .before in
-    omega (arith, room-20 (S .args .at) (S .args .n) _ (S .pre .0) (S .pre .1))
+u16-at-requires c κs = let r = room c in omega arith
 
 add-u16-at-2 : tie.Need-add-u16-at-2
 add-u16-at-2 c = search needs
 
 u16-at-requires-2 : tie.Need-u16-at-requires-2
-u16-at-requires-2 c κs =
-    let S = c .before .before .before in
-    omega (arith, room-20 (S .args .at) (S .args .n) _ (S .pre .0) (S .pre .1))
+u16-at-requires-2 c κs = let r = room (c .before) in omega arith
 
 add-u16-at-3 : tie.Need-add-u16-at-3
 add-u16-at-3 c = search needs
 
 u16-at-requires-3 : tie.Need-u16-at-requires-3
-u16-at-requires-3 c κs =
-    let S = c .before .before .before .before in
-    omega (arith, room-20 (S .args .at) (S .args .n) _ (S .pre .0) (S .pre .1))
+u16-at-requires-3 c κs = let r = room (c .before .before) in omega arith
 
 add-u16-at-4 : tie.Need-add-u16-at-4
 add-u16-at-4 c = search needs
 
 u16-at-requires-4 : tie.Need-u16-at-requires-4
-u16-at-requires-4 c κs =
-    let S = c .before .before .before .before .before in
-    omega (arith, room-20 (S .args .at) (S .args .n) _ (S .pre .0) (S .pre .1))
+u16-at-requires-4 c κs = let r = room (after-hoppers c) in omega arith
 
 add-u64-at : tie.Need-add-u64-at
 add-u64-at c = search needs
 
 u64-at-requires : tie.Need-u64-at-requires
-u64-at-requires c κs =
-    let S = c .before .before .before .before .before .before in
-    omega (arith, room-20 (S .args .at) (S .args .n) _ (S .pre .0) (S .pre .1))
+u64-at-requires c κs = let r = room (after-hoppers (c .before)) in omega arith
 
 shared-slice-read-t12 : tie.Need-shared-slice-read-t12
-shared-slice-read-t12 c =
-    let S = c .before .before .before .before .before .before .before .before in
-    omega (arith, room-20 (S .args .at) (S .args .n) _ (S .pre .0) (S .pre .1))
+shared-slice-read-t12 c = let r = room (after-hoppers (c .before .before .before)) in omega arith
 
 add-t10 : tie.Need-add-t10
 add-t10 c = search needs
 
 shared-slice-read-t14 : tie.Need-shared-slice-read-t14
-shared-slice-read-t14 c =
-    let S = c .before .before .before .before .before .before .before .before .before in
-    omega (arith, room-20 (S .args .at) (S .args .n) _ (S .pre .0) (S .pre .1))
+shared-slice-read-t14 c = let U = c .before .before in let r = room (after-hoppers (U .before .before)) in omega arith
 
 returns : tie.Need-returns
 returns c =
-    let S = c .before .before .before .before .before .before .before .before .before in
-    let g = S .args in
-    let r = room-20 g.at g.n (length (g.s .now)) (S .pre .0) (S .pre .1) in
-    rw (settings-code (g.s .now) g.at g.n (eqb g.n 28) refl r, c .before .before .before .before .before .before .before .hoppers-at .ensures, c .before .before .before .before .before .before .u16-at .ensures, c .before .before .before .before .before .u16-at2 .ensures, c .before .before .before .before .u16-at3 .ensures, c .before .before .before .u16-at4 .ensures, c .before .before .u64-at .ensures)
+    let U = c .before .before in
+    let T = U .before .before in
+    let H = after-hoppers T in
+    let g = H .before .before .args in
+    settings-made (g.s .now) g.at g.n (room H) _ _ _ _ _ _ (H .hoppers-at .ensures) (T .before .before .u16-at .ensures) (T .before .u16-at2 .ensures) (T .u16-at3 .ensures) (U .before .u16-at4 .ensures) (U .u64-at .ensures)
 
 pub settings-at-spec : {M : Type 1} → statement M
 settings-at-spec =
