@@ -37,22 +37,26 @@ count-fits s t h p = go (decLe (total s) t)
     go (no on) = count-on s t h p (omega arith)
 
 -- ---- the code's parts
-pub head-off : (s : Settings) (t : ℕ) (h : Tile) → total s ≤ t → headFits s t h ≡ headTest s t h
-unfolding headTest
-head-off s t h off = rw (le-ltb t (total s) off) (sym (and-yes (headFits s t h)))
+module _ (s : Settings) (t : ℕ) (h : Tile) (all : ℕ) (e : all ≡ total s) (fits : Bool) (f : fits ≡ headFits s t h) where
+  pub head-off : all ≤ t → fits ≡ headTest s t h
+  unfolding headTest
+  head-off off = rw (le-ltb t (total s) (omega arith), f) (sym (and-yes (headFits s t h)))
 
-pub head-on : (s : Settings) (t : ℕ) (h : Tile) → t < total s → (headFits s t h && headSound s t h) ≡ headTest s t h
-unfolding headTest
-head-on s t h on = rw (lt-ltb t (total s) on)
+  pub head-on : t < all → (own : Bool) → own ≡ headSound s t h → (fits && own) ≡ headTest s t h
+  unfolding headTest
+  head-on on own o = rw (f, o, lt-ltb t (total s) (omega arith))
+
+pub head-in : (s : Settings) (t all : ℕ) → all ≡ total s → t < all → t < total s
+head-in s t all e on = omega arith
 
 pub places-many : (s : Settings) (last n : ℕ) (l : List Canister) → 16 < n → false ≡ placesTest s last n l
 unfolding placesTest
 places-many s last n l h = rw (lt-leb n 16 h)
 
-pub places-few : (s : Settings) (last n : ℕ) (l : List Canister) → n ≤ 16
-    → (allOf isZeroCanister (drop n l) && (allOf (memberSound s last) (take n l) && pairsOf (inOrder s) (take n l))) ≡ placesTest s last n l
+pub places-few : (s : Settings) (last n : ℕ) (l : List Canister) (free each pairs : Bool) → n ≤ 16
+    → free ≡ allOf isZeroCanister (drop n l) → each ≡ allOf (memberSound s last) (take n l) → pairs ≡ pairsOf (inOrder s) (take n l) → (free && (each && pairs)) ≡ placesTest s last n l
 unfolding placesTest usedSound
-places-few s last n l h = rw (le-leb n 16 h)
+places-few s last n l free each pairs h a b c = rw (a, b, c, le-leb n 16 h)
 
 -- ---- a tile is tested by its parts
 and-moved : (a b c : Bool) → (a && (b && c)) ≡ (b && (a && c))

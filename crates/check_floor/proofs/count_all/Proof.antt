@@ -46,8 +46,9 @@ loop-less c = search needs
 
 loop-again : tie.Need-loop-again Inv-loop μ-loop
 loop-again c =
-    let l = c .before .before .before .loop in
-    let g = c .before .before .before .before .args in
+    let p = c .before .before .before in
+    let l = p .loop in
+    let g = p .before .args in
     record {
       below = omega arith;
       tiles-length = l .inv .tiles-length;

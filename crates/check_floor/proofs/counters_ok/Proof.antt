@@ -63,10 +63,12 @@ cast-booked c = search needs
 returns : tie.Need-returns
 unfolding hoppersOf
 returns c =
-    let S = c .before .before .before .before .before .before .before .before .before in
+    let w4 = c .before .before .before in
+    let w1 = w4 .before .before .before in
+    let S = w1 .before .before .before in
     let M = settings-fact (S .args .s) .0 (S .pre) in
     let h : S .args .c .last < 2 ^ 32 = omega arith in
-    rw (c .before .before .before .before .before .before .wide .ensures .0, c .before .before .before .before .before .wide2 .ensures .0, c .before .before .before .before .wide3 .ensures .0, c .before .before .before .wide4 .ensures .0, c .before .before .wide5 .ensures .0, c .before .before .before .before .before .before .before .before .size .ensures, bits-within (S .args .s .hoppers) (total (S .args .s)) 64 (M .few) (M .hoppers-on))
+    rw (w1 .wide .ensures .0, w4 .before .before .wide2 .ensures .0, w4 .before .wide3 .ensures .0, w4 .wide4 .ensures .0, c .before .before .wide5 .ensures .0, w1 .before .before .size .ensures, bits-within (S .args .s .hoppers) (total (S .args .s)) 64 (M .few) (M .hoppers-on))
     (counters-code (length (bitsBelow (S .args .s .hoppers) (total (S .args .s)))) (S .args .c) (S .args .n) (delivered-length (S .args .c) _ (S .good .1 .0)) h)
 
 pub counters-ok-spec : {M : Type 1} → statement M

@@ -8,6 +8,7 @@ use lib.ListN.{length, getD, length-set}
 use borrow.Author.Tests.{not-true, not-false}
 use Rattle.laws.specs.Define.{allBelow}
 use Rattle.laws.proofs.Tables.{upto-turn, below-zero, below-step, ended, with-zero, with-step}
+use Rattle.floor.specs.declared.Floor.{Floor}
 use Rattle.floor.specs.Model.{numbers}
 use Rattle.floor.specs.Memory.{zeroCanister, isZeroCanister, block}
 use Rattle.floor.proofs.Sized.{tiles-length, canisters-length}
@@ -59,6 +60,46 @@ Inv-loop4 f n added keys₀ u₀ keys u = ListedTo f keys u
 abbrev μ-loop4 : tie.MeasureT-loop4
 μ-loop4 f n added keys₀ u₀ keys u = 64 - u
 
+-- ---- the places that a need goes back to: the start and the floor, the loop over the tiles, its end
+abbrev start : tie.At-loop Inv-loop2 μ-loop2 Inv-loop3 μ-loop3 Inv-loop μ-loop Inv-loop5 μ-loop5 Inv-loop4 μ-loop4 → tie.Start Inv-loop2 μ-loop2 Inv-loop3 μ-loop3 Inv-loop μ-loop Inv-loop5 μ-loop5 Inv-loop4 μ-loop4
+start c = c .before .before .before
+
+abbrev floor : tie.At-loop Inv-loop2 μ-loop2 Inv-loop3 μ-loop3 Inv-loop μ-loop Inv-loop5 μ-loop5 Inv-loop4 μ-loop4 → Floor
+floor c = start c .args .t1
+
+abbrev at-tile : tie.After-head-test Inv-loop2 μ-loop2 Inv-loop3 μ-loop3 Inv-loop μ-loop Inv-loop5 μ-loop5 Inv-loop4 μ-loop4 → tie.At-loop Inv-loop2 μ-loop2 Inv-loop3 μ-loop3 Inv-loop μ-loop Inv-loop5 μ-loop5 Inv-loop4 μ-loop4
+at-tile c = c .before .before .before
+
+abbrev scanned : tie.At-loop4 Inv-loop2 μ-loop2 Inv-loop3 μ-loop3 Inv-loop μ-loop Inv-loop5 μ-loop5 Inv-loop4 μ-loop4 → tie.After-loop Inv-loop2 μ-loop2 Inv-loop3 μ-loop3 Inv-loop μ-loop Inv-loop5 μ-loop5 Inv-loop4 μ-loop4
+scanned c = let n = c .before .before in n .before .before .before
+
+-- ---- what several needs of one place share
+sized : (c : tie.At-loop Inv-loop2 μ-loop2 Inv-loop3 μ-loop3 Inv-loop μ-loop Inv-loop5 μ-loop5 Inv-loop4 μ-loop4) → (length (floor c .tiles) ≡ 64) × (length (floor c .canisters) ≡ 1024)
+sized c = (tiles-length (floor c) _ (start c .good .0), canisters-length (floor c) _ (start c .good .0))
+
+tested : (c : tie.Joined1 Inv-loop2 μ-loop2 Inv-loop3 μ-loop3 Inv-loop μ-loop Inv-loop5 μ-loop5 Inv-loop4 μ-loop4) → let o = at-tile (c .before .before) in c .if1 .ok ≡ testOf (floor o) (o .loop .t)
+tested c =
+    let h = c .before .before in
+    let o = at-tile h in
+    let t = o .loop .t in
+    let on : t < 64 = omega arith in
+    let lc = sized o .1 in
+    ⊎-elim
+    (λ w. w .3 ∙ after-empty (floor o) t (w .1 .k) lc on (w .0 .taken) (w .2 .left) (w .1 .inv .tested))
+    (λ w. w .4 ∙ after-used (floor o) t (w .1 .i) (w .1 .items) lc on (w .0 .left) (w .2 .left) (w .1 .inv .items-length) (w .1 .inv .copied) (h .head-test .ensures) (w .3 .ensures))
+    (c .if1 .came)
+
+all-tested : (c : tie.After-loop Inv-loop2 μ-loop2 Inv-loop3 μ-loop3 Inv-loop μ-loop Inv-loop5 μ-loop5 Inv-loop4 μ-loop4) → allBelow (testOf (floor (c .before))) 64 ≡ true
+all-tested c =
+    let l = c .before .loop .inv in
+    sym (ended (allBelow (testOf (floor (c .before)))) (c .loop-test .left) (l .below) (l .tested))
+
+all-keys : (c : tie.After-loop4 Inv-loop2 μ-loop2 Inv-loop3 μ-loop3 Inv-loop μ-loop Inv-loop5 μ-loop5 Inv-loop4 μ-loop4) → c .before .loop4 .keys ≡ numbers (floor (scanned (c .before) .before) .canisters)
+all-keys c =
+    let o = scanned (c .before) .before in
+    let x = c .before .loop4 in
+    keyed-end (floor o) (sized o .1) (x .u) (x .keys) (omega (arith, c .loop4-test .left, x .inv .below)) (x .inv .keys-length) (x .inv .keyed)
+
 loop-holds : tie.Need-loop-holds Inv-loop2 μ-loop2 Inv-loop3 μ-loop3 Inv-loop μ-loop Inv-loop5 μ-loop5 Inv-loop4 μ-loop4
 loop-holds c = record { below = omega arith; tested = sym (below-zero (testOf (c .before .before .args .t1))) }
 
@@ -69,13 +110,13 @@ element-copy-out-h : tie.Need-element-copy-out-h Inv-loop2 μ-loop2 Inv-loop3 μ
 element-copy-out-h c = search needs
 
 head-test-requires : tie.Need-head-test-requires Inv-loop2 μ-loop2 Inv-loop3 μ-loop3 Inv-loop μ-loop Inv-loop5 μ-loop5 Inv-loop4 μ-loop4
-head-test-requires c κs = let S = c .before .before .before .before .before in pass-sized (S .args .t1 .settings) (S .pre) .0
+head-test-requires c κs = let S = start (c .before .before) in pass-sized (S .args .t1 .settings) (S .pre) .0
 
 loop2-holds : tie.Need-loop2-holds Inv-loop2 μ-loop2 Inv-loop3 μ-loop3 Inv-loop μ-loop Inv-loop5 μ-loop5 Inv-loop4 μ-loop4
 loop2-holds c =
-    let f = c .before .before .before .before .before .before .before .before .args .t1 in
-    let o = c .before .before .before .before .before .loop in
-    record { below = omega arith; here = omega arith; tested = with-zero isZeroCanister (block (f .canisters) (o .t)) (c .before .before .head-test .ensures) }
+    let h = c .before .before in
+    let o = at-tile h in
+    record { below = omega arith; here = omega arith; tested = with-zero isZeroCanister (block (floor o .canisters) (o .loop .t)) (h .head-test .ensures) }
 
 mul-is-zero-canister : tie.Need-mul-is-zero-canister Inv-loop2 μ-loop2 Inv-loop3 μ-loop3 Inv-loop μ-loop Inv-loop5 μ-loop5 Inv-loop4 μ-loop4
 mul-is-zero-canister c = search needs
@@ -100,17 +141,18 @@ loop2-less c = search needs
 
 loop2-again : tie.Need-loop2-again Inv-loop2 μ-loop2 Inv-loop3 μ-loop3 Inv-loop μ-loop Inv-loop5 μ-loop5 Inv-loop4 μ-loop4
 loop2-again c =
-    let S = c .before .before .before .before .before .before .before .before .before .before .before .before in
-    let f = S .args .t1 in
-    let o = c .before .before .before .before .before .before .before .before .before .loop in
-    let l = c .before .before .before .loop2 in
+    let z = c .before .before .before in
+    let o = at-tile (z .before .before .before) in
+    let f = floor o in
+    let l = z .loop2 in
     let cs = f .canisters in
+    let t = o .loop .t in
     let on : l .k < 16 = omega arith in
     let v = l .inv in
     record {
       below = omega arith;
       here = v .here;
-      tested = with-step (headed f (o .t)) isZeroCanister (block cs (o .t)) (l .k) zeroCanister (rw (block-length cs (o .t) (canisters-length f _ (S .good .0)) (v .here)) on) (v .tested) (c .is-zero-canister .ensures ∙ ap isZeroCanister (sym (block-at cs (o .t) (l .k) on)));
+      tested = with-step (headed f t) isZeroCanister (block cs t) (l .k) zeroCanister (rw (block-length cs t (sized o .1) (v .here)) on) (v .tested) (c .is-zero-canister .ensures ∙ ap isZeroCanister (sym (block-at cs t (l .k) on)));
     }
 
 loop3-holds : tie.Need-loop3-holds Inv-loop2 μ-loop2 Inv-loop3 μ-loop3 Inv-loop μ-loop Inv-loop5 μ-loop5 Inv-loop4 μ-loop4
@@ -142,32 +184,27 @@ loop3-less c = search needs
 
 loop3-again : tie.Need-loop3-again Inv-loop2 μ-loop2 Inv-loop3 μ-loop3 Inv-loop μ-loop Inv-loop5 μ-loop5 Inv-loop4 μ-loop4
 loop3-again c =
-    let f = c .before .before .before .before .before .before .before .before .before .before .before .args .t1 in
-    let o = c .before .before .before .before .before .before .before .before .loop in
-    let l = c .before .before .loop3 in
+    let z = c .before .before in
+    let o = at-tile (z .before .before .before) in
+    let cs = floor o .canisters in
+    let l = z .loop3 in
     record {
       below = omega arith;
       items-length = simp length-set (l .inv .items-length);
-      copied = upto-turn (l .i) (λ j. getD (f .canisters) (16 * o .t + j) zeroCanister) zeroCanister (l .items) (getD (f .canisters) (16 * o .t + l .i) zeroCanister) (omega arith) (l .inv .copied) refl;
+      copied = upto-turn (l .i) (λ j. getD cs (16 * o .loop .t + j) zeroCanister) zeroCanister (l .items) (getD cs (16 * o .loop .t + l .i) zeroCanister) (omega arith) (l .inv .copied) refl;
     }
 
 places-test-requires : tie.Need-places-test-requires Inv-loop2 μ-loop2 Inv-loop3 μ-loop3 Inv-loop μ-loop Inv-loop5 μ-loop5 Inv-loop4 μ-loop4
-places-test-requires c κs = let S = c .before .before .before .before .before .before .before .before .before .before in pass-sized (S .args .t1 .settings) (S .pre) .1
+places-test-requires c κs =
+    let z = c .before in
+    let S = start (at-tile (z .before .before .before)) in
+    pass-sized (S .args .t1 .settings) (S .pre) .1
 
 returns : tie.Need-returns Inv-loop2 μ-loop2 Inv-loop3 μ-loop3 Inv-loop μ-loop Inv-loop5 μ-loop5 Inv-loop4 μ-loop4
 returns c =
-    let S = c .before .before .before .before .before .before .before .before .before in
-    let f = S .args .t1 in
-    let g = S .good .0 in
-    let lc = canisters-length f _ g in
-    let o = c .before .before .before .before .before .before .loop in
-    let on : o .t < 64 = omega arith in
-    let j = c .before .if1 in
-    let tested : j .ok ≡ testOf f (o .t) = ⊎-elim
-    (λ w. w .3 ∙ after-empty f (o .t) (w .1 .k) lc on (w .0 .taken) (w .2 .left) (w .1 .inv .tested))
-    (λ w. w .4 ∙ after-used f (o .t) (w .1 .i) (w .1 .items) lc on (w .0 .left) (w .2 .left) (w .1 .inv .items-length) (w .1 .inv .copied) (c .before .before .before .head-test .ensures) (w .3 .ensures))
-    (j .came) in
-    well-unlike f (tiles-length f _ g) lc (S .pre) (o .t) on (sym tested ∙ not-true _ (c .if2 .taken))
+    let o = at-tile (c .before .before .before) in
+    let s = sized o in
+    well-unlike (floor o) (s .0) (s .1) (start o .pre) (o .loop .t) (omega arith) (sym (tested (c .before)) ∙ not-true _ (c .if2 .taken))
 
 add-t : tie.Need-add-t Inv-loop2 μ-loop2 Inv-loop3 μ-loop3 Inv-loop μ-loop Inv-loop5 μ-loop5 Inv-loop4 μ-loop4
 add-t c = search needs
@@ -177,17 +214,8 @@ loop-less c = search needs
 
 loop-again : tie.Need-loop-again Inv-loop2 μ-loop2 Inv-loop3 μ-loop3 Inv-loop μ-loop Inv-loop5 μ-loop5 Inv-loop4 μ-loop4
 loop-again c =
-    let S = c .before .before .before .before .before .before .before .before .before in
-    let f = S .args .t1 in
-    let lc = canisters-length f _ (S .good .0) in
-    let o = c .before .before .before .before .before .before .loop in
-    let on : o .t < 64 = omega arith in
-    let j = c .before .if1 in
-    let tested : j .ok ≡ testOf f (o .t) = ⊎-elim
-    (λ w. w .3 ∙ after-empty f (o .t) (w .1 .k) lc on (w .0 .taken) (w .2 .left) (w .1 .inv .tested))
-    (λ w. w .4 ∙ after-used f (o .t) (w .1 .i) (w .1 .items) lc on (w .0 .left) (w .2 .left) (w .1 .inv .items-length) (w .1 .inv .copied) (c .before .before .before .head-test .ensures) (w .3 .ensures))
-    (j .came) in
-    record { below = omega arith; tested = below-step (testOf f) (o .t) (o .inv .tested) (sym (not-false _ (c .if2 .left)) ∙ tested) }
+    let o = at-tile (c .before .before .before) in
+    record { below = omega arith; tested = below-step (testOf (floor o)) (o .loop .t) (o .loop .inv .tested) (sym (not-false _ (c .if2 .left)) ∙ tested (c .before)) }
 
 count-all-requires : tie.Need-count-all-requires Inv-loop2 μ-loop2 Inv-loop3 μ-loop3 Inv-loop μ-loop Inv-loop5 μ-loop5 Inv-loop4 μ-loop4
 count-all-requires c κs = search needs
@@ -197,16 +225,15 @@ counters-ok-requires c κs = search needs
 
 returns-2 : tie.Need-returns-2 Inv-loop2 μ-loop2 Inv-loop3 μ-loop3 Inv-loop μ-loop Inv-loop5 μ-loop5 Inv-loop4 μ-loop4
 returns-2 c =
-    let S = c .before .before .before .before .before .before .before .before in
-    let f = S .args .t1 in
-    let g = S .good .0 in
-    let o = c .before .before .before .before .before .loop in
-    let all : allBelow (testOf f) 64 ≡ true = sym (ended (allBelow (testOf f)) (c .before .before .before .before .loop-test .left) (o .inv .below) (o .inv .tested)) in
-    let none : counted (f .tiles) 64 ≡ 0 = sym (c .before .before .count-all .ensures) ∙ c .if3 .taken in
-    rw (c .before .counters-ok .ensures, c .before .before .count-all .ensures) (well-empty f (tiles-length f _ g) (canisters-length f _ g) (S .pre) all none)
+    let n = c .before .before in
+    let over = n .before .before in
+    let o = over .before in
+    let s = sized o in
+    let none : counted (floor o .tiles) 64 ≡ 0 = sym (n .count-all .ensures) ∙ c .if3 .taken in
+    rw (c .before .counters-ok .ensures, n .count-all .ensures) (well-empty (floor o) (s .0) (s .1) (start o .pre) (all-tested over) none)
 
 loop4-holds : tie.Need-loop4-holds Inv-loop2 μ-loop2 Inv-loop3 μ-loop3 Inv-loop μ-loop Inv-loop5 μ-loop5 Inv-loop4 μ-loop4
-loop4-holds c = record { below = omega arith; keys-length = refl; keyed = keyed-start (c .before .before .before .before .before .before .before .before .args .t1) }
+loop4-holds c = let n = c .before .before in record { below = omega arith; keys-length = refl; keyed = keyed-start (floor (n .before .before .before)) }
 
 mul-h-2 : tie.Need-mul-h-2 Inv-loop2 μ-loop2 Inv-loop3 μ-loop3 Inv-loop μ-loop Inv-loop5 μ-loop5 Inv-loop4 μ-loop4
 mul-h-2 c = search needs
@@ -215,7 +242,11 @@ element-copy-out-h-2 : tie.Need-element-copy-out-h-2 Inv-loop2 μ-loop2 Inv-loop
 element-copy-out-h-2 c = search needs
 
 loop5-holds : tie.Need-loop5-holds Inv-loop2 μ-loop2 Inv-loop3 μ-loop3 Inv-loop μ-loop Inv-loop5 μ-loop5 Inv-loop4 μ-loop4
-loop5-holds c = let x = c .before .before .before .before .loop4 in record { below = omega arith; keys-length = x .inv .keys-length; keyed = keyed-first (c .before .before .before .before .before .before .before .before .before .before .before .before .before .args .t1) (x .u) (x .keys) (x .inv .keyed) }
+loop5-holds c =
+    let p = c .before .before .before in
+    let f = floor (scanned (p .before) .before) in
+    let x = p .before .loop4 in
+    record { below = omega arith; keys-length = x .inv .keys-length; keyed = keyed-first f (x .u) (x .keys) (x .inv .keyed) }
 
 mul-c : tie.Need-mul-c Inv-loop2 μ-loop2 Inv-loop3 μ-loop3 Inv-loop μ-loop Inv-loop5 μ-loop5 Inv-loop4 μ-loop4
 mul-c c = search needs
@@ -249,9 +280,11 @@ loop5-less c = search needs
 
 loop5-again : tie.Need-loop5-again Inv-loop2 μ-loop2 Inv-loop3 μ-loop3 Inv-loop μ-loop Inv-loop5 μ-loop5 Inv-loop4 μ-loop4
 loop5-again c =
-    let x = c .before .before .before .before .before .before .before .loop4 in
-    let l = c .before .before .loop5 in
-    record { below = omega arith; keys-length = simp length-set (l .inv .keys-length); keyed = keyed-turn (c .before .before .before .before .before .before .before .before .before .before .before .before .before .before .before .before .args .t1) (x .u) (l .j) (l .keys) (omega arith) (l .inv .keyed) }
+    let z = c .before .before in
+    let p = z .before .before .before in
+    let a = p .before .before in
+    let l = z .loop5 in
+    record { below = omega arith; keys-length = simp length-set (l .inv .keys-length); keyed = keyed-turn (floor (scanned a .before)) (a .loop4 .u) (l .j) (l .keys) (omega arith) (l .inv .keyed) }
 
 add-u : tie.Need-add-u Inv-loop2 μ-loop2 Inv-loop3 μ-loop3 Inv-loop μ-loop Inv-loop5 μ-loop5 Inv-loop4 μ-loop4
 add-u c = search needs
@@ -261,46 +294,33 @@ loop4-less c = search needs
 
 loop4-again : tie.Need-loop4-again Inv-loop2 μ-loop2 Inv-loop3 μ-loop3 Inv-loop μ-loop Inv-loop5 μ-loop5 Inv-loop4 μ-loop4
 loop4-again c =
-    let S = c .before .before .before .before .before .before .before .before .before .before .before .before .before in
-    let f = S .args .t1 in
-    let lc = canisters-length f _ (S .good .0) in
-    let o = c .before .before .before .before .before .before .before .before .before .before .loop in
-    let all : allBelow (testOf f) 64 ≡ true = sym (ended (allBelow (testOf f)) (c .before .before .before .before .before .before .before .before .before .loop-test .left) (o .inv .below) (o .inv .tested)) in
-    let x = c .before .before .before .before .loop4 in
-    let on : x .u < 64 = c .before .before .before .loop4-test .taken in
+    let p = c .before .before .before in
+    let over = scanned (p .before) in
+    let f = floor (over .before) in
+    let x = p .before .loop4 in
+    let on : x .u < 64 = p .loop4-test .taken in
     let j = c .if4 in
     let len : length (j .keys) ≡ 1024 = ⊎-elim (λ w. ap length (w .3) ∙ w .1 .inv .keys-length) (λ w. ap length (w .1) ∙ x .inv .keys-length) (j .came) in
     let keyed : Keyed f (16 * (x .u + 1)) (j .keys)
     = ⊎-elim
     (λ w. subst (λ (l : List ℕ). Keyed f (16 * (x .u + 1)) l) (sym (w .3)) (keyed-last f (x .u) (w .1 .j) (w .1 .keys) (omega (arith, w .1 .inv .below, w .2 .left)) (w .1 .inv .keyed)))
-    (λ w. subst (λ (l : List ℕ). Keyed f (16 * (x .u + 1)) l) (sym (w .1)) (keyed-empty f lc (x .u) (x .keys) on (fit-each f all (x .u) on) (w .0 .left) (x .inv .keyed)))
+    (λ w. subst (λ (l : List ℕ). Keyed f (16 * (x .u + 1)) l) (sym (w .1)) (keyed-empty f (sized (over .before) .1) (x .u) (x .keys) on (fit-each f (all-tested over) (x .u) on) (w .0 .left) (x .inv .keyed)))
     (j .came) in
     record { below = omega arith; keys-length = len; keyed = keyed }
 
 numbers-differ-requires : tie.Need-numbers-differ-requires Inv-loop2 μ-loop2 Inv-loop3 μ-loop3 Inv-loop μ-loop Inv-loop5 μ-loop5 Inv-loop4 μ-loop4
 numbers-differ-requires c κs =
-    let S = c .before .before .before .before .before .before .before .before .before .before in
-    let f = S .args .t1 in
-    let lc = canisters-length f _ (S .good .0) in
-    let o = c .before .before .before .before .before .before .before .loop in
-    let all : allBelow (testOf f) 64 ≡ true = sym (ended (allBelow (testOf f)) (c .before .before .before .before .before .before .loop-test .left) (o .inv .below) (o .inv .tested)) in
-    let x = c .before .loop4 in
-    let u : x .u ≡ 64 = omega (arith, c .loop4-test .left, x .inv .below) in
-    subst (λ (l : List ℕ). Runs l) (sym (keyed-end f lc (x .u) (x .keys) u (x .inv .keys-length) (x .inv .keyed))) (keys-run f all lc)
+    let over = scanned (c .before) in
+    subst (λ (l : List ℕ). Runs l) (sym (all-keys c)) (keys-run (floor (over .before)) (all-tested over) (sized (over .before) .1))
 
 returns-3 : tie.Need-returns-3 Inv-loop2 μ-loop2 Inv-loop3 μ-loop3 Inv-loop μ-loop Inv-loop5 μ-loop5 Inv-loop4 μ-loop4
 returns-3 c =
-    let S = c .before .before .before .before .before .before .before .before .before .before .before in
-    let f = S .args .t1 in
-    let g = S .good .0 in
-    let lc = canisters-length f _ g in
-    let o = c .before .before .before .before .before .before .before .before .loop in
-    let all : allBelow (testOf f) 64 ≡ true = sym (ended (allBelow (testOf f)) (c .before .before .before .before .before .before .before .loop-test .left) (o .inv .below) (o .inv .tested)) in
-    let x = c .before .before .loop4 in
-    let u : x .u ≡ 64 = omega (arith, c .before .loop4-test .left, x .inv .below) in
-    let keys : x .keys ≡ numbers (f .canisters) = keyed-end f lc (x .u) (x .keys) u (x .inv .keys-length) (x .inv .keyed) in
-    rw (c .before .before .before .before .counters-ok .ensures, c .before .before .before .before .before .count-all .ensures, c .numbers-differ .ensures, keys)
-    (well-tiled f (tiles-length f _ g) lc (S .pre) all)
+    let n = c .before .before .before in
+    let over = scanned (c .before .before) in
+    let o = over .before in
+    let s = sized o in
+    rw (n .before .counters-ok .ensures, n .before .before .count-all .ensures, c .numbers-differ .ensures, all-keys (c .before))
+    (well-tiled (floor o) (s .0) (s .1) (start o .pre) (all-tested over))
 
 pub scan-spec : {M : Type 1} → statement M
 scan-spec =

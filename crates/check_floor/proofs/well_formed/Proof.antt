@@ -14,6 +14,9 @@ use Rattle.check_layouts.proofs.layouts_ok.Reads as layouts-ok-reads
 use Rattle.check_settings.proofs.settings_refusal.Reads as settings-refusal-reads
 use Rattle.check_floor.proofs.scan.Reads as scan-reads
 
+abbrev start : tie.After-layouts-ok → tie.Start
+start c = let p = c .before .before in p .before .before .before
+
 settings-refusal-requires : tie.Need-settings-refusal-requires
 settings-refusal-requires c κs = search needs
 
@@ -25,20 +28,21 @@ returns c =
     state-off f (well-refused f (tiles-length f _ g) (canisters-length f _ g) off)
 
 layouts-ok-requires : tie.Need-layouts-ok-requires
-layouts-ok-requires c κs = pass-of (c .before .before .before .before .args .f .settings) _ (c .before .before .settings-refusal .ensures) (c .before .if1 .left)
+layouts-ok-requires c κs = search (pass-of, needs)
 
 returns-2 : tie.Need-returns-2
 returns-2 c =
-    let f = c .before .before .before .before .before .before .args .f in
-    layouts-off f (layouts-length f _ (c .before .before .before .before .before .before .good .0)) (sym (c .before .layouts-ok .ensures) ∙ not-true _ (c .if2 .taken))
+    let S = start (c .before) in
+    layouts-off (S .args .f) (layouts-length (S .args .f) _ (S .good .0)) (sym (c .before .layouts-ok .ensures) ∙ not-true _ (c .if2 .taken))
 
 scan-requires : tie.Need-scan-requires
-scan-requires c κs = pass-of (c .before .before .before .before .before .before .args .f .settings) _ (c .before .before .before .before .settings-refusal .ensures) (c .before .before .before .if1 .left)
+scan-requires c κs = search (pass-of, needs)
 
 returns-3 : tie.Need-returns-3
 returns-3 c =
-    let f = c .before .before .before .before .before .before .before .args .f in
-    c .scan .ensures ∙ layouts-on f (layouts-length f _ (c .before .before .before .before .before .before .before .good .0)) (sym (c .before .before .layouts-ok .ensures) ∙ not-false _ (c .before .if2 .left))
+    let l = c .before .before in
+    let S = start l in
+    c .scan .ensures ∙ layouts-on (S .args .f) (layouts-length (S .args .f) _ (S .good .0)) (sym (l .layouts-ok .ensures) ∙ not-false _ (c .before .if2 .left))
 
 pub well-formed-spec : {M : Type 1} → statement M
 well-formed-spec =
