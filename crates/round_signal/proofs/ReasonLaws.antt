@@ -37,19 +37,19 @@ module _ (h : Tile) where
       why-else c = rw (eq-eqb (h .running) 1 r, ne-eqb (h .count) 0 b, ne-eqb (h .next .code) 0 c)
 
 -- ---- by the tile ahead
-module _ (next turn lack : ℕ) where
-  pub why-turn : next ≢ opposite turn → 4 ≡ aheadReason next turn lack
+module _ (next turn lack facing : ℕ) (o : facing ≡ opposite turn) where
+  pub why-turn : next ≢ facing → 4 ≡ aheadReason next turn lack
   unfolding aheadReason refusal
-  why-turn d = rw (ne-eqb next (opposite turn) d)
+  why-turn d = rw (sym o, ne-eqb next facing d)
 
-  module _ (d : next ≡ opposite turn) where
+  module _ (d : next ≡ facing) where
     pub why-gap : 0 < lack → 5 ≡ aheadReason next turn lack
     unfolding aheadReason refusal
-    why-gap e = rw (eq-eqb next (opposite turn) d, lt-ltb 0 lack e)
+    why-gap e = rw (sym o, eq-eqb next facing d, lt-ltb 0 lack e)
 
     pub why-moved : lack ≤ 0 → 6 ≡ aheadReason next turn lack
     unfolding aheadReason refusal
-    why-moved e = rw (eq-eqb next (opposite turn) d, le-ltb 0 lack e)
+    why-moved e = rw (sym o, eq-eqb next facing d, le-ltb 0 lack e)
 
 -- the two together are one list of tests
 pub reasons-joined : (a b c d e : Bool) → let n = refusal ((a, 1) ∷ (b, 2) ∷ (c, 3) ∷ []) in

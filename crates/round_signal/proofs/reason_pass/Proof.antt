@@ -26,6 +26,21 @@ Inv-loop s tiles turns lacks all reasons₀ missing₀ i₀ reasons missing i = 
 abbrev μ-loop : tie.MeasureT-loop
 μ-loop s tiles turns lacks all reasons₀ missing₀ i₀ reasons missing i = all - i
 
+-- ---- the places that a need goes back to: the loop over the tiles, and its turn after the tile's own reason
+abbrev at-tile : tie.After-own-reason Inv-loop μ-loop → tie.At-loop Inv-loop μ-loop
+at-tile c = c .before .before .before
+
+abbrev goes-on : tie.After-neighbour Inv-loop μ-loop → tie.After-own-reason Inv-loop μ-loop
+goes-on c = c .before .before .before
+
+-- the tile ahead, or the number of no tile
+ahead : (c : tie.After-neighbour Inv-loop μ-loop) → c .neighbour .result < 65
+ahead c =
+    let o = at-tile (goes-on c) in
+    let l = o .loop in
+    let g = o .before .before .args in
+    near-read g.s (getD g.t2 (l .i) zeroTile .next .code) (l .i) (omega (arith, l .inv .whole)) (l .inv .ranged .2) (c .neighbour .ensures)
+
 tile-count-requires : tie.Need-tile-count-requires Inv-loop μ-loop
 tile-count-requires c κs = tt
 
@@ -68,8 +83,9 @@ loop-less c = search needs
 
 loop-again : tie.Need-loop-again Inv-loop μ-loop
 loop-again c =
-    let l = c .before .before .before .before .loop in
-    let g = c .before .before .before .before .before .before .args in
+    let o = at-tile (c .before) in
+    let l = o .loop in
+    let g = o .before .before .args in
     let turn : ℕ → ℕ = λ u. getD g.t3 u 0 in
     let lack : ℕ → ℕ = λ u. getD g.t4 u 0 in
     let here : l .i < 64 = omega (arith, l .inv .ranged .2) in
@@ -87,17 +103,17 @@ loop-again c =
 
 neighbour-requires :
     tie.Need-neighbour-requires Inv-loop μ-loop
-neighbour-requires c κs = let l = c .before .before .before .before .before .loop in (l .inv .ranged .0, l .inv .ranged .1, l .inv .ranged .2, omega (arith, l .inv .whole))
+neighbour-requires c κs = let l = at-tile (c .before .before) .loop in (l .inv .ranged .0, l .inv .ranged .1, l .inv .ranged .2, omega (arith, l .inv .whole))
 
 mul-lack : tie.Need-mul-lack Inv-loop μ-loop
-mul-lack c = let l = c .before .before .before .before .before .before .loop in let g = c .before .before .before .before .before .before .before .before .args in omega (arith, near-read g.s (getD g.t2 (l .i) zeroTile .next .code) (l .i) (omega (arith, l .inv .whole)) (l .inv .ranged .2) (c .neighbour .ensures))
+mul-lack c = omega (arith, ahead c)
 
 array-read-lack : tie.Need-array-read-lack Inv-loop μ-loop
-array-read-lack c = let l = c .before .before .before .before .before .before .loop in let g = c .before .before .before .before .before .before .before .before .args in near-read g.s (getD g.t2 (l .i) zeroTile .next .code) (l .i) (omega (arith, l .inv .whole)) (l .inv .ranged .2) (c .neighbour .ensures)
+array-read-lack c = ahead c
 
 array-read-turn :
     tie.Need-array-read-turn Inv-loop μ-loop
-array-read-turn c = let l = c .before .before .before .before .before .before .loop in let g = c .before .before .before .before .before .before .before .before .args in near-read g.s (getD g.t2 (l .i) zeroTile .next .code) (l .i) (omega (arith, l .inv .whole)) (l .inv .ranged .2) (c .neighbour .ensures)
+array-read-turn c = ahead c
 
 ahead-reason-requires :
     tie.Need-ahead-reason-requires Inv-loop μ-loop
@@ -108,7 +124,7 @@ array-write-reasons-2 :
 array-write-reasons-2 c = search needs
 
 beside-requires : tie.Need-beside-requires Inv-loop μ-loop
-beside-requires c κs = c .before .before .before .before .before .before .before .loop .inv .slight (c .before .neighbour .result)
+beside-requires c κs = at-tile (goes-on (c .before)) .loop .inv .slight (c .before .neighbour .result)
 
 mul-missing : tie.Need-mul-missing Inv-loop μ-loop
 mul-missing c = search needs
@@ -125,14 +141,16 @@ loop-less-2 c = search needs
 
 loop-again-2 : tie.Need-loop-again-2 Inv-loop μ-loop
 loop-again-2 c =
-    let l = c .before .before .before .before .before .before .before .before .loop in
-    let g = c .before .before .before .before .before .before .before .before .before .before .args in
+    let n = c .before .before in
+    let o = at-tile (goes-on n) in
+    let l = o .loop in
+    let g = o .before .before .args in
     let turn : ℕ → ℕ = λ u. getD g.t3 u 0 in
     let lack : ℕ → ℕ = λ u. getD g.t4 u 0 in
     let here : l .i < 64 = omega (arith, l .inv .ranged .2) in
-    let q = c .before .before .before .before .before .own-reason in
-    let z = c .before .before .before .before .if1 .left in
-    let e = c .before .before .neighbour .ensures in
+    let q = goes-on n .own-reason in
+    let z = n .before .before .if1 .left in
+    let e = n .neighbour .ensures in
     let y = c .before .ahead-reason in
     let r = reason-read g.s g.t2 turn lack (l .i) (q .ensures) z e refl refl (y .ensures) in
     let m = lack-read g.s g.t2 turn lack (l .i) (q .ensures) z e refl refl (y .ensures) (c .beside .ensures) in record {

@@ -47,8 +47,9 @@ loop-less c = search needs
 
 loop-again : tie.Need-loop-again Inv-loop μ-loop
 loop-again c =
-    let l = c .before .before .before .loop in
-    let g = c .before .before .before .before .before .args in
+    let p = c .before .before .before in
+    let l = p .loop in
+    let g = p .before .before .args in
     (omega arith, l .inv .1, l .inv .2, simp length-set (l .inv .3), within-turn (shownIn g.t2) 0 (l .d) 65 (l .t) (c .shown-next .result) (omega arith) (c .shown-next .ensures) (l .inv .4))
 
 returns : tie.Need-returns Inv-loop μ-loop
