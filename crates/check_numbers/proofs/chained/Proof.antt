@@ -22,6 +22,13 @@ Inv-loop keys heads₀ prev₀ left₀ i₀ heads prev left i = Linked keys head
 abbrev μ-loop : tie.MeasureT-loop
 μ-loop keys heads₀ prev₀ left₀ i₀ heads prev left i = 1024 - i
 
+-- ---- from the inner loop: the loop over the places, and that its place is taken
+abbrev outer : tie.At-loop2 Inv-loop2 μ-loop2 Inv-loop μ-loop → tie.At-loop Inv-loop2 μ-loop2 Inv-loop μ-loop
+outer c = let p = c .before .before in p .before .before
+
+taken : (c : tie.At-loop2 Inv-loop2 μ-loop2 Inv-loop μ-loop) → 0 < at (outer c .before .args .t1) (outer c .loop .i)
+taken c = omega (arith, c .before .before .if1 .left)
+
 loop-holds : tie.Need-loop-holds Inv-loop2 μ-loop2 Inv-loop μ-loop
 loop-holds c = record {
   below = omega arith;
@@ -79,8 +86,9 @@ wide-requires c κs = search needs
 
 loop2-holds : tie.Need-loop2-holds Inv-loop2 μ-loop2 Inv-loop μ-loop
 loop2-holds c =
-    let l = c .before .before .before .loop in
-    let g = c .before .before .before .before .args in
+    let p = c .before .before .before in
+    let l = p .loop in
+    let g = p .before .args in
     let pos : 0 < at g.t1 (l .i) = omega (arith, c .before .if1 .left) in
     let u : Unseen g.t1 (at g.t1 (l .i)) (c .wide .result) (l .i) = subst (λ (x : ℕ). Unseen g.t1 (at g.t1 (l .i)) x (l .i)) (sym (c .wide .ensures)) (unseen-start g.t1 (l .heads) (at g.t1 (l .i)) (l .i) pos (l .inv .heads)) in
     let v = l .inv in
@@ -97,11 +105,9 @@ array-read-if2 c = search needs
 
 returns : tie.Need-returns Inv-loop2 μ-loop2 Inv-loop μ-loop
 returns c =
-    let l = c .before .before .loop2 in
-    let o = c .before .before .before .before .before .before .loop in
-    let g = c .before .before .before .before .before .before .before .args in
-    let pos : 0 < at g.t1 (o .i) = omega (arith, c .before .before .before .before .if1 .left) in
-    (λ _. told-equal g.t1 (l .p - 1) (o .i) (omega arith) (omega arith) (c .if2 .taken) pos, λ e. absurd (omega (arith, e)))
+    let z = c .before .before in
+    let o = outer z in
+    (λ _. told-equal (o .before .args .t1) (z .loop2 .p - 1) (o .loop .i) (omega arith) (omega arith) (c .if2 .taken) (taken z), λ e. absurd (omega (arith, e)))
 
 returns-2 : tie.Need-returns-2 Inv-loop2 μ-loop2 Inv-loop μ-loop
 returns-2 c = (λ e. absurd (omega (arith, e)), λ e. absurd (omega (arith, e)))
@@ -120,20 +126,23 @@ wide-requires-2 c κs = search needs
 
 loop2-less : tie.Need-loop2-less Inv-loop2 μ-loop2 Inv-loop μ-loop
 loop2-less c =
-    let l = c .before .before .before .before .loop2 in
-    let o = c .before .before .before .before .before .before .before .before .loop in
-    let g = c .before .before .before .before .before .before .before .before .before .args in
+    let q = c .before .before in
+    let z = q .before .before in
+    let l = z .loop2 in
+    let o = outer z .loop in
+    let g = outer z .before .args in
     let some : 0 < l .p = omega arith in
     omega (arith, c .wide2 .ensures, prev-below g.t1 (o .prev) (at g.t1 (o .i)) (l .p) (l .p - 1) (o .i) (o .inv .prevs) (l .inv .unseen) some refl)
 
 loop2-again : tie.Need-loop2-again Inv-loop2 μ-loop2 Inv-loop μ-loop
 loop2-again c =
-    let l = c .before .before .before .before .loop2 in
-    let o = c .before .before .before .before .before .before .before .before .loop in
-    let g = c .before .before .before .before .before .before .before .before .before .args in
+    let q = c .before .before in
+    let z = q .before .before in
+    let l = z .loop2 in
+    let o = outer z .loop in
+    let g = outer z .before .args in
     let some : 0 < l .p = omega arith in
-    let pos : 0 < at g.t1 (o .i) = omega (arith, c .before .before .before .before .before .before .if1 .left) in
-    let next = unseen-step g.t1 (o .prev) (at g.t1 (o .i)) (l .p) (l .p - 1) (o .i) pos (o .inv .prevs) (l .inv .unseen) some refl (c .before .before .if2 .left) in
+    let next = unseen-step g.t1 (o .prev) (at g.t1 (o .i)) (l .p) (l .p - 1) (o .i) (taken z) (o .inv .prevs) (l .inv .unseen) some refl (q .if2 .left) in
     let u : Unseen g.t1 (at g.t1 (o .i)) (c .wide2 .result) (o .i) = subst (λ (x : ℕ). Unseen g.t1 (at g.t1 (o .i)) x (o .i)) (sym (c .wide2 .ensures)) next in
     let v = l .inv in
     record { here = v .here; below = u .0; keys-length = v .keys-length; heads-length = v .heads-length; prev-length = v .prev-length; unseen = u }
@@ -164,10 +173,10 @@ loop-less-2 c = search needs
 
 loop-again-2 : tie.Need-loop-again-2 Inv-loop2 μ-loop2 Inv-loop μ-loop
 loop-again-2 c =
-    let l = c .before .loop2 in
-    let o = c .before .before .before .before .before .loop in
-    let g = c .before .before .before .before .before .before .args in
-    let pos : 0 < at g.t1 (o .i) = omega (arith, c .before .before .before .if1 .left) in
+    let z = c .before in
+    let l = z .loop2 in
+    let o = outer z .loop in
+    let g = outer z .before .args in
     let none : l .p ≡ 0 = omega arith in
     let new : Unseen g.t1 (at g.t1 (o .i)) 0 (o .i) = subst (λ (x : ℕ). Unseen g.t1 (at g.t1 (o .i)) x (o .i)) none (l .inv .unseen) in
     let v = o .inv in
@@ -176,7 +185,7 @@ loop-again-2 c =
       keys-length = v .keys-length;
       heads-length = simp length-set (v .heads-length);
       prev-length = simp length-set (v .prev-length);
-      heads = heads-step g.t1 (o .heads) (o .i) (omega arith) pos (v .heads);
+      heads = heads-step g.t1 (o .heads) (o .i) (omega arith) (taken z) (v .heads);
       prevs = prevs-step g.t1 (o .heads) (o .prev) (o .i) (omega arith) (v .heads) (v .prevs);
       unlike = unlike-step g.t1 (o .i) new (v .unlike);
     }
