@@ -5,46 +5,71 @@ use mathlib.Core.Bool.{Bool, not}
 use mathlib.Core.List.{List, [], _∷_}
 use Prim.Native.Nat.{ℕ}
 use lib.Dec.{leb}
+use borrow.Author.Tests.{ne-eqb}
 use Rattle.laws.specs.Define.{refusal}
 use Rattle.floor.specs.declared.Floor.{Floor}
 use Rattle.floor.specs.declared.Answer.{Answer}
-use Rattle.floor.specs.Model.{Model}
+use Rattle.floor.specs.Model.{Model, tileOf, withTile}
 use Rattle.floor.specs.Memory.{view, pack}
-use Rattle.floor.specs.Calls.{answer}
+use Rattle.floor.specs.Calls.{answer, stopTests, stopped, stopAnswer, repairTests, repaired, repairAnswer}
 use Rattle.floor.proofs.Answers.{answer-refused, answer-accepted}
 use Rattle.barge.specs.declared.Barge.{Barge}
 use Rattle.barge.specs.declared.BargeAnswer.{BargeAnswer}
-use Rattle.barge.specs.Barges.{floorAt, withFloor, bargeSound, bargeRefusal, bargeWith}
+use Rattle.barge.specs.Barges.{floorAt, withFloor, bargeSound, bargeRefusal, bargeWith, bargeStop, bargeRepair}
 use Rattle.barge_parts.proofs.Joint.{readAt, On}
-use Rattle.barge_calls.proofs.Answers.{by-first, by-own, by-last, refused, accepted}
+use Rattle.barge_calls.proofs.Answers.{by-first, by-own, by-last}
 
 module _ (tests : Model → List (Bool × ℕ)) (change : Model → Model) (b : Barge) (k : ℕ) where
   abbrev alone : Floor → Answer
   alone f = answer f (tests (view f)) (change (view f))
 
   -- what the call on the barge answers
-  abbrev pub Pressed : BargeAnswer
+  abbrev Pressed : BargeAnswer
   Pressed = let r = alone (floorAt b k) in let n = bargeRefusal b k (r .refusal) [] in record { barge = bargeWith b k n (r .floor); refusal = n }
 
-  pub press-begins : (n : ℕ) → n ≡ refusal ((not (bargeSound b), 30) ∷ (leb 4 k, 49) ∷ []) → n ≢ 0 → record { barge = b; refusal = n } ≡ Pressed
-  press-begins n e z =
-      let r = alone (floorAt b k) in
-      refused b k (r .floor) (bargeRefusal b k (r .refusal) []) n (by-first b k (r .refusal) [] n e z) z
+  press-begins : (n : ℕ) → n ≡ refusal ((not (bargeSound b), 30) ∷ (leb 4 k, 49) ∷ []) → n ≢ 0 → record { barge = b; refusal = n } ≡ Pressed
+  unfolding bargeWith
+  press-begins n e z = rw (by-first b k n e (alone (floorAt b k) .refusal) [] z, ne-eqb n 0 z)
 
-  module _ (B : On b k) (n : ℕ) (e : n ≡ refusal (tests (view (readAt b k)))) where
-    pub press-refused : n ≢ 0 → record { barge = b; refusal = n } ≡ Pressed
-    press-refused z =
+  module _ (B : On b k) (m : ℕ) (t : m ≡ refusal (tests (view (readAt b k)))) where
+    press-refused : m ≢ 0 → record { barge = b; refusal = m } ≡ Pressed
+    unfolding bargeWith
+    press-refused o =
         let f = readAt b k in
-        let r = alone (floorAt b k) in
-        let h : record { refusal = n; floor = f } ≡ r = answer-refused f (tests (view f)) (change (view f)) (B .well) n e z ∙ ap alone (B .is) in
-        refused b k (r .floor) (bargeRefusal b k (r .refusal) []) n (by-own b k (r .refusal) [] B n (ap (λ (x : Answer). x .refusal) h) z) z
+        let h : record { refusal = m; floor = f } ≡ alone (floorAt b k) = answer-refused f (tests (view f)) (change (view f)) (B .well) m t o ∙ ap alone (B .is) in
+        rw (sym h, by-own b k B m [] o, ne-eqb m 0 o)
 
-    pub press-accepted : n ≡ 0 → (g : Floor) → g ≡ pack (change (view (readAt b k))) → record { barge = withFloor b k g; refusal = n } ≡ Pressed
-    unfolding refusal
-    press-accepted z g p =
+    press-accepted : m ≡ 0 → (g : Floor) → g ≡ pack (change (view (readAt b k))) → record { barge = withFloor b k g; refusal = m } ≡ Pressed
+    unfolding bargeWith refusal
+    press-accepted o g p =
         let f = readAt b k in
-        let r = alone (floorAt b k) in
-        let h : record { refusal = n; floor = g } ≡ r = answer-accepted f (tests (view f)) (change (view f)) (B .well) n e z g p ∙ ap alone (B .is) in
-        let own : r .refusal ≡ 0 = ap (λ (x : Answer). x .refusal) (sym h) ∙ z in
-        ap (λ (x : Answer). record { barge = withFloor b k (x .floor); refusal = n }) h
-        ∙ accepted b k (r .floor) (bargeRefusal b k (r .refusal) []) n (by-last b k (r .refusal) [] B own n z) z
+        let h : record { refusal = m; floor = g } ≡ alone (floorAt b k) = answer-accepted f (tests (view f)) (change (view f)) (B .well) m t o g p ∙ ap alone (B .is) in
+        rw (sym h, by-last b k B m [] o, o)
+
+module _ (b : Barge) (k t : ℕ) where
+  pub stop-begins : (n : ℕ) → n ≡ refusal ((not (bargeSound b), 30) ∷ (leb 4 k, 49) ∷ []) → n ≢ 0 → record { barge = b; refusal = n } ≡ bargeStop b k t
+  unfolding bargeStop stopAnswer
+  stop-begins = press-begins (λ x. stopTests x t) (λ x. withTile x t (stopped (tileOf x t))) b k
+
+  pub repair-begins : (n : ℕ) → n ≡ refusal ((not (bargeSound b), 30) ∷ (leb 4 k, 49) ∷ []) → n ≢ 0 → record { barge = b; refusal = n } ≡ bargeRepair b k t
+  unfolding bargeRepair repairAnswer
+  repair-begins = press-begins (λ x. repairTests x t) (λ x. withTile x t (repaired (tileOf x t))) b k
+
+  module _ (B : On b k) (m : ℕ) where
+    pub stop-refused : m ≡ refusal (stopTests (view (readAt b k)) t) → m ≢ 0 → record { barge = b; refusal = m } ≡ bargeStop b k t
+    unfolding bargeStop stopAnswer
+    stop-refused = press-refused (λ x. stopTests x t) (λ x. withTile x t (stopped (tileOf x t))) b k B m
+
+    pub stop-accepted : m ≡ refusal (stopTests (view (readAt b k)) t) → m ≡ 0
+        → (g : Floor) → g ≡ pack (withTile (view (readAt b k)) t (stopped (tileOf (view (readAt b k)) t))) → record { barge = withFloor b k g; refusal = m } ≡ bargeStop b k t
+    unfolding bargeStop stopAnswer
+    stop-accepted = press-accepted (λ x. stopTests x t) (λ x. withTile x t (stopped (tileOf x t))) b k B m
+
+    pub repair-refused : m ≡ refusal (repairTests (view (readAt b k)) t) → m ≢ 0 → record { barge = b; refusal = m } ≡ bargeRepair b k t
+    unfolding bargeRepair repairAnswer
+    repair-refused = press-refused (λ x. repairTests x t) (λ x. withTile x t (repaired (tileOf x t))) b k B m
+
+    pub repair-accepted : m ≡ refusal (repairTests (view (readAt b k)) t) → m ≡ 0
+        → (g : Floor) → g ≡ pack (withTile (view (readAt b k)) t (repaired (tileOf (view (readAt b k)) t))) → record { barge = withFloor b k g; refusal = m } ≡ bargeRepair b k t
+    unfolding bargeRepair repairAnswer
+    repair-accepted = press-accepted (λ x. repairTests x t) (λ x. withTile x t (repaired (tileOf x t))) b k B m

@@ -1,10 +1,7 @@
 use mathlib.Core.Path.{sym, _∙_}
-use Rattle.floor.specs.Model.{tileOf, withTile}
-use Rattle.floor.specs.Calls.{repairTests, repaired, repairAnswer}
-use Rattle.barge.specs.Barges.{bargeRepair}
 use Rattle.barge.proofs.Sized.{floors-length}
-use Rattle.barge_parts.proofs.Joint.{begun-on}
-use Rattle.barge_calls.proofs.Presses.{press-begins, press-refused, press-accepted}
+use Rattle.barge_parts.proofs.Joint.{On, begun-on}
+use Rattle.barge_calls.proofs.Presses.{repair-begins, repair-refused, repair-accepted}
 use borrow.Author.Needs.{needs}
 use Rattle.barge_calls.proofs.repair.Statement.{statement}
 use Rattle.barge_calls.proofs.repair.Tie as tie
@@ -20,62 +17,38 @@ begin-requires c κs = search needs
 mul-old : tie.Need-mul-old
 mul-old c = search needs
 
+-- the floor that the call names
+begun : (c : tie.Then1) → On (c .before .before .args .barge) (c .before .before .args .floor)
+begun c =
+    let s = c .before .before in
+    let n = c .before .begin in
+    begun-on (s .args .barge) (s .args .floor) (n .result .refusal) (floors-length (s .args .barge) _ (s .good .0)) (n .ensures .0) (c .if1 .taken)
+
 element-copy-out-old : tie.Need-element-copy-out-old
-element-copy-out-old c =
-    let g = c .before .before .args in
-    let i = c .before .begin in
-    let B = begun-on g.barge g.floor (i .result .refusal) (floors-length g.barge _ (c .before .before .good .0)) (i .ensures .0) (c .if1 .taken) in
-    B .named
+element-copy-out-old c = begun c .named
 
 repair-refusal-requires : tie.Need-repair-refusal-requires
-repair-refusal-requires c κs =
-    let g = c .before .before .before .args in
-    let i = c .before .before .begin in
-    let B = begun-on g.barge g.floor (i .result .refusal) (floors-length g.barge _ (c .before .before .before .good .0)) (i .ensures .0) (c .before .if1 .taken) in
-    B .well
+repair-refusal-requires c κs = begun (c .before) .well
 
 repaired-floor-requires : tie.Need-repaired-floor-requires
-repaired-floor-requires c κs =
-    let g = c .before .before .before .before .before .args in
-    let i = c .before .before .before .before .begin in
-    let B = begun-on g.barge g.floor (i .result .refusal) (floors-length g.barge _ (c .before .before .before .before .before .good .0)) (i .ensures .0) (c .before .before .before .if1 .taken) in
-    (B .well, sym (c .before .repair-refusal .ensures) ∙ c .if2 .taken)
+repaired-floor-requires c κs = (begun (c .before .before .before) .well, sym (c .before .repair-refusal .ensures) ∙ c .if2 .taken)
 
 mul-repaired : tie.Need-mul-repaired
 mul-repaired c = search needs
 
 element-set-from-repaired : tie.Need-element-set-from-repaired
-element-set-from-repaired c =
-    let g = c .before .before .before .before .before .before .args in
-    let i = c .before .before .before .before .before .begin in
-    let B = begun-on g.barge g.floor (i .result .refusal) (floors-length g.barge _ (c .before .before .before .before .before .before .good .0)) (i .ensures .0) (c .before .before .before .before .if1 .taken) in
-    B .named
+element-set-from-repaired c = let a = c .before .before in begun (a .before .before) .named
 
 returns : tie.Need-returns
-unfolding bargeRepair repairAnswer
 returns c =
-    let g = c .before .before .before .before .before .before .args in
-    let i = c .before .before .before .before .before .begin in
-    let B = begun-on g.barge g.floor (i .result .refusal) (floors-length g.barge _ (c .before .before .before .before .before .before .good .0)) (i .ensures .0) (c .before .before .before .before .if1 .taken) in
-    let n = c .before .before .repair-refusal in
-    let p = c .repaired-floor in
-    press-accepted (λ m. repairTests m g.tile) (λ m. withTile m g.tile (repaired (tileOf m g.tile))) g.barge g.floor B (n .result) (n .ensures) (c .before .if2 .taken) (p .result) (p .ensures)
+    let a = c .before .before in
+    repair-accepted _ _ _ (begun (a .before .before)) (a .repair-refusal .result) (a .repair-refusal .ensures) (c .before .if2 .taken) (c .repaired-floor .result) (c .repaired-floor .ensures)
 
 returns-2 : tie.Need-returns-2
-unfolding bargeRepair repairAnswer
-returns-2 c =
-    let g = c .before .before .before .before .before .args in
-    let i = c .before .before .before .before .begin in
-    let B = begun-on g.barge g.floor (i .result .refusal) (floors-length g.barge _ (c .before .before .before .before .before .good .0)) (i .ensures .0) (c .before .before .before .if1 .taken) in
-    let n = c .before .repair-refusal in
-    press-refused (λ m. repairTests m g.tile) (λ m. withTile m g.tile (repaired (tileOf m g.tile))) g.barge g.floor B (n .result) (n .ensures) (c .if2 .left)
+returns-2 c = repair-refused _ _ _ (begun (c .before .before .before)) (c .before .repair-refusal .result) (c .before .repair-refusal .ensures) (c .if2 .left)
 
 returns-3 : tie.Need-returns-3
-unfolding bargeRepair repairAnswer
-returns-3 c =
-    let g = c .before .before .args in
-    let i = c .before .begin in
-    press-begins (λ m. repairTests m g.tile) (λ m. withTile m g.tile (repaired (tileOf m g.tile))) g.barge g.floor (i .result .refusal) (i .ensures .0) (c .if1 .left)
+returns-3 c = repair-begins _ _ _ (c .before .begin .result .refusal) (c .before .begin .ensures .0) (c .if1 .left)
 
 pub repair-spec : {M : Type 1} → statement M
 repair-spec =
