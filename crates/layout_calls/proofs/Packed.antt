@@ -1,8 +1,9 @@
 -- What the parts made of a well-formed floor's layouts and tiles is the floor of the call's value, packed.
 use mathlib.Core.Path.{_≡_, refl, sym, ap, _∙_}
+use mathlib.Core.Logic.{_≢_}
 use mathlib.Core.Bool.{Bool, true, false, cond, not}
 use mathlib.Core.List.{List}
-use Prim.Native.Nat.{ℕ, zero, suc, _<_}
+use Prim.Native.Nat.{ℕ, zero, suc, _≤_, _<_}
 use native.Mathlib.Omega.{arith}
 use native.Mathlib.Decide.{decLe}
 use lib.Dec.{ltb}
@@ -13,14 +14,16 @@ use Rattle.laws.proofs.Tables.{tab-same}
 use Rattle.floor.specs.declared.Tile.{Tile}
 use Rattle.floor.specs.declared.Layout.{Layout}
 use Rattle.floor.specs.declared.Floor.{Floor}
+use Rattle.floor.specs.declared.Answer.{Answer}
 use Rattle.floor.specs.Settings.{total}
 use Rattle.floor.specs.Layouts.{nameOk, setBelow, setOf, keepIn, forgetIn}
 use Rattle.floor.specs.Model.{TileState, noTile, tileOf, runs, runsOf}
 use Rattle.floor.specs.Memory.{headOf, stateOf, view, head, usedLayouts, layoutPlaces, layoutsFit, pack, retiled, relaid}
 use Rattle.floor.specs.Well.{wellFormed}
-use Rattle.floor.specs.Calls.{stopped, repaired, keepTests, runningSet, keptUnder, heldTests, forgotten, recallTile, recalled}
+use Rattle.floor.specs.Calls.{stopped, repaired, keepTests, runningSet, keptUnder, keepAnswer, heldTests, forgotten, forgetAnswer, recallTile, recalled, recallAnswer}
+use Rattle.floor.proofs.Answers.{answer-malformed, answer-refused, answer-accepted}
 use Rattle.floor.proofs.Rows.{fits-layouts, view-at}
-use Rattle.floor.proofs.Pack.{well-sound, well-fits, well-head}
+use Rattle.floor.proofs.Pack.{well-sound, well-fits, well-few, well-head}
 use Rattle.floor.proofs.Laying.{Rises, laid-of}
 use Rattle.floor.proofs.Named.{pack-relaid, recalledHead, pack-recalled}
 use Rattle.layout_parts.specs.Places.{putIn, ranIn, recallHead, recallAt}
@@ -44,16 +47,16 @@ head-recalled set t x = go (bit set t) (runs x)
     go false false = refl
 
 -- ---- accepted, the name is one
-pub keep-named : (l : List Layout) (name : ℕ) → refusal (keepTests l name) ≡ 0 → nameOk name ≡ true
+keep-named : (l : List Layout) (name : ℕ) → refusal (keepTests l name) ≡ 0 → nameOk name ≡ true
 unfolding keepTests
 keep-named l name e = not-false (nameOk name) (test-none (not (nameOk name)) 44 _ (omega arith) e .0)
 
-pub held-named : (l : List Layout) (name : ℕ) → refusal (heldTests l name) ≡ 0 → nameOk name ≡ true
+held-named : (l : List Layout) (name : ℕ) → refusal (heldTests l name) ≡ 0 → nameOk name ≡ true
 unfolding heldTests
 held-named l name e = not-false (nameOk name) (test-none (not (nameOk name)) 44 _ (omega arith) e .0)
 
 module _ (f : Floor) (w : wellFormed f ≡ true) where
-  pub laid-fit : layoutsFit (f .layouts) ≡ true
+  laid-fit : layoutsFit (f .layouts) ≡ true
   laid-fit = fits-layouts f (well-fits f w)
 
   laid-rises : Rises (usedLayouts (f .layouts))
@@ -61,11 +64,11 @@ module _ (f : Floor) (w : wellFormed f ≡ true) where
   laid-rises = laid-of (f .settings) (usedLayouts (f .layouts)) (well-sound f w .laid-out) .rise
 
   -- ---- the refusals
-  pub keep-same : (name : ℕ) → refusal (keepTests (usedLayouts (f .layouts)) name) ≡ refusal (keepTests (view f .layouts) name)
+  keep-same : (name : ℕ) → refusal (keepTests (usedLayouts (f .layouts)) name) ≡ refusal (keepTests (view f .layouts) name)
   unfolding view
   keep-same name = refl
 
-  pub held-same : (name : ℕ) → refusal (heldTests (usedLayouts (f .layouts)) name) ≡ refusal (heldTests (view f .layouts) name)
+  held-same : (name : ℕ) → refusal (heldTests (usedLayouts (f .layouts)) name) ≡ refusal (heldTests (view f .layouts) name)
   unfolding view
   held-same name = refl
 
@@ -74,7 +77,7 @@ module _ (f : Floor) (w : wellFormed f ≡ true) where
   unfolding runningSet view stateOf
   ran-is = set-same (ranIn (f .tiles)) (runsOf (view f)) (total (f .settings)) (λ t l. sym (ap runs (view-at f t noTile l)))
 
-  pub kept-pack : (name set : ℕ) → nameOk name ≡ true → set ≡ setBelow (ranIn (f .tiles)) (total (f .settings)) → (ls : List Layout) → ls ≡ putIn (record { name = name; set = set }) (f .layouts)
+  kept-pack : (name set : ℕ) → nameOk name ≡ true → set ≡ setBelow (ranIn (f .tiles)) (total (f .settings)) → (ls : List Layout) → ls ≡ putIn (record { name = name; set = set }) (f .layouts)
       → _≡_ {A = Floor} (relaid f ls) (pack (keptUnder (view f) name))
   unfolding keptUnder view
   kept-pack name set ok e ls q =
@@ -83,7 +86,7 @@ module _ (f : Floor) (w : wellFormed f ≡ true) where
       ∙ sym (pack-relaid f w (keepIn x (usedLayouts (f .layouts))))
 
   -- ---- forgetting
-  pub forgotten-pack : (name : ℕ) → nameOk name ≡ true → (ls : List Layout) → ls ≡ layoutPlaces 8 (forgetIn name (f .layouts)) → _≡_ {A = Floor} (relaid f ls) (pack (forgotten (view f) name))
+  forgotten-pack : (name : ℕ) → nameOk name ≡ true → (ls : List Layout) → ls ≡ layoutPlaces 8 (forgetIn name (f .layouts)) → _≡_ {A = Floor} (relaid f ls) (pack (forgotten (view f) name))
   unfolding forgotten view
   forgotten-pack name ok ls q = ap (relaid f) (q ∙ forget-used (f .layouts) laid-fit name ok) ∙ sym (pack-relaid f w (forgetIn name (usedLayouts (f .layouts))))
 
@@ -96,10 +99,73 @@ module _ (f : Floor) (w : wellFormed f ≡ true) where
       go (yes l) = rw (lt-ltb t (total (f .settings)) l) (ap (recallHead set t) (sym (well-head f t w l) ∙ ap head (sym (view-at f t noTile l))) ∙ head-recalled set t (tileOf (view f) t))
       go (no l) = rw (le-ltb t (total (f .settings)) (omega arith))
 
-  pub recalled-pack : (name set : ℕ) → nameOk name ≡ true → set ≡ setOf (f .layouts) name → (ts : List Tile) → ts ≡ tab 64 (recallAt (f .settings) (f .tiles) set)
+  recalled-pack : (name set : ℕ) → nameOk name ≡ true → set ≡ setOf (f .layouts) name → (ts : List Tile) → ts ≡ tab 64 (recallAt (f .settings) (f .tiles) set)
       → _≡_ {A = Floor} (retiled f ts) (pack (recalled (view f) (setOf (view f .layouts) name)))
   unfolding view
   recalled-pack name set ok e ts q =
       let s : set ≡ setOf (usedLayouts (f .layouts)) name = e ∙ set-used (f .layouts) laid-fit name (some-name name ok) in
       ap (retiled f) (q ∙ tab-same 64 (recallAt (f .settings) (f .tiles) set) (recalledHead f set) (λ t l. recall-same set t))
       ∙ pack-recalled f w set ∙ ap (λ (k : ℕ). pack (recalled (view f) k)) s
+
+-- ---- the answers, by what the code read: whether the floor is well formed, the name's number, the refusal
+module _ (f : Floor) (name : ℕ) (well : Bool) (ew : well ≡ wellFormed f) where
+  pub keep-malformed : well ≡ false → _≡_ {A = Answer} (record { refusal = 30; floor = f }) (keepAnswer f name)
+  unfolding keepAnswer
+  keep-malformed h = answer-malformed f (keepTests (view f .layouts) name) (keptUnder (view f) name) (sym ew ∙ h)
+
+  pub forget-malformed : well ≡ false → _≡_ {A = Answer} (record { refusal = 30; floor = f }) (forgetAnswer f name)
+  unfolding forgetAnswer
+  forget-malformed h = answer-malformed f (heldTests (view f .layouts) name) (forgotten (view f) name) (sym ew ∙ h)
+
+  pub recall-malformed : well ≡ false → _≡_ {A = Answer} (record { refusal = 30; floor = f }) (recallAnswer f name)
+  unfolding recallAnswer
+  recall-malformed h = answer-malformed f (heldTests (view f .layouts) name) (recalled (view f) (setOf (view f .layouts) name)) (sym ew ∙ h)
+
+  module _ (h : well ≡ true) (n : ℕ) (en : n ≡ name) (m : ℕ) where
+    module _ (e : m ≡ refusal (keepTests (usedLayouts (f .layouts)) n)) where
+      pub keep-refused : m ≢ 0 → _≡_ {A = Answer} (record { refusal = m; floor = f }) (keepAnswer f name)
+      unfolding keepAnswer
+      keep-refused z = answer-refused f (keepTests (view f .layouts) n) (keptUnder (view f) n) (sym ew ∙ h) m (e ∙ keep-same f (sym ew ∙ h) n) z ∙ ap (keepAnswer f) en
+
+      pub keep-accepted : m ≡ 0 → (set : ℕ) → set ≡ setBelow (ranIn (f .tiles)) (total (f .settings)) → (ls : List Layout) → ls ≡ putIn (record { name = n; set = set }) (f .layouts)
+          → _≡_ {A = Answer} (record { refusal = m; floor = relaid f ls }) (keepAnswer f name)
+      unfolding keepAnswer
+      keep-accepted z set s ls l =
+          let w = sym ew ∙ h in
+          answer-accepted f (keepTests (view f .layouts) n) (keptUnder (view f) n) w m (e ∙ keep-same f w n) z _
+          (kept-pack f w n set (keep-named (usedLayouts (f .layouts)) n (sym e ∙ z)) s ls l)
+          ∙ ap (keepAnswer f) en
+
+    module _ (e : m ≡ refusal (heldTests (usedLayouts (f .layouts)) n)) where
+      pub forget-refused : m ≢ 0 → _≡_ {A = Answer} (record { refusal = m; floor = f }) (forgetAnswer f name)
+      unfolding forgetAnswer
+      forget-refused z = answer-refused f (heldTests (view f .layouts) n) (forgotten (view f) n) (sym ew ∙ h) m (e ∙ held-same f (sym ew ∙ h) n) z ∙ ap (forgetAnswer f) en
+
+      pub forget-accepted : m ≡ 0 → (ls : List Layout) → ls ≡ layoutPlaces 8 (forgetIn n (f .layouts))
+          → _≡_ {A = Answer} (record { refusal = m; floor = relaid f ls }) (forgetAnswer f name)
+      unfolding forgetAnswer
+      forget-accepted z ls l =
+          let w = sym ew ∙ h in
+          answer-accepted f (heldTests (view f .layouts) n) (forgotten (view f) n) w m (e ∙ held-same f w n) z _
+          (forgotten-pack f w n (held-named (usedLayouts (f .layouts)) n (sym e ∙ z)) ls l)
+          ∙ ap (forgetAnswer f) en
+
+      pub recall-refused : m ≢ 0 → _≡_ {A = Answer} (record { refusal = m; floor = f }) (recallAnswer f name)
+      unfolding recallAnswer
+      recall-refused z = answer-refused f (heldTests (view f .layouts) n) (recalled (view f) (setOf (view f .layouts) n)) (sym ew ∙ h) m (e ∙ held-same f (sym ew ∙ h) n) z ∙ ap (recallAnswer f) en
+
+      pub recall-accepted : m ≡ 0 → (set : ℕ) → set ≡ setOf (f .layouts) n → (ts : List Tile) → ts ≡ tab 64 (recallAt (f .settings) (f .tiles) set)
+          → _≡_ {A = Answer} (record { refusal = m; floor = retiled f ts }) (recallAnswer f name)
+      unfolding recallAnswer
+      recall-accepted z set s ts l =
+          let w = sym ew ∙ h in
+          answer-accepted f (heldTests (view f .layouts) n) (recalled (view f) (setOf (view f .layouts) n)) w m (e ∙ held-same f w n) z _
+          (recalled-pack f w n set (held-named (usedLayouts (f .layouts)) n (sym e ∙ z)) s ts l)
+          ∙ ap (recallAnswer f) en
+
+module _ (f : Floor) (well : Bool) (ew : well ≡ wellFormed f) (h : well ≡ true) where
+  pub layouts-fit : layoutsFit (f .layouts) ≡ true
+  layouts-fit = laid-fit f (sym ew ∙ h)
+
+  pub tiles-few : total (f .settings) ≤ 64
+  tiles-few = well-few f (sym ew ∙ h)

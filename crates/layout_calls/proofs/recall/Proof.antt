@@ -1,11 +1,4 @@
-use mathlib.Core.Path.{_≡_, sym, ap, _∙_}
-use mathlib.Core.Bool.{true}
-use Rattle.floor.specs.Layouts.{nameNumber, nameOk, setOf}
-use Rattle.floor.specs.Memory.{view, usedLayouts}
-use Rattle.floor.proofs.Answers.{answer-malformed, answer-refused, answer-accepted}
-use Rattle.floor.specs.Calls.{heldTests, recalled, recallAnswer}
-use Rattle.floor.proofs.Pack.{well-few}
-use Rattle.layout_calls.proofs.Packed.{held-named, laid-fit, held-same, recalled-pack}
+use Rattle.layout_calls.proofs.Packed.{layouts-fit, tiles-few, recall-malformed, recall-refused, recall-accepted}
 use borrow.Author.Needs.{needs}
 use Rattle.layout_calls.proofs.recall.Statement.{statement}
 use Rattle.layout_calls.proofs.recall.Tie as tie
@@ -24,47 +17,22 @@ name-number-requires : tie.Need-name-number-requires
 name-number-requires c κs = search needs
 
 held-refusal-requires : tie.Need-held-refusal-requires
-held-refusal-requires c κs =
-    let f = c .before .before .before .before .args .floor in
-    let w = sym (c .before .before .before .well-formed .ensures) ∙ c .before .before .if1 .taken in
-    laid-fit f w
+held-refusal-requires c κs = search (layouts-fit, needs)
 
 set-under-requires : tie.Need-set-under-requires
 set-under-requires c κs = search needs
 
 recall-tiles-requires : tie.Need-recall-tiles-requires
-recall-tiles-requires c κs = well-few (c .before .before .before .before .before .before .before .before .before .args .floor) (sym (c .before .before .before .before .before .before .before .before .well-formed .ensures) ∙ c .before .before .before .before .before .before .before .if1 .taken)
+recall-tiles-requires c κs = search (tiles-few, needs)
 
 returns : tie.Need-returns
-unfolding recallAnswer
-returns c =
-    let f = c .before .before .before .before .before .before .before .before .before .before .args .floor in
-    let w = sym (c .before .before .before .before .before .before .before .before .before .well-formed .ensures) ∙ c .before .before .before .before .before .before .before .before .if1 .taken in
-    let N = c .before .before .before .before .before .before .before .name-number in
-    let n = N .result in
-    let K = c .before .before .before .before .before .held-refusal in
-    let ok : nameOk n ≡ true = held-named (usedLayouts (f .layouts)) n (sym (K .ensures) ∙ c .before .before .before .before .if2 .taken) in
-    answer-accepted f (heldTests (view f .layouts) n) (recalled (view f) (setOf (view f .layouts) n)) w (K .result) (K .ensures ∙ held-same f w n) (c .before .before .before .before .if2 .taken) _
-    (recalled-pack f w n (c .before .set-under .result) ok (c .before .set-under .ensures) (c .recall-tiles .result) (c .recall-tiles .ensures))
-    ∙ ap (recallAnswer f) (N .ensures)
+returns c = search (recall-accepted, needs)
 
 returns-2 : tie.Need-returns-2
-unfolding recallAnswer
-returns-2 c =
-    let f = c .before .before .before .before .before .before .args .floor in
-    let w = sym (c .before .before .before .before .before .well-formed .ensures) ∙ c .before .before .before .before .if1 .taken in
-    let N = c .before .before .before .name-number in
-    let n = N .result in
-    let K = c .before .held-refusal in
-    answer-refused f (heldTests (view f .layouts) n) (recalled (view f) (setOf (view f .layouts) n)) w (K .result) (K .ensures ∙ held-same f w n) (c .if2 .left) ∙ ap (recallAnswer f) (N .ensures)
+returns-2 c = search (recall-refused, needs)
 
 returns-3 : tie.Need-returns-3
-unfolding recallAnswer
-returns-3 c =
-    let f = c .before .before .args .floor in
-    let w = sym (c .before .well-formed .ensures) ∙ c .if1 .left in
-    let n = nameNumber (c .before .before .args .name .letters) in
-    answer-malformed f (heldTests (view f .layouts) n) (recalled (view f) (setOf (view f .layouts) n)) w
+returns-3 c = search (recall-malformed, needs)
 
 pub recall-spec : {M : Type 1} → statement M
 recall-spec =
