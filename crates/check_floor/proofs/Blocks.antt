@@ -11,7 +11,7 @@ use borrow.Author.Tests.{lt-ltb, eqb-true}
 use Rattle.laws.specs.Define.{cat, keep, allOf, pairsOf}
 use Rattle.laws.specs.Every.{All, Pairs}
 use Rattle.laws.proofs.Tests.{and-left, and-right}
-use Rattle.laws.proofs.Lists.{all-imp, all-map, all-true, keep-all, keep-none, keep-append, map-append, perm-of, all-place}
+use Rattle.laws.proofs.Lists.{all-imp, all-map, all-true, keep-all, keep-none, keep-append, map-append, perm-of, all-place, pairs-place}
 use Rattle.floor.specs.declared.Canister.{Canister}
 use Rattle.floor.specs.declared.Tile.{Tile}
 use Rattle.floor.specs.declared.Floor.{Floor}
@@ -22,7 +22,6 @@ use Rattle.floor.specs.Well.{headSound, membersSound, tileSound}
 use Rattle.floor.proofs.Rows.{view-at, rest-zero}
 use Rattle.check_unique.specs.Differ.{differ, Runs}
 use Rattle.check_unique.proofs.Apart.{differ-keep, runs-of}
-use Rattle.check_unique.proofs.Order.{pairs-place}
 use Rattle.check_floor.specs.Code.{counted}
 use Rattle.check_floor.proofs.Branches.{zero-off, count-fits}
 use Rattle.check_floor.proofs.Joins.{map-take, map-drop, cat-same, cat-rest, cat-length, blocks-perm}

@@ -8,9 +8,9 @@ use native.Mathlib.Omega.{arith}
 use native.Mathlib.Decide.{decLe, ℕ-discrete}
 use lib.ListN.{length, getD, set, replicate, getD-replicate}
 use lib.Seq.{getD-set-same, getD-set-other}
+use Rattle.laws.proofs.Lists.{pairs-each, pairs-place}
 use Rattle.check_unique.specs.Differ.{differ, Runs, Ordered}
 use Rattle.check_unique.proofs.Apart.{ordered-pos, Apart, r-differ}
-use Rattle.check_unique.proofs.Order.{pairs-each, pairs-place}
 
 abbrev pub at : List ℕ → ℕ → ℕ
 at l i = getD l i 0

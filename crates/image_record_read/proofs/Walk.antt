@@ -11,8 +11,9 @@ use lib.Dec.{eqb}
 use borrow.Author.Tests.{lt-ltb, le-ltb, lt-leb, le-leb, ne-eqb}
 use lib.ListN.{length, drop, getD, set, length-drop, List·getD-eq-default}
 use lib.Seq.{drop-drop, getD-set-same, getD-set-other}
+use Rattle.laws.specs.Filled.{Filled}
 use Rattle.laws.specs.Define.{tab, refusal}
-use Rattle.laws.proofs.Tables.{filled}
+use Rattle.laws.proofs.Tables.{filled, filled-turn, filled-end}
 use Rattle.image_bytes.specs.Bytes.{le, field}
 use Rattle.floor.specs.declared.Layout.{Layout}
 use Rattle.floor.specs.declared.Tile.{Tile}
@@ -24,7 +25,6 @@ use Rattle.image.proofs.Layouts.{layout-good}
 use Rattle.image.proofs.Read.{tiles-length}
 use Rattle.image_record_read.specs.Scan.{layoutFrom, Laying, after, Start, Starts}
 use Rattle.image_record_read.proofs.Values.{layout-some, layout-none}
-use Rattle.image_record_read.proofs.Filled.{Filled, filled-turn, filled-end}
 
 -- ---- the refusal that is left to find
 less : (c t : ℕ) → t < c → c - t ≡ suc (c - (t + 1))

@@ -416,3 +416,14 @@ same [] [] = true
 same [] (y ∷ k) = false
 same (x ∷ l) [] = false
 same (x ∷ l) (y ∷ k) = eqb x y && same l k
+
+-- ---- each two places of a list
+pub pairs-each : {A : Type 0} (R : A → A → Type 0) (z : A) (l : List A) → ((i j : ℕ) → i < j → j < length l → R (getD l i z) (getD l j z)) → Pairs R l
+pairs-each R z [] f = tt
+pairs-each R z (x ∷ l) f = (all-each (R x) z l (λ j h. f 0 (suc j) (omega arith) (omega arith)), pairs-each R z l (λ i j h k. f (suc i) (suc j) (omega arith) (omega arith)))
+
+pub pairs-place : {A : Type 0} (R : A → A → Type 0) (z : A) (l : List A) → Pairs R l → (i j : ℕ) → i < j → j < length l → R (getD l i z) (getD l j z)
+pairs-place R z [] f i j h k = absurd (omega arith)
+pairs-place R z (x ∷ l) f i zero h k = absurd (omega arith)
+pairs-place R z (x ∷ l) f zero (suc j) h k = all-place (R x) z l (f .0) j (omega arith)
+pairs-place R z (x ∷ l) f (suc i) (suc j) h k = pairs-place R z l (f .1) i j (omega arith) (omega arith)

@@ -6,12 +6,12 @@ use Prim.Native.Nat.{ℕ, zero, suc, _+_, _≤_, _<_}
 use native.Mathlib.Omega.{arith}
 use native.Mathlib.Numerals.{add-one}
 use native.Mathlib.Decide.{decLe, ℕ-discrete}
-use lib.ListN.{length, getD, set, take, drop, replicate, length-drop, length-append, getD-replicate, List·getD-append, List·getD-eq-default}
+use lib.ListN.{length, getD, set, take, drop, replicate, length-drop, length-append, getD-replicate, List·getD-append, List·getD-eq-default, length-replicate, length-set}
 use lib.Seq.{ext-getD, take-suc, take-suc-set, getD-drop, getD-set-same, getD-set-other, getD-append-seam}
 use Rattle.laws.specs.Define.{tab, allOf, pairsOf, allBelow, keep}
 use Rattle.laws.proofs.Tests.{and-left, and-right, and-true, and-assoc, and-yes}
 use Rattle.laws.proofs.Lists.{map-append, keep-append}
-use Rattle.laws.specs.Filled.{Upto, From, Shows}
+use Rattle.laws.specs.Filled.{Upto, From, Shows, Filled}
 
 -- ---- a list of zeros, within it and beyond
 pub zeros-at : {A : Type 0} (z : A) (n i : ℕ) → getD (replicate n z) i z ≡ z
@@ -53,6 +53,31 @@ upto-turn t g z l v h p e i k = go (ℕ-discrete i t)
 -- a store leaves what stands above it
 pub rest-turn : {A : Type 0} (t : ℕ) (g : ℕ → A) (z : A) (l : List A) (v : A) → From t g z l → From (t + 1) g z (set l t v)
 rest-turn t g z l v h i k = getD-set-other l t i v z (λ e. absurd (omega arith)) ∙ h i (omega arith)
+
+-- a table of n places that a loop fills from the first on
+module _ {A : Type 0} (n : ℕ) (g : ℕ → A) (z : A) where
+  pub filled-none : Filled n g z 0 (replicate n z)
+  filled-none = (length-replicate n z, λ i h. absurd (omega arith), λ i h. zeros-at z n i)
+
+  pub filled-turn : (k : ℕ) (out : List A) (v : A) → k < n → v ≡ g k → Filled n g z k out → Filled n g z (k + 1) (set out k v)
+  filled-turn k out v h e p = (length-set out k v ∙ p .0, upto-turn k g z out v (omega (arith, p .0)) (p .1) e, rest-turn k (λ i. z) z out v (p .2))
+
+  -- where g is z too, the places are filled already
+  pub filled-on : (k m : ℕ) (out : List A) → k ≤ m → ((i : ℕ) → k ≤ i → i < m → z ≡ g i) → Filled n g z k out → Filled n g z m out
+  filled-on k m out q f p = (p .0, λ i h. go i h (decLe (suc i) k), λ i h. p .2 i (omega arith))
+    where
+      go : (i : ℕ) → i < m → Dec (i < k) → getD out i z ≡ g i
+      go i h (yes a) = p .1 i a
+      go i h (no a) = p .2 i (omega arith) ∙ f i (omega arith) h
+
+  pub filled-skip : (k : ℕ) (out : List A) → z ≡ g k → Filled n g z k out → Filled n g z (k + 1) out
+  filled-skip k out e p = filled-on k (k + 1) out (omega arith) (λ i a b. let q : i ≡ k = omega arith in rw q e) p
+
+  pub filled-all : (k m : ℕ) (out : List A) → k ≡ m → Filled n g z k out → Filled n g z m out
+  filled-all k m out e p = rw e at p
+
+  pub filled-end : (k : ℕ) (out : List A) → k ≤ n → ((i : ℕ) → k ≤ i → z ≡ g i) → Filled n g z k out → out ≡ tab n g
+  filled-end k out q f p = let e = filled-on k n out q (λ i a b. f i a) p in filled n g z out (p .0) (e .1)
 
 -- a turn of a loop that copies from place `at` of s to the front of d
 pub copy-turn : {A : Type 0} (d s : List A) (at k : ℕ) (z : A) → k < length d → at + k < length s → take k d ≡ take k (drop at s) → take (k + 1) (set d k (getD s (at + k) z)) ≡ take (k + 1) (drop at s)

@@ -4,6 +4,7 @@ use mathlib.Core.Bool.{true}
 use Prim.Native.Nat.{ℕ, _≤_, _<_}
 use mathlib.Core.List.{List}
 use lib.ListN.{length}
+use Rattle.laws.specs.Filled.{Filled}
 use Rattle.laws.specs.Define.{tab}
 use Rattle.floor.specs.declared.Floor.{Floor}
 use Rattle.floor.specs.declared.Tile.{Tile}
@@ -21,7 +22,6 @@ use Rattle.floor.proofs.Reasons.{signal-lacks}
 use Rattle.floor.proofs.Capacity.{sound-small}
 use Rattle.round_route.specs.Routed.{Redone, routedAt}
 use Rattle.round_route.proofs.RouteFloor.{route-pack, route-settings, route-length, route-token, route-members}
-use Rattle.round_signal.specs.Signalling.{Granted}
 use Rattle.round_signal.proofs.FloorSignals.{Ready, tileAt, grantAt, reasonAt, besideAt}
 use Rattle.round_signal.proofs.Loops.{Asked}
 use Rattle.round_signal.proofs.SignalFloor.{signal-pack, lack-view, reasons-pack, signal-settings, signal-length, signal-members}
@@ -116,13 +116,13 @@ module _ (f : Floor) (w : wellFormed f ≡ true) where
     }
 
     -- what it gives
-    pub given-tiles : (new : List Tile) (gs : List ℕ) → Redone (total (f .settings)) (tileAt (f .settings) ts (f .canisters)) ts new → Granted 64 (total (f .settings)) (grantAt (f .settings) ts (f .canisters)) gs
+    pub given-tiles : (new : List Tile) (gs : List ℕ) → Redone (total (f .settings)) (tileAt (f .settings) ts (f .canisters)) ts new → Filled 64 (grantAt (f .settings) ts (f .canisters)) 0 (total (f .settings)) gs
         → (retiled f new ≡ pack (signal m)) × (gs ≡ tab 64 (grantOf m))
     given-tiles new gs a b =
         let both = signal-pack (retiled f ts) (bounds .2) fitting new gs a b in
         (both .0 ∙ ap (λ (x : Model). pack (signal x)) read, both .1 ∙ ap (λ (x : Model). tab 64 (grantOf x)) read)
 
-    pub given-reasons : (rs ms : List ℕ) → Granted 64 (total (f .settings)) (reasonAt (f .settings) ts (f .canisters)) rs → Granted 64 (total (f .settings)) (besideAt (f .settings) ts (f .canisters)) ms
+    pub given-reasons : (rs ms : List ℕ) → Filled 64 (reasonAt (f .settings) ts (f .canisters)) 0 (total (f .settings)) rs → Filled 64 (besideAt (f .settings) ts (f .canisters)) 0 (total (f .settings)) ms
         → (rs ≡ tab 64 (reasonOf m)) × (ms ≡ tab 64 (missingOf m))
     given-reasons rs ms a b =
         let why = reasons-pack (retiled f ts) (bounds .2) fitting rs ms a b in

@@ -6,8 +6,8 @@ use Prim.Native.Nat.{ℕ, _+_, _*_, _^_, _≤_, _<_}
 use native.Mathlib.Omega.{arith}
 use lib.ListN.{length, take, drop, getD, set, replicate, length-set}
 use lib.Seq.{take-all}
-use Rattle.laws.specs.Filled.{Upto}
-use Rattle.laws.proofs.Tables.{copy-turn}
+use Rattle.laws.specs.Filled.{Upto, Filled}
+use Rattle.laws.proofs.Tables.{copy-turn, filled-none, filled-turn, filled-all}
 use Rattle.floor.specs.declared.Canister.{Canister}
 use Rattle.floor.specs.declared.Settings.{Settings}
 use Rattle.floor.specs.declared.Tile.{Tile}
@@ -21,7 +21,7 @@ use Rattle.round_grants.specs.declared.Signal as S
 use Rattle.round_grants.specs.TileSignal.{given, signalFrom}
 use Rattle.round_signal.specs.Signalling as M
 use Rattle.round_signal.proofs.FloorSignals as F
-use Rattle.round_signal.proofs.PassLaws.{signal-read, granted-none, granted-turn, granted-end, granted-within}
+use Rattle.round_signal.proofs.PassLaws.{signal-read, filled-within}
 
 -- what Signal asks of the tiles and the canisters
 pub record Asked (s : Settings) (tiles : List Tile) (canisters : List Canister) : Type 0 where
@@ -38,9 +38,9 @@ pub record Signalled (s : Settings) (tiles : List Tile) (canisters : List Canist
   pub whole : all ≡ total s
   pub few : all ≤ 64
   pub tokened : Redone t (F.tileAt s tiles canisters) tiles out
-  pub granted : M.Granted 64 t (F.grantAt s tiles canisters) grants
-  pub turned : M.Granted 65 t (F.turnAt s tiles canisters) turns
-  pub lacking : M.Granted 65 t (F.lackAt s tiles canisters) lacks
+  pub granted : Filled 64 (F.grantAt s tiles canisters) 0 t grants
+  pub turned : Filled 65 (F.turnAt s tiles canisters) 0 t turns
+  pub lacking : Filled 65 (F.lackAt s tiles canisters) 0 t lacks
 
 pub record Copied (tiles : List Tile) (canisters : List Canister) (t : ℕ) (items : List Canister) (k : ℕ) : Type 0 where
   pub below : k ≤ 16
@@ -58,8 +58,8 @@ pub record Reasoned (s : Settings) (tiles : List Tile) (all : ℕ) (turns lacks 
   pub turns-length : length turns ≡ 65
   pub lacks-length : length lacks ≡ 65
   pub slight : (u : ℕ) → getD lacks u 0 < 2 ^ 16
-  pub stood : M.Granted 64 i (M.reasonBy s tiles (λ u. getD turns u 0) (λ u. getD lacks u 0)) reasons
-  pub lacking : M.Granted 64 i (M.lackBy s tiles (λ u. getD turns u 0) (λ u. getD lacks u 0)) missing
+  pub stood : Filled 64 (M.reasonBy s tiles (λ u. getD turns u 0) (λ u. getD lacks u 0)) 0 i reasons
+  pub lacking : Filled 64 (M.lackBy s tiles (λ u. getD turns u 0) (λ u. getD lacks u 0)) 0 i missing
 
 -- ---- the places of tile t
 module _ {tiles : List Tile} {canisters : List Canister} {t : ℕ} {items : List Canister} {k : ℕ} (p : Copied tiles canisters t items k) where
@@ -87,9 +87,9 @@ signalled-start s tiles canisters a e = record {
   whole = e;
   few = omega (arith, e, a .ranged .2);
   tokened = redone-none (F.tileAt s tiles canisters) tiles (a .tiles-length);
-  granted = granted-none 64 (F.grantAt s tiles canisters);
-  turned = granted-none 65 (F.turnAt s tiles canisters);
-  lacking = granted-none 65 (F.lackAt s tiles canisters);
+  granted = filled-none 64 (F.grantAt s tiles canisters) 0;
+  turned = filled-none 65 (F.turnAt s tiles canisters) 0;
+  lacking = filled-none 65 (F.lackAt s tiles canisters) 0;
 }
 
 module _ {s : Settings} {tiles : List Tile} {canisters : List Canister} {all : ℕ} {out : List Tile} {grants turns lacks : List ℕ} {t : ℕ} (p : Signalled s tiles canisters all out grants turns lacks t) where
@@ -118,9 +118,9 @@ module _ {s : Settings} {tiles : List Tile} {canisters : List Canister} {all : �
           whole = p .whole;
           few = p .few;
           tokened = redone-turn (F.tileAt s tiles canisters) tiles out t v here (p .tokened) (w ∙ ap (λ (x : Signal). M.tokened (getD tiles t zeroTile) (x .token)) r);
-          granted = granted-turn 64 (F.grantAt s tiles canisters) grants t (one .grant .code) here (p .granted) (ap (λ (x : Signal). x .grant) r);
-          turned = granted-turn 65 (F.turnAt s tiles canisters) turns t (one .turn .code) (omega (arith, here)) (p .turned) (ap (λ (x : Signal). x .turn) r);
-          lacking = granted-turn 65 (F.lackAt s tiles canisters) lacks t (one .missing) (omega (arith, here)) (p .lacking) (ap (λ (x : Signal). x .missing) r);
+          granted = filled-turn 64 (F.grantAt s tiles canisters) 0 t grants (one .grant .code) here (ap (λ (x : Signal). x .grant) r) (p .granted);
+          turned = filled-turn 65 (F.turnAt s tiles canisters) 0 t turns (one .turn .code) (omega (arith, here)) (ap (λ (x : Signal). x .turn) r) (p .turned);
+          lacking = filled-turn 65 (F.lackAt s tiles canisters) 0 t lacks (one .missing) (omega (arith, here)) (ap (λ (x : Signal). x .missing) r) (p .lacking);
         }
 
   -- the end of the pass
@@ -129,10 +129,10 @@ module _ {s : Settings} {tiles : List Tile} {canisters : List Canister} {all : �
     all-of = omega (arith, p .below, p .whole)
 
     turn-of : (u : ℕ) → getD turns u 0 ≡ F.turnsAt s tiles canisters u
-    turn-of = granted-within 65 (F.turnAt s tiles canisters) turns (total s) (granted-end 65 (F.turnAt s tiles canisters) turns t (total s) all-of (p .turned))
+    turn-of = filled-within 65 (F.turnAt s tiles canisters) turns (total s) (filled-all 65 (F.turnAt s tiles canisters) 0 t (total s) turns all-of (p .turned))
 
     lack-of : (u : ℕ) → getD lacks u 0 ≡ F.lacksAt s tiles canisters u
-    lack-of = granted-within 65 (F.lackAt s tiles canisters) lacks (total s) (granted-end 65 (F.lackAt s tiles canisters) lacks t (total s) all-of (p .lacking))
+    lack-of = filled-within 65 (F.lackAt s tiles canisters) lacks (total s) (filled-all 65 (F.lackAt s tiles canisters) 0 t (total s) lacks all-of (p .lacking))
 
     pub reasons-asked : Ranged s × ((u : ℕ) → getD lacks u 0 < 2 ^ 16)
     reasons-asked = (p .asked .ranged, λ u. rw (lack-of u) (p .asked .slight u))
@@ -140,11 +140,11 @@ module _ {s : Settings} {tiles : List Tile} {canisters : List Canister} {all : �
     pub tiles-signalled : Redone (total s) (F.tileAt s tiles canisters) tiles out
     tiles-signalled = redone-end (F.tileAt s tiles canisters) tiles out t (total s) all-of (p .tokened)
 
-    pub grants-signalled : M.Granted 64 (total s) (F.grantAt s tiles canisters) grants
-    grants-signalled = granted-end 64 (F.grantAt s tiles canisters) grants t (total s) all-of (p .granted)
+    pub grants-signalled : Filled 64 (F.grantAt s tiles canisters) 0 (total s) grants
+    grants-signalled = filled-all 64 (F.grantAt s tiles canisters) 0 t (total s) grants all-of (p .granted)
 
-    pub reasons-signalled : (rs : List ℕ) → M.Granted 64 (total s) (M.reasonBy s tiles (λ u. getD turns u 0) (λ u. getD lacks u 0)) rs → M.Granted 64 (total s) (F.reasonAt s tiles canisters) rs
-    reasons-signalled rs r = subst (λ (g : ℕ → ℕ). M.Granted 64 (total s) g rs) (λ i. M.reasonBy s tiles (fun-ext turn-of i) (fun-ext lack-of i)) r
+    pub reasons-signalled : (rs : List ℕ) → Filled 64 (M.reasonBy s tiles (λ u. getD turns u 0) (λ u. getD lacks u 0)) 0 (total s) rs → Filled 64 (F.reasonAt s tiles canisters) 0 (total s) rs
+    reasons-signalled rs r = subst (λ (g : ℕ → ℕ). Filled 64 g 0 (total s) rs) (λ i. M.reasonBy s tiles (fun-ext turn-of i) (fun-ext lack-of i)) r
 
-    pub missing-signalled : (ms : List ℕ) → M.Granted 64 (total s) (M.lackBy s tiles (λ u. getD turns u 0) (λ u. getD lacks u 0)) ms → M.Granted 64 (total s) (F.besideAt s tiles canisters) ms
-    missing-signalled ms r = subst (λ (g : ℕ → ℕ). M.Granted 64 (total s) g ms) (λ i. M.lackBy s tiles (fun-ext turn-of i) (fun-ext lack-of i)) r
+    pub missing-signalled : (ms : List ℕ) → Filled 64 (M.lackBy s tiles (λ u. getD turns u 0) (λ u. getD lacks u 0)) 0 (total s) ms → Filled 64 (F.besideAt s tiles canisters) 0 (total s) ms
+    missing-signalled ms r = subst (λ (g : ℕ → ℕ). Filled 64 g 0 (total s) ms) (λ i. M.lackBy s tiles (fun-ext turn-of i) (fun-ext lack-of i)) r

@@ -9,6 +9,7 @@ use lib.ListN.{length, take, drop, getD}
 use lib.Seq.{take-take}
 use lib.Dec.{ltb, eqb}
 use borrow.Author.Tests.{lt-ltb, le-ltb}
+use Rattle.laws.specs.Filled.{Filled}
 use Rattle.laws.specs.Define.{tab, refusal}
 use Rattle.laws.proofs.Tables.{tab-length, tab-at, filled}
 use Rattle.floor.specs.declared.Canister.{Canister}
@@ -26,7 +27,7 @@ use Rattle.floor.proofs.Pack.{few-on, head-state, head-read, pack-heads}
 use Rattle.round_route.specs.Routed.{Redone, within}
 use Rattle.round_route.proofs.Passes.{within-view, tile-off}
 use Rattle.round_grants.specs.TileSignal.{signalFrom}
-use Rattle.round_signal.specs.Signalling.{Granted, shownIn, tokened, ownReason, aheadReason, reasonFrom, reasonBy, lackBy}
+use Rattle.round_signal.specs.Signalling.{shownIn, tokened, ownReason, aheadReason, reasonFrom, reasonBy, lackBy}
 use Rattle.round_signal.proofs.FloorSignals.{signalAt, tileAt, grantAt, turnAt, lackAt, turnsAt, lacksAt, reasonAt, besideAt}
 use Rattle.round_signal.proofs.ReasonLaws.{reasons-joined}
 
@@ -74,7 +75,7 @@ module _ (f : Floor) (few : total (f .settings) ≤ 64) (ok : fits f ≡ true) w
   unfolding signalOf signalTile signalBy
   no-grant t h = sym (ap (λ (x : TileState). around (view f .settings) (shownOf (view f)) t (signalTile (view f .settings) x) .grant) (tile-off f t h))
 
-  grants-view : (gs : List ℕ) → Granted 64 (total (f .settings)) (grantAt (f .settings) (f .tiles) (f .canisters)) gs → gs ≡ tab 64 (grantOf (view f))
+  grants-view : (gs : List ℕ) → Filled 64 (grantAt (f .settings) (f .tiles) (f .canisters)) 0 (total (f .settings)) gs → gs ≡ tab 64 (grantOf (view f))
   unfolding grantAt
   grants-view gs r = filled 64 (grantOf (view f)) 0 gs (r .0) (λ t k. go t (decLe (suc t) (total (f .settings))))
     where
@@ -83,7 +84,7 @@ module _ (f : Floor) (few : total (f .settings) ≤ 64) (ok : fits f ≡ true) w
       go t (no h) = let q : total (f .settings) ≤ t = omega arith in r .2 t q ∙ no-grant t q
 
   pub signal-pack : (ts : List Tile) (gs : List ℕ) → Redone (total (f .settings)) (tileAt (f .settings) (f .tiles) (f .canisters)) (f .tiles) ts
-      → Granted 64 (total (f .settings)) (grantAt (f .settings) (f .tiles) (f .canisters)) gs
+      → Filled 64 (grantAt (f .settings) (f .tiles) (f .canisters)) 0 (total (f .settings)) gs
       → (retiled f ts ≡ pack (signal (view f))) × (gs ≡ tab 64 (grantOf (view f)))
   signal-pack ts gs r q = (tiles-view ts r, grants-view gs q)
 
@@ -142,18 +143,18 @@ module _ (f : Floor) (few : total (f .settings) ≤ 64) (ok : fits f ≡ true) w
   unfolding missingOf
   off-missing t h = rw (off-reason t h)
 
-  by-table : (g e : ℕ → ℕ) (rs : List ℕ) → Granted 64 (total (f .settings)) g rs → ((t : ℕ) → t < total (f .settings) → g t ≡ e t) → ((t : ℕ) → total (f .settings) ≤ t → e t ≡ 0) → rs ≡ tab 64 e
+  by-table : (g e : ℕ → ℕ) (rs : List ℕ) → Filled 64 g 0 (total (f .settings)) rs → ((t : ℕ) → t < total (f .settings) → g t ≡ e t) → ((t : ℕ) → total (f .settings) ≤ t → e t ≡ 0) → rs ≡ tab 64 e
   by-table g e rs r on off = filled 64 e 0 rs (r .0) (λ t k. go t (decLe (suc t) (total (f .settings))))
     where
       go : (t : ℕ) → Dec (t < total (f .settings)) → getD rs t 0 ≡ e t
       go t (yes h) = r .1 t h ∙ on t h
       go t (no h) = let q : total (f .settings) ≤ t = omega arith in r .2 t q ∙ sym (off t q)
 
-  pub reasons-pack : (rs ms : List ℕ) → Granted 64 (total (f .settings)) (reasonAt (f .settings) (f .tiles) (f .canisters)) rs → Granted 64 (total (f .settings)) (besideAt (f .settings) (f .tiles) (f .canisters)) ms
+  pub reasons-pack : (rs ms : List ℕ) → Filled 64 (reasonAt (f .settings) (f .tiles) (f .canisters)) 0 (total (f .settings)) rs → Filled 64 (besideAt (f .settings) (f .tiles) (f .canisters)) 0 (total (f .settings)) ms
       → (rs ≡ tab 64 (reasonOf (view f))) × (ms ≡ tab 64 (missingOf (view f)))
   reasons-pack rs ms r q = (
-    by-table (reasonBy (f .settings) (f .tiles) turnIn lackIn) (reasonOf (view f)) rs (subst (λ (g : ℕ → ℕ). Granted 64 (total (f .settings)) g rs) (λ i. reasonBy (f .settings) (f .tiles) (fun-ext turn-view i) (fun-ext lack-view i)) r) reason-view off-reason,
-    by-table (lackBy (f .settings) (f .tiles) turnIn lackIn) (missingOf (view f)) ms (subst (λ (g : ℕ → ℕ). Granted 64 (total (f .settings)) g ms) (λ i. lackBy (f .settings) (f .tiles) (fun-ext turn-view i) (fun-ext lack-view i)) q) beside-view off-missing,
+    by-table (reasonBy (f .settings) (f .tiles) turnIn lackIn) (reasonOf (view f)) rs (subst (λ (g : ℕ → ℕ). Filled 64 g 0 (total (f .settings)) rs) (λ i. reasonBy (f .settings) (f .tiles) (fun-ext turn-view i) (fun-ext lack-view i)) r) reason-view off-reason,
+    by-table (lackBy (f .settings) (f .tiles) turnIn lackIn) (missingOf (view f)) ms (subst (λ (g : ℕ → ℕ). Filled 64 g 0 (total (f .settings)) ms) (λ i. lackBy (f .settings) (f .tiles) (fun-ext turn-view i) (fun-ext lack-view i)) q) beside-view off-missing,
   )
 
 -- ---- a value after Signal: all but the tokens is the old

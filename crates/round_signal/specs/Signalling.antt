@@ -1,22 +1,16 @@
 -- Signal in memory: what the tiles show, a tile with its new token, and why each tile stood.
-use mathlib.Core.Path.{_≡_}
 use mathlib.Core.Bool.{true, cond, not}
 use mathlib.Core.List.{List, [], _∷_}
 use Prim.Native.Nat.{ℕ}
 use lib.Dec.{ltb, eqb}
-use lib.ListN.{length, getD}
+use lib.ListN.{getD}
 use Rattle.laws.specs.Define.{refusal}
-use Rattle.laws.specs.Filled.{Upto, From}
 use Rattle.floor.specs.declared.Settings.{Settings}
 use Rattle.floor.specs.declared.Tile.{Tile}
 use Rattle.floor.specs.Sides.{opposite}
 use Rattle.floor.specs.Grid.{neighbour}
 use Rattle.floor.specs.Memory.{zeroTile}
 use Rattle.floor.specs.Signal.{shownNext}
-
--- the first n of N numbers given by g, 0 on the others
-abbrev pub Granted : ℕ → ℕ → (ℕ → ℕ) → List ℕ → Type 0
-Granted N n g gs = (length gs ≡ N) × Upto n g 0 gs × From n (λ _. 0) 0 gs
 
 -- the side that a tile shows its neighbours
 abbrev pub shownIn : List Tile → ℕ → ℕ

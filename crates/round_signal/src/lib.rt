@@ -6,13 +6,13 @@ ghost use mathlib.Core.Bool.{cond};
 ghost use lib.Dec.{eqb};
 ghost use lib.ListN.{getD, take};
 ghost use Prim.Native.Nat.{ℕ, _^_, _≤_, _<_};
-ghost use Rattle.laws.specs.Filled.{Upto};
+ghost use Rattle.laws.specs.Filled.{Upto, Filled};
 ghost use Rattle.floor.specs.Settings.{total, Ranged};
 ghost use Rattle.floor.specs.Grid.{around};
 ghost use Rattle.floor.specs.Signal.{shownNext};
 ghost use Rattle.round_route.specs.Routed.{within};
 ghost use Rattle.round_grants.specs.TileSignal.{given, signalFrom};
-ghost use Rattle.round_signal.specs.Signalling.{Granted, shownIn, tokened, ownReason, aheadReason, reasonBy, lackBy};
+ghost use Rattle.round_signal.specs.Signalling.{shownIn, tokened, ownReason, aheadReason, reasonBy, lackBy};
 use floor::Canister;
 use floor::Members;
 use floor::Settings;
@@ -136,7 +136,7 @@ pub fn signal_at(s: Settings, t: usize, tile: Tile, items: [Canister; 16], show:
 // millimetres missing there; at the number of no tile both are none.
 pub fn reason_pass(s: Settings, tiles: [Tile; 64], turns: [u8; 65], lacks: [u32; 65]) -> Stood
     requires { ⌜ Ranged s × ((u : ℕ) → getD lacks u 0 < 2 ^ 16) ⌝ }
-    ensures { λ r. ⌜ Granted 64 (total s) (reasonBy s tiles (λ u. getD turns u 0) (λ u. getD lacks u 0)) (r .reasons) × Granted 64 (total s) (lackBy s tiles (λ u. getD turns u 0) (λ u. getD lacks u 0)) (r .missing) ⌝ }
+    ensures { λ r. ⌜ Filled 64 (reasonBy s tiles (λ u. getD turns u 0) (λ u. getD lacks u 0)) 0 (total s) (r .reasons) × Filled 64 (lackBy s tiles (λ u. getD turns u 0) (λ u. getD lacks u 0)) 0 (total s) (r .missing) ⌝ }
 {
     let all = s.tile_count();
     let mut reasons = [0u8; 64];

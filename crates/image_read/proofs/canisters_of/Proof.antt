@@ -2,12 +2,12 @@ use mathlib.Core.Path.{_≡_}
 use Prim.Native.Nat.{_+_, _*_, _-_, _≤_}
 use native.Mathlib.Omega.{arith}
 use lib.ListN.{length, drop, getD}
+use Rattle.laws.proofs.Tables.{filled-none}
 use Rattle.image_bytes.specs.Bytes.{field}
 use Rattle.image.specs.Image.{tileWidths}
 use Rattle.floor.specs.Memory.{zeroCanister}
 use Rattle.image_read.specs.Arrays.{canisterFrom}
 use Rattle.image_read.proofs.Reading.{count-is}
-use Rattle.image_record_read.proofs.Filled.{filled-none}
 use Rattle.image_read.proofs.Places.{placed-all}
 use Rattle.image_read.proofs.Loops.{TilesPlaced, CanistersPlaced, canister-turn, tile-end}
 use borrow.Author.Needs.{needs}

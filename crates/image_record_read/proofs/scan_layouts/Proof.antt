@@ -1,8 +1,8 @@
 use mathlib.Core.Path.{sym}
 use Prim.Native.Nat.{_-_}
 use native.Mathlib.Omega.{arith}
+use Rattle.laws.proofs.Tables.{filled-none}
 use Rattle.floor.specs.Memory.{zeroLayout}
-use Rattle.image_record_read.proofs.Filled.{filled-none}
 use Rattle.image_record_read.proofs.Walk.{layoutAt, passed-none, passed-all}
 use Rattle.image_record_read.proofs.Loops.{LayoutsScanned, layouts-off, layout-stop, layout-room, layout-turn}
 use borrow.Author.Needs.{needs}

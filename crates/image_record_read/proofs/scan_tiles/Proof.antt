@@ -2,7 +2,7 @@ use mathlib.Core.Path.{refl, sym, _∙_}
 use Prim.Native.Nat.{_+_, _-_, _≤_}
 use native.Mathlib.Omega.{arith}
 use lib.ListN.{length, drop}
-use Rattle.image_record_read.proofs.Filled.{filled-none}
+use Rattle.laws.proofs.Tables.{filled-none}
 use Rattle.image_record_read.proofs.Walk.{headOf, tiled-all, after-none, tiles-end, tiles-zero}
 use Rattle.floor.specs.Memory.{zeroTile}
 use Rattle.image_bytes.specs.Bytes.{le}

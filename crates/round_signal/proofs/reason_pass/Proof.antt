@@ -2,12 +2,12 @@ use Prim.Native.Nat.{ℕ, _<_, _-_}
 use native.Mathlib.Omega.{arith}
 use mathlib.Core.Path.{_≡_, refl}
 use lib.ListN.{getD}
+use Rattle.laws.proofs.Tables.{filled-none, filled-turn, filled-skip, filled-all}
 use Rattle.floor.specs.Settings.{total}
 use Rattle.floor.specs.Memory.{zeroTile}
 use Rattle.round_route.proofs.Passes.{near-read}
 use Rattle.round_signal.specs.Signalling as M
 use Rattle.round_signal.proofs.Loops.{Reasoned}
-use Rattle.round_signal.proofs.PassLaws.{granted-none, granted-turn, granted-skip, granted-end}
 use Rattle.round_signal.proofs.ReasonLaws.{own-read, own-lack, reason-read, lack-read}
 use borrow.Author.Needs.{needs}
 use Rattle.round_signal.proofs.reason_pass.Statement.{statement}
@@ -56,8 +56,8 @@ loop-holds c =
       turns-length = s .good .1 .1 .0 .1 .0 .1;
       lacks-length = s .good .1 .1 .1 .0 .1 .0 .1;
       slight = s .pre .1;
-      stood = granted-none 64 (M.reasonBy g.s g.t2 (λ u. getD g.t3 u 0) (λ u. getD g.t4 u 0));
-      lacking = granted-none 64 (M.lackBy g.s g.t2 (λ u. getD g.t3 u 0) (λ u. getD g.t4 u 0));
+      stood = filled-none 64 (M.reasonBy g.s g.t2 (λ u. getD g.t3 u 0) (λ u. getD g.t4 u 0)) 0;
+      lacking = filled-none 64 (M.lackBy g.s g.t2 (λ u. getD g.t3 u 0) (λ u. getD g.t4 u 0)) 0;
     }
 
 mul-tile : tie.Need-mul-tile Inv-loop μ-loop
@@ -97,8 +97,8 @@ loop-again c =
       turns-length = l .inv .turns-length;
       lacks-length = l .inv .lacks-length;
       slight = l .inv .slight;
-      stood = granted-turn 64 (M.reasonBy g.s g.t2 turn lack) (l .reasons) (l .i) (q .result) here (l .inv .stood) (own-read g.s g.t2 turn lack (l .i) (q .ensures) (c .if1 .taken));
-      lacking = granted-skip 64 (M.lackBy g.s g.t2 turn lack) (l .missing) (l .i) (l .inv .lacking) (own-lack g.s g.t2 turn lack (l .i) (q .ensures) (c .if1 .taken));
+      stood = filled-turn 64 (M.reasonBy g.s g.t2 turn lack) 0 (l .i) (l .reasons) (q .result) here (own-read g.s g.t2 turn lack (l .i) (q .ensures) (c .if1 .taken)) (l .inv .stood);
+      lacking = filled-skip 64 (M.lackBy g.s g.t2 turn lack) 0 (l .i) (l .missing) (own-lack g.s g.t2 turn lack (l .i) (q .ensures) (c .if1 .taken)) (l .inv .lacking);
     }
 
 neighbour-requires :
@@ -161,8 +161,8 @@ loop-again-2 c =
       turns-length = l .inv .turns-length;
       lacks-length = l .inv .lacks-length;
       slight = l .inv .slight;
-      stood = granted-turn 64 (M.reasonBy g.s g.t2 turn lack) (l .reasons) (l .i) (y .result) here (l .inv .stood) r;
-      lacking = granted-turn 64 (M.lackBy g.s g.t2 turn lack) (l .missing) (l .i) (c .beside .result) here (l .inv .lacking) m;
+      stood = filled-turn 64 (M.reasonBy g.s g.t2 turn lack) 0 (l .i) (l .reasons) (y .result) here r (l .inv .stood);
+      lacking = filled-turn 64 (M.lackBy g.s g.t2 turn lack) 0 (l .i) (l .missing) (c .beside .result) here m (l .inv .lacking);
     }
 
 returns : tie.Need-returns Inv-loop μ-loop
@@ -170,8 +170,8 @@ returns c =
     let l = c .before .loop in
     let g = c .before .before .before .args in
     let e : l .i ≡ total g.s = omega (arith, l .inv .below, l .inv .whole) in (
-      granted-end 64 (M.reasonBy g.s g.t2 (λ u. getD g.t3 u 0) (λ u. getD g.t4 u 0)) (l .reasons) (l .i) (total g.s) e (l .inv .stood),
-      granted-end 64 (M.lackBy g.s g.t2 (λ u. getD g.t3 u 0) (λ u. getD g.t4 u 0)) (l .missing) (l .i) (total g.s) e (l .inv .lacking),
+      filled-all 64 (M.reasonBy g.s g.t2 (λ u. getD g.t3 u 0) (λ u. getD g.t4 u 0)) 0 (l .i) (total g.s) (l .reasons) e (l .inv .stood),
+      filled-all 64 (M.lackBy g.s g.t2 (λ u. getD g.t3 u 0) (λ u. getD g.t4 u 0)) 0 (l .i) (total g.s) (l .missing) e (l .inv .lacking),
     )
 
 pub reason-pass-spec : {M : Type 1} → statement M
