@@ -11,6 +11,13 @@ use Rattle.image_record_write.proofs.put_canister.Lts as lts
 use Rattle.image_bytes.proofs.put_u16.Reads as put-u16-reads
 use Rattle.image_bytes.proofs.put_u32.Reads as put-u32-reads
 
+-- where each part but the last had been written
+abbrev one : tie.After-put-u16-arg → tie.After-put-u32
+one c = c .before .before .before
+
+abbrev two : tie.After-put-u16-arg2 → tie.After-put-u16
+two c = c .before .before .before
+
 put-u32-requires : tie.Need-put-u32-requires
 put-u32-requires c κs = search needs
 
@@ -31,13 +38,16 @@ same-length c = search needs
 
 returns : tie.Need-returns
 returns c =
-    let g = c .before .before .before .before .before .before .before .before .before .before .before .before .before .args in
+    let C = c .before .before in
+    let B = two (C .before) in
+    let A = one (B .before) in
+    let g = A .before .before .before .args in
     let n1 = bytes-length 4 (g.c .number) in
     let n2 = bytes-length 2 (g.c .a) in
     let n3 = bytes-length 2 (g.c .b) in
     rw (canister-bytes g.c)
     (put-three (g.s .now) _ _ _ g.at _ _ (bytes 4 (g.c .number)) (bytes 2 (g.c .a)) (bytes 2 (g.c .b)) (omega arith) (omega arith) (omega arith)
-    (c .before .before .before .before .before .before .before .before .before .before .put-u32 .ensures) (c .before .before .before .before .before .before .put-u16 .ensures) (c .before .before .put-u162 .ensures))
+    (A .put-u32 .ensures) (B .put-u16 .ensures) (C .put-u162 .ensures))
 
 pub put-canister-spec : {M : Type 1} → statement M
 put-canister-spec =

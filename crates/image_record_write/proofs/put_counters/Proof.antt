@@ -1,4 +1,4 @@
-use mathlib.Core.Path.{_≡_, refl, sym, _∙_}
+use mathlib.Core.Path.{_≡_, refl, sym}
 use mathlib.Core.List.{_++_}
 use Prim.Native.Nat.{_+_, _*_, _-_}
 use native.Mathlib.Omega.{arith}
@@ -7,8 +7,8 @@ use Rattle.image_bytes.specs.Bytes.{bytes, bytesOf}
 use Rattle.image_bytes.specs.Put.{put}
 use Rattle.image_bytes.proofs.PutLaws.{put-none, put-two}
 use Rattle.floor.proofs.Sized.{delivered-length}
-use Rattle.image_record_write.proofs.RecordBytes.{countBytes, count-length, count-turn, top-length, counters-record}
-use Rattle.image_record_write.proofs.Loops.{CountsPut}
+use Rattle.image_record_write.proofs.RecordBytes.{countBytes, count-length, top-length, counters-record}
+use Rattle.image_record_write.proofs.Loops.{CountsPut, counts-turn}
 use borrow.Author.Needs.{needs}
 use Rattle.image_record_write.proofs.put_counters.Statement.{statement}
 use Rattle.image_record_write.proofs.put_counters.Tie as tie
@@ -23,6 +23,10 @@ Inv-loop s₀ at h d n k₀ s k = CountsPut s₀ at h d n s k
 abbrev μ-loop : tie.MeasureT-loop
 μ-loop s₀ at h d n k₀ s k = n - k
 
+-- where the front of the record had been written
+abbrev topped : tie.After-d Inv-loop μ-loop → tie.After-put-top Inv-loop μ-loop
+topped c = c .before .before .before
+
 mul-put-top : tie.Need-mul-put-top Inv-loop μ-loop
 mul-put-top c = search needs
 
@@ -35,8 +39,9 @@ put-top-requires c κs = search needs
 loop-holds : tie.Need-loop-holds Inv-loop μ-loop
 unfolding bytesOf tab
 loop-holds c =
-    let p = c .before .before .before .put-top in
-    let S = c .before .before .before .before .before .before in
+    let T = topped c in
+    let p = T .put-top in
+    let S = T .before .before .before in
     let g = S .args in
     record {
       below = omega arith;
@@ -74,18 +79,9 @@ loop-less c = search needs
 
 loop-again : tie.Need-loop-again Inv-loop μ-loop
 loop-again c =
-    let l = c .before .before .before .before .before .loop in
-    let g = c .before .before .before .before .before .before .before .before .before .before .before .before .args in
-    let k = c .before .before .put-u32 .kept .0 in
-    record {
-      below = omega arith;
-      whole = l .inv .whole;
-      few = l .inv .few;
-      room = l .inv .room;
-      buffer-length = k ∙ l .inv .buffer-length;
-      counts-length = l .inv .counts-length;
-      written = count-turn (c .before .before .before .before .before .before .before .before .before .put-top .last .0) (l .s) _ (g.at + 12) (l .k) (g.x .delivered) (omega arith) (l .inv .written) (c .before .before .put-u32 .ensures);
-    }
+    let P = c .before .before in
+    let I = P .before .before in
+    counts-turn (I .before .loop .inv) (I .loop-test .taken) _ (P .put-u32 .kept .0) (P .put-u32 .ensures)
 
 same-length : tie.Need-same-length Inv-loop μ-loop
 same-length c = search needs
@@ -93,15 +89,16 @@ same-length c = search needs
 returns : tie.Need-returns Inv-loop μ-loop
 returns c =
     let l = c .before .loop in
-    let S = c .before .before .before .before .before .before .before .before in
+    let T = topped (c .before .before) in
+    let S = T .before .before .before in
     let g = S .args in
-    let p = c .before .before .before .before .before .put-top .last .0 in
+    let p = T .put-top .last .0 in
     let e : l .k ≡ g.h = omega (arith, c .loop-test .left) in
     let i : l .s ≡ put p (g.at + 12) (countBytes g.h (g.x .delivered)) = rw e at (l .inv .written) in
     let f = top-length (8 + 4 * g.h) (g.x .last) (g.x .booked) in
     let n = count-length g.h (g.x .delivered) in
     rw (← counters-record g.h g.x)
-    (put-two (g.s .now) p (l .s) g.at (g.at + 12) ((bytes 2 (8 + 4 * g.h) ++ bytes 2 2) ++ (bytes 4 (g.x .last) ++ bytes 4 (g.x .booked))) (countBytes g.h (g.x .delivered)) (omega (arith, S .pre .0)) (omega arith) (c .before .before .before .before .before .put-top .ensures) i)
+    (put-two (g.s .now) p (l .s) g.at (g.at + 12) ((bytes 2 (8 + 4 * g.h) ++ bytes 2 2) ++ (bytes 4 (g.x .last) ++ bytes 4 (g.x .booked))) (countBytes g.h (g.x .delivered)) (omega (arith, S .pre .0)) (omega arith) (T .put-top .ensures) i)
 
 pub put-counters-spec : {M : Type 1} → statement M
 put-counters-spec =

@@ -16,6 +16,16 @@ use Rattle.image_record_write.proofs.put_pair.Reads as put-pair-reads
 use Rattle.image_record_write.proofs.put_measures.Reads as put-measures-reads
 use Rattle.image_record_write.proofs.put_three.Reads as put-three-reads
 
+-- where each part but the last had been written
+abbrev one : tie.After-put-three-arg → tie.After-put-pair
+one c = c .before .before .before
+
+abbrev two : tie.After-put-byte-arg → tie.After-put-three
+two c = c .before .before .before
+
+abbrev three : tie.After-put-measures-arg → tie.After-put-byte
+three c = c .before .before .before
+
 lowest-requires : tie.Need-lowest-requires
 lowest-requires c κs = search needs
 
@@ -46,8 +56,13 @@ same-length c = search needs
 returns : tie.Need-returns
 unfolding headBytes lowest
 returns c =
-    let low = c .before .before .before .before .before .before .before .before .before .before .before .before .before .before .before .before .lowest in
-    let g = c .before .before .before .before .before .before .before .before .before .before .before .before .before .before .before .before .before .before .args in
+    let D = c .before .before in
+    let C = three (D .before) in
+    let B = two (C .before) in
+    let A = one (B .before) in
+    let L = A .before .before in
+    let low = L .lowest in
+    let g = L .before .before .args in
     let n1 = pair-length g.n 1 in
     let n2 = three-length 1 (g.x .columns) (g.x .rows) (low .result) in
     let n3 = bytes-length 1 0 in
@@ -55,7 +70,7 @@ returns c =
     rw (← low .ensures)
     (put-four (g.s .now) _ _ _ _ g.at _ _ _ (bytes 2 g.n ++ bytes 2 1) (bytes 1 (g.x .columns) ++ (bytes 1 (g.x .rows) ++ bytes 1 (low .result))) (bytes 1 0) (measuresBytes g.x)
     (omega arith) (omega arith) (omega arith) (omega arith)
-    (c .before .before .before .before .before .before .before .before .before .before .before .before .before .before .put-pair .ensures) (c .before .before .before .before .before .before .before .before .before .before .put-three .ensures) (c .before .before .before .before .before .before .put-byte .ensures) (c .before .before .put-measures .ensures))
+    (A .put-pair .ensures) (B .put-three .ensures) (C .put-byte .ensures) (D .put-measures .ensures))
 
 pub put-head-spec : {M : Type 1} → statement M
 put-head-spec =

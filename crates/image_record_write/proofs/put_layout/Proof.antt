@@ -15,6 +15,13 @@ use Rattle.image_record_write.proofs.put_name.Reads as put-name-reads
 use Rattle.image_record_write.proofs.put_pair.Reads as put-pair-reads
 use Rattle.image_bytes.proofs.put_u64.Reads as put-u64-reads
 
+-- where each part but the last had been written
+abbrev one : tie.After-put-name-arg → tie.After-put-pair
+one c = c .before .before .before
+
+abbrev two : tie.After-put-u64-arg → tie.After-put-name
+two c = c .before .before .before
+
 put-pair-requires : tie.Need-put-pair-requires
 put-pair-requires c κs = search needs
 
@@ -35,13 +42,16 @@ same-length c = search needs
 
 returns : tie.Need-returns
 returns c =
-    let g = c .before .before .before .before .before .before .before .before .before .before .before .before .before .args in
+    let C = c .before .before in
+    let B = two (C .before) in
+    let A = one (B .before) in
+    let g = A .before .before .before .args in
     let n1 = pair-length 16 5 in
     let n2 = letters-length 8 (g.x .name) in
     let n3 = bytes-length 8 (g.x .set) in
     rw (← layout-record g.x)
     (put-three (g.s .now) _ _ _ g.at _ _ (bytes 2 16 ++ bytes 2 5) (letters 8 (g.x .name)) (bytes 8 (g.x .set)) (omega arith) (omega arith) (omega arith)
-    (c .before .before .before .before .before .before .before .before .before .before .put-pair .ensures) (c .before .before .before .before .before .before .put-name .ensures) (c .before .before .put-u64 .ensures))
+    (A .put-pair .ensures) (B .put-name .ensures) (C .put-u64 .ensures))
 
 pub put-layout-spec : {M : Type 1} → statement M
 put-layout-spec =

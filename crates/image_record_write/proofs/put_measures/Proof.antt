@@ -12,6 +12,13 @@ use Rattle.image_record_write.proofs.put_measures.Lts as lts
 use Rattle.image_bytes.proofs.put_u64.Reads as put-u64-reads
 use Rattle.image_record_write.proofs.put_pair.Reads as put-pair-reads
 
+-- where each part but the last had been written
+abbrev one : tie.After-put-pair-arg2 → tie.After-put-pair
+one c = c .before .before .before
+
+abbrev two : tie.After-put-u64-arg → tie.After-put-pair2
+two c = c .before .before .before
+
 put-pair-requires : tie.Need-put-pair-requires
 put-pair-requires c κs = search needs
 
@@ -32,12 +39,15 @@ same-length c = search needs
 
 returns : tie.Need-returns
 returns c =
-    let g = c .before .before .before .before .before .before .before .before .before .before .before .before .before .args in
+    let C = c .before .before in
+    let B = two (C .before) in
+    let A = one (B .before) in
+    let g = A .before .before .before .args in
     let n1 = pair-length (g.x .width) (g.x .length) in
     let n2 = pair-length (g.x .gap) (g.x .travel) in
     let n3 = bytes-length 8 (g.x .sources) in
     put-three (g.s .now) _ _ _ g.at _ _ (bytes 2 (g.x .width) ++ bytes 2 (g.x .length)) (bytes 2 (g.x .gap) ++ bytes 2 (g.x .travel)) (bytes 8 (g.x .sources)) (omega arith) (omega arith) (omega arith)
-    (c .before .before .before .before .before .before .before .before .before .before .put-pair .ensures) (c .before .before .before .before .before .before .put-pair2 .ensures) (c .before .before .put-u64 .ensures)
+    (A .put-pair .ensures) (B .put-pair2 .ensures) (C .put-u64 .ensures)
 
 pub put-measures-spec : {M : Type 1} → statement M
 put-measures-spec =

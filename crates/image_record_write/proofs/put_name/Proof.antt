@@ -1,9 +1,9 @@
-use mathlib.Core.Path.{_≡_, refl, sym, _∙_}
+use mathlib.Core.Path.{_≡_, refl, sym}
 use Prim.Native.Nat.{_-_}
 use native.Mathlib.Omega.{arith}
 use Rattle.image_bytes.proofs.PutLaws.{put-none}
-use Rattle.image_record_write.proofs.RecordBytes.{name-turn, name-all}
-use Rattle.image_record_write.proofs.Loops.{NamePut}
+use Rattle.image_record_write.proofs.RecordBytes.{name-all}
+use Rattle.image_record_write.proofs.Loops.{NamePut, letters-turn}
 use borrow.Author.Needs.{needs}
 use Rattle.image_record_write.proofs.put_name.Statement.{statement}
 use Rattle.image_record_write.proofs.put_name.Tie as tie
@@ -59,15 +59,9 @@ loop-less c = search needs
 
 loop-again : tie.Need-loop-again Inv-loop μ-loop
 loop-again c =
-    let l = c .before .before .before .before .before .loop in
-    let g = c .before .before .before .before .before .before .before .args in
-    let k = c .before .before .put-byte .kept .0 in
-    record {
-      below = omega arith;
-      room = l .inv .room;
-      buffer-length = k ∙ l .inv .buffer-length;
-      written = name-turn (g.s .now) (l .s) _ g.at (l .k) g.x (omega arith) (l .inv .room) (l .inv .written) (c .before .before .put-byte .ensures);
-    }
+    let P = c .before .before in
+    let I = P .before .before in
+    letters-turn (I .before .loop .inv) (I .loop-test .taken) _ (P .put-byte .kept .0) (P .put-byte .ensures)
 
 same-length : tie.Need-same-length Inv-loop μ-loop
 same-length c = search needs

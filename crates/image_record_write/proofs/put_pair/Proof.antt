@@ -9,6 +9,10 @@ use Rattle.image_record_write.proofs.put_pair.Reads as reads
 use Rattle.image_record_write.proofs.put_pair.Lts as lts
 use Rattle.image_bytes.proofs.put_u16.Reads as put-u16-reads
 
+-- where each part but the last had been written
+abbrev one : tie.After-put-u16-arg2 → tie.After-put-u16
+one c = c .before .before .before
+
 put-u16-requires : tie.Need-put-u16-requires
 put-u16-requires c κs = search needs
 
@@ -23,9 +27,11 @@ same-length c = search needs
 
 returns : tie.Need-returns
 returns c =
-    let g = c .before .before .before .before .before .before .before .before .before .args in
+    let B = c .before .before in
+    let A = one (B .before) in
+    let g = A .before .before .before .args in
     put-two (g.s .now) _ _ g.at _ (bytes 2 g.x) (bytes 2 g.y) (omega (arith, bytes-length 2 g.x, bytes-length 2 g.y)) (omega (arith, bytes-length 2 g.x))
-    (c .before .before .before .before .before .before .put-u16 .ensures) (c .before .before .put-u162 .ensures)
+    (A .put-u16 .ensures) (B .put-u162 .ensures)
 
 pub put-pair-spec : {M : Type 1} → statement M
 put-pair-spec =

@@ -17,57 +17,63 @@ use Rattle.image_record_write.proofs.put_settings.Lts as lts
 use Rattle.image_record_write.proofs.put_head.Reads as put-head-reads
 use Rattle.image_bytes.proofs.put_u64.Reads as put-u64-reads
 
+-- how long the record is, with a set and without
+with-set : (c : tie.Then1) → let g = c .before .before .args in (several g.x ≡ true) × (length (settingsBody g.x) ≡ 28)
+with-set c =
+    let S = c .before .before in
+    let e = sym (S .pre .1) ∙ c .if1 .taken in
+    (e, rw e at (settings-size (S .args .x)))
+
+without : (c : tie.Else1) → let g = c .before .before .args in (several g.x ≡ false) × (length (settingsBody g.x) ≡ 20)
+without c =
+    let S = c .before .before in
+    let e = sym (S .pre .1) ∙ c .if1 .left in
+    (e, rw e at (settings-size (S .args .x)))
+
+-- where the head had been written
+abbrev headed : tie.After-put-u64-arg → tie.After-put-head
+headed c = c .before .before .before
+
 put-head-requires : tie.Need-put-head-requires
-put-head-requires c κs =
-    let S = c .before .before .before in
-    let g = S .args in
-    let e : several g.x ≡ true = sym (S .pre .1) ∙ c .before .if1 .taken in
-    let z : length (settingsBody g.x) ≡ 28 = rw e at (settings-size g.x) in
-    omega (arith, S .pre .0)
+put-head-requires c κs = let z = with-set (c .before) in omega (arith, c .before .before .before .pre .0)
 
 add-put-u64 : tie.Need-add-put-u64
 add-put-u64 c = search needs
 
 put-u64-requires : tie.Need-put-u64-requires
 put-u64-requires c κs =
-    let S = c .before .before .before .before .before .before .before in
-    let g = S .args in
-    let e : several g.x ≡ true = sym (S .pre .1) ∙ c .before .before .before .before .before .if1 .taken in
-    let z : length (settingsBody g.x) ≡ 28 = rw e at (settings-size g.x) in
-    omega (arith, S .pre .0, c .before .before .before .put-head .kept .0)
+    let H = headed c in
+    let T = H .before .before in
+    let z = with-set T in
+    omega (arith, T .before .before .pre .0, H .put-head .kept .0)
 
 put-head-requires-2 : tie.Need-put-head-requires-2
-put-head-requires-2 c κs =
-    let S = c .before .before .before in
-    let g = S .args in
-    let e : several g.x ≡ false = sym (S .pre .1) ∙ c .before .if1 .left in
-    let z : length (settingsBody g.x) ≡ 20 = rw e at (settings-size g.x) in
-    omega (arith, S .pre .0)
+put-head-requires-2 c κs = let z = without (c .before) in omega (arith, c .before .before .before .pre .0)
 
 same-length : tie.Need-same-length
 same-length c = search needs
 
 returns : tie.Need-returns
 returns c =
-    let S = c .before .before .before .before .before .before .before .before .before .before in
+    let U = c .before .before in
+    let H = headed (U .before) in
+    let T = H .before .before in
+    let S = T .before .before in
     let g = S .args in
-    let e : several g.x ≡ true = sym (S .pre .1) ∙ c .before .before .before .before .before .before .before .before .if1 .taken in
-    let z : length (settingsBody g.x) ≡ 28 = rw e at (settings-size g.x) in
+    let z = with-set T in
     let n1 = head-length g.x 28 in
     let n2 = bytes-length 8 (g.x .hoppers) in
-    rw (← settings-more g.x e)
-    (put-two (g.s .now) _ _ g.at _ (headBytes g.x 28) (bytes 8 (g.x .hoppers)) (omega (arith, S .pre .0)) (omega arith) (c .before .before .before .before .before .before .put-head .ensures) (c .before .before .put-u64 .ensures))
+    rw (← settings-more g.x (z .0))
+    (put-two (g.s .now) _ _ g.at _ (headBytes g.x 28) (bytes 8 (g.x .hoppers)) (omega (arith, S .pre .0)) (omega arith) (H .put-head .ensures) (U .put-u64 .ensures))
 
 same-length-2 : tie.Need-same-length-2
 same-length-2 c = search needs
 
 returns-2 : tie.Need-returns-2
 returns-2 c =
-    let S = c .before .before .before .before .before .before in
-    let g = S .args in
-    let e : several g.x ≡ false = sym (S .pre .1) ∙ c .before .before .before .before .if1 .left in
-    let z : length (settingsBody g.x) ≡ 20 = rw e at (settings-size g.x) in
-    rw (← settings-one g.x e) (c .before .before .put-head2 .ensures)
+    let H = c .before .before in
+    let E = H .before .before in
+    rw (← settings-one (E .before .before .args .x) (without E .0)) (H .put-head2 .ensures)
 
 pub put-settings-spec : {M : Type 1} → statement M
 put-settings-spec =

@@ -9,6 +9,13 @@ use Rattle.image_record_write.proofs.put_three.Reads as reads
 use Rattle.image_record_write.proofs.put_three.Lts as lts
 use Rattle.image_bytes.proofs.put_byte.Reads as put-byte-reads
 
+-- where each part but the last had been written
+abbrev one : tie.After-put-byte-arg2 → tie.After-put-byte
+one c = c .before .before .before
+
+abbrev two : tie.After-put-byte-arg3 → tie.After-put-byte2
+two c = c .before .before .before
+
 put-byte-requires : tie.Need-put-byte-requires
 put-byte-requires c κs = search needs
 
@@ -29,12 +36,15 @@ same-length c = search needs
 
 returns : tie.Need-returns
 returns c =
-    let g = c .before .before .before .before .before .before .before .before .before .before .before .before .before .args in
+    let C = c .before .before in
+    let B = two (C .before) in
+    let A = one (B .before) in
+    let g = A .before .before .before .args in
     let n1 = bytes-length 1 g.x in
     let n2 = bytes-length 1 g.y in
     let n3 = bytes-length 1 g.z in
     put-three (g.s .now) _ _ _ g.at _ _ (bytes 1 g.x) (bytes 1 g.y) (bytes 1 g.z) (omega arith) (omega arith) (omega arith)
-    (c .before .before .before .before .before .before .before .before .before .before .put-byte .ensures) (c .before .before .before .before .before .before .put-byte2 .ensures) (c .before .before .put-byte3 .ensures)
+    (A .put-byte .ensures) (B .put-byte2 .ensures) (C .put-byte3 .ensures)
 
 pub put-three-spec : {M : Type 1} → statement M
 put-three-spec =

@@ -13,6 +13,13 @@ use Rattle.image_record_write.proofs.put_tile.Lts as lts
 use Rattle.image_record_write.proofs.put_pair.Reads as put-pair-reads
 use Rattle.image_record_write.proofs.put_three.Reads as put-three-reads
 
+-- where each part but the last had been written
+abbrev one : tie.After-put-three-arg → tie.After-put-pair
+one c = c .before .before .before
+
+abbrev two : tie.After-put-three-arg2 → tie.After-put-three
+two c = c .before .before .before
+
 cast-put-pair : tie.Need-cast-put-pair
 cast-put-pair c = search needs
 
@@ -43,12 +50,16 @@ same-length c = search needs
 returns : tie.Need-returns
 unfolding tileBytes
 returns c =
-    let g = c .before .before .before .before .before .before .before .before .before .before .before .before .before .before .args in
+    let C = c .before .before in
+    let B = two (C .before) in
+    let A = one (B .before) in
+    let P = A .before in
+    let g = P .before .before .before .args in
     let n1 = pair-length (6 + 8 * g.h .count) 3 in
     let n2 = three-length 1 g.t (g.h .running) (g.h .distance) in
     let n3 = three-length 1 (g.h .next .code) (g.h .token .code) (g.h .count) in
     put-three (g.s .now) _ _ _ g.at _ _ (bytes 2 (6 + 8 * g.h .count) ++ bytes 2 3) (bytes 1 g.t ++ (bytes 1 (g.h .running) ++ bytes 1 (g.h .distance))) (bytes 1 (g.h .next .code) ++ (bytes 1 (g.h .token .code) ++ bytes 1 (g.h .count)))
-    (omega arith) (omega arith) (omega arith) (c .before .before .before .before .before .before .before .before .before .before .put-pair .ensures) (c .before .before .before .before .before .before .put-three .ensures) (c .before .before .put-three2 .ensures)
+    (omega arith) (omega arith) (omega arith) (A .put-pair .ensures) (B .put-three .ensures) (C .put-three2 .ensures)
 
 pub put-tile-spec : {M : Type 1} → statement M
 put-tile-spec =

@@ -12,6 +12,13 @@ use Rattle.image_record_write.proofs.put_top.Lts as lts
 use Rattle.image_record_write.proofs.put_pair.Reads as put-pair-reads
 use Rattle.image_bytes.proofs.put_u32.Reads as put-u32-reads
 
+-- where each part but the last had been written
+abbrev one : tie.After-put-u32-arg → tie.After-put-pair
+one c = c .before .before .before
+
+abbrev two : tie.After-put-u32-arg2 → tie.After-put-u32
+two c = c .before .before .before
+
 put-pair-requires : tie.Need-put-pair-requires
 put-pair-requires c κs = search needs
 
@@ -32,12 +39,15 @@ same-length c = search needs
 
 returns : tie.Need-returns
 returns c =
-    let g = c .before .before .before .before .before .before .before .before .before .before .before .before .before .args in
+    let C = c .before .before in
+    let B = two (C .before) in
+    let A = one (B .before) in
+    let g = A .before .before .before .args in
     let n1 = pair-length g.n 2 in
     let n2 = bytes-length 4 g.x in
     let n3 = bytes-length 4 g.y in
     put-three (g.s .now) _ _ _ g.at _ _ (bytes 2 g.n ++ bytes 2 2) (bytes 4 g.x) (bytes 4 g.y) (omega arith) (omega arith) (omega arith)
-    (c .before .before .before .before .before .before .before .before .before .before .put-pair .ensures) (c .before .before .before .before .before .before .put-u32 .ensures) (c .before .before .put-u322 .ensures)
+    (A .put-pair .ensures) (B .put-u32 .ensures) (C .put-u322 .ensures)
 
 pub put-top-spec : {M : Type 1} → statement M
 put-top-spec =
