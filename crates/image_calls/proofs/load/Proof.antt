@@ -22,8 +22,9 @@ fresh-requires c κs = search needs
 
 returns : tie.Need-returns
 returns c =
-    let x = c .before .before .before .before .before .args .bytes .now in
-    c .fresh .ensures ∙ ap freshAnswer (c .before .standard-settings .ensures) ∙ load-empty x (omega (arith, c .before .before .if1 .taken))
+    let I = c .before .before in
+    let x = I .before .before .before .args .bytes .now in
+    c .fresh .ensures ∙ ap freshAnswer (c .before .standard-settings .ensures) ∙ load-empty x (omega (arith, I .if1 .taken))
 
 returns-2 : tie.Need-returns-2
 returns-2 c =

@@ -20,17 +20,15 @@ refused-requires c κs = search needs
 
 returns : tie.Need-returns
 returns c =
-    let x = c .before .before .before .before .before .before .before .args .bytes .now in
-    let r = c .before .before .before .before .before .read-image in
-    let w = c .before .before .before .well-formed in
-    c .refused .ensures ∙ load-12 x (r .result) (w .result) (r .ensures) (w .ensures) (c .before .if1 .taken)
+    let W = c .before .before .before in
+    let R = W .before .before in
+    c .refused .ensures ∙ load-12 (R .before .before .args .bytes .now) _ _ (R .read-image .ensures) (W .well-formed .ensures) (c .before .if1 .taken)
 
 returns-2 : tie.Need-returns-2
 returns-2 c =
-    let x = c .before .before .before .before .before .before .args .bytes .now in
-    let r = c .before .before .before .before .read-image in
-    let w = c .before .before .well-formed in
-    load-other x (r .result) (w .result) (r .ensures) (w .ensures) (c .if1 .left)
+    let W = c .before .before in
+    let R = W .before .before in
+    load-other (R .before .before .args .bytes .now) _ _ (R .read-image .ensures) (W .well-formed .ensures) (c .if1 .left)
 
 pub load-image-spec : {M : Type 1} → statement M
 load-image-spec =

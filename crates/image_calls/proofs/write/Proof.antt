@@ -1,9 +1,11 @@
-use mathlib.Core.Path.{sym, ap, _∙_}
-use Prim.Native.Nat.{ℕ, _≤_}
+use mathlib.Core.Path.{_≡_, sym, ap, _∙_}
+use mathlib.Core.Bool.{true}
+use Prim.Native.Nat.{ℕ}
 use native.Mathlib.Omega.{arith}
 use lib.ListN.{length}
 use borrow.Author.Tests.{not-true, not-false}
 use Rattle.floor.specs.Memory.{view}
+use Rattle.floor.specs.Well.{wellFormed}
 use Rattle.image.specs.Image.{encode}
 use Rattle.image.specs.declared.Written.{Written}
 use Rattle.image.proofs.Promises.{write-malformed, write-short, write-whole}
@@ -19,6 +21,13 @@ use Rattle.image_write.proofs.write_image.Reads as write-image-reads
 made : ℕ → Written
 made k = record { refusal = 0; length = k }
 
+-- the floor is well-formed, and its image has the length that was counted
+abbrev start : tie.After-image-length → tie.Start
+start c = let W = c .before .before in W .before .before
+
+known : (c : tie.After-image-length) → let f = start c .args .floor in (wellFormed f ≡ true) × (c .image-length .result ≡ length (encode (view f)))
+known c = (sym (c .before .before .well-formed .ensures) ∙ not-false _ (c .before .if1 .left), c .image-length .ensures)
+
 well-formed-requires : tie.Need-well-formed-requires
 well-formed-requires c κs = search needs
 
@@ -33,15 +42,12 @@ cast-if2 c = search needs
 
 returns-2 : tie.Need-returns-2
 returns-2 c =
-    let w = sym (c .before .before .before .well-formed .ensures) ∙ not-false _ (c .before .before .if1 .left) in
-    let n = c .before .image-length .ensures in
-    write-short (c .before .before .before .before .before .args .floor) (c .before .before .before .before .before .args .buffer .now) w (omega (arith, n, c .if2 .taken))
+    let g = start (c .before) .args in
+    let k = known (c .before) in
+    write-short g.floor (g.buffer .now) (k .0) (omega (arith, k .1, c .if2 .taken))
 
 write-image-requires : tie.Need-write-image-requires
-write-image-requires c κs =
-    let w = sym (c .before .before .before .before .well-formed .ensures) ∙ not-false _ (c .before .before .before .if1 .left) in
-    let n = c .before .before .image-length .ensures in
-    (w, omega (arith, n, c .before .if2 .left))
+write-image-requires c κs = let k = known (c .before .before) in (k .0, omega (arith, k .1, c .before .if2 .left))
 
 same-length : tie.Need-same-length
 same-length c = search needs
@@ -49,13 +55,12 @@ same-length c = search needs
 returns-3 : tie.Need-returns-3
 unfolding made
 returns-3 c =
-    let f = c .before .before .before .before .before .before .before .before .before .args .floor in
-    let b = c .before .before .before .before .before .before .before .before .before .args .buffer .now in
-    let w = sym (c .before .before .before .before .before .before .before .well-formed .ensures) ∙ not-false _ (c .before .before .before .before .before .before .if1 .left) in
-    let n = c .before .before .before .before .before .image-length .ensures in
-    let h : length (encode (view f)) ≤ length b = omega (arith, n, c .before .before .before .before .if2 .left) in
-    let p = write-whole f b w h in
-    (ap (λ (k : ℕ). made k) n ∙ p .0, c .before .before .write-image .ensures ∙ p .1)
+    let P = c .before .before in
+    let E = P .before .before in
+    let g = start (E .before) .args in
+    let k = known (E .before) in
+    let p = write-whole g.floor (g.buffer .now) (k .0) (omega (arith, k .1, E .if2 .left)) in
+    (ap (λ (k : ℕ). made k) (k .1) ∙ p .0, P .write-image .ensures ∙ p .1)
 
 pub write-spec : {M : Type 1} → statement M
 write-spec =
