@@ -29,8 +29,10 @@ lowest-a-requires : tie.Need-lowest-a-requires Inv-loop μ-loop
 lowest-a-requires c κs = search needs
 
 returns : tie.Need-returns Inv-loop μ-loop
-returns c = let l = c .before .before .before .loop in
-    let g = c .before .before .before .before .before .args in
+returns c =
+    let o = c .before .before .before in
+    let l = o .loop in
+    let g = o .before .before .args in
     let e = c .before .lowest-a .ensures in
     let b = place-b g.s (take g.n g.items) (l .b) (l .inv .bare) (omega arith) (omega (arith, e)) in
     (b, λ _. place-a g.s (take g.n g.items) _ (l .b) e b)
@@ -42,9 +44,12 @@ loop-less : tie.Need-loop-less Inv-loop μ-loop
 loop-less c = search needs
 
 loop-again : tie.Need-loop-again Inv-loop μ-loop
-loop-again c = let l = c .before .before .before .before .loop in
-    let g = c .before .before .before .before .before .before .args in
-    let e = c .before .before .lowest-a .ensures in
+loop-again c =
+    let a = c .before .before in
+    let o = a .before .before in
+    let l = o .loop in
+    let g = o .before .before .args in
+    let e = a .lowest-a .ensures in
     let n = c .next-b .ensures in
     record { below = n .1; bare = bare-on (spacing g.s) (suc (span g.s)) (take g.n g.items) (l .b) _ (omega (arith, e)) (n .2) (l .inv .bare) }
 

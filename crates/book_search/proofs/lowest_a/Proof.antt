@@ -5,7 +5,7 @@ use native.Mathlib.Numerals.{add-one}
 use lib.ListN.{getD, take}
 use Rattle.floor.specs.Settings.{spacing, span}
 use Rattle.floor.specs.Memory.{zeroCanister}
-use Rattle.book_search.proofs.Search.{passed-none, beyond, row-found, row-none, row-start, row-step, row-jump, farther}
+use Rattle.book_search.proofs.Search.{Passed, passed-none, beyond, row-found, row-none, row-start, row-step, row-jump, farther}
 use Rattle.book_search.proofs.Loops.{RowSearched}
 use borrow.Author.Needs.{needs}
 use Rattle.book_search.proofs.lowest_a.Statement.{statement}
@@ -20,6 +20,22 @@ Inv-loop s n b items d far a₀ k₀ a k = RowSearched s items n b d far a k
 
 abbrev μ-loop : tie.MeasureT-loop
 μ-loop s n b items d far a₀ k₀ a k = (far - a) * 17 + (n - k)
+
+-- ---- the places that a need goes back to: the loop, from a canister that was compared, and the start
+abbrev at-item : tie.After-stands-apart Inv-loop μ-loop → tie.At-loop Inv-loop μ-loop
+at-item c = c .before .before .before
+
+abbrev start : tie.At-loop Inv-loop μ-loop → tie.Start Inv-loop μ-loop
+start c = c .before .before .before
+
+-- a canister that is too near is too near up to its a + d
+jump : (c : tie.Else1 Inv-loop μ-loop) → let o = at-item (c .before .before) in let g = start o .args in Passed (spacing g.s) (take g.n g.t2) g.b (getD g.t2 (o .loop .k) zeroCanister .a + spacing g.s)
+jump c =
+    let near = c .before .before in
+    let o = at-item near in
+    let l = o .loop in
+    let g = start o .args in
+    row-jump (spacing g.s) g.n g.t2 g.b (l .a) (l .k) (omega arith) (omega arith) (near .stands-apart .ensures) (c .if1 .left) (l .inv .passed)
 
 spacing-requires : tie.Need-spacing-requires Inv-loop μ-loop
 spacing-requires c κs = search needs
@@ -64,8 +80,10 @@ loop-less : tie.Need-loop-less Inv-loop μ-loop
 loop-less c = search needs
 
 loop-again : tie.Need-loop-again Inv-loop μ-loop
-loop-again c = let l = c .before .before .before .before .before .loop in
-    let g = c .before .before .before .before .before .before .before .before .args in
+loop-again c =
+    let o = at-item (c .before .before) in
+    let l = o .loop in
+    let g = start o .args in
     let i = l .inv in
     record {
       below = omega arith;
@@ -85,25 +103,29 @@ add-result : tie.Need-add-result Inv-loop μ-loop
 add-result c = search needs
 
 returns : tie.Need-returns Inv-loop μ-loop
-returns c = let l = c .before .before .before .before .before .before .loop in
-    let g = c .before .before .before .before .before .before .before .before .before .args in
-    let p = row-jump (spacing g.s) g.n g.t2 g.b (l .a) (l .k) (omega arith) (omega arith) (c .before .before .before .stands-apart .ensures) (c .before .if1 .left) (l .inv .passed) in
+returns c =
+    let o = at-item (c .before .before .before) in
+    let g = start o .args in
+    let p = jump (c .before) in
     add-one (span g.s) ∙ row-none (spacing g.s) (suc (span g.s)) (take g.n g.t2) g.b (λ y h. p y (omega arith))
 
 cast-a : tie.Need-cast-a Inv-loop μ-loop
 cast-a c = search needs
 
 loop-less-2 : tie.Need-loop-less-2 Inv-loop μ-loop
-loop-less-2 c = let l = c .before .before .before .before .before .before .loop in
-    let g = c .before .before .before .before .before .before .before .before .before .args in
-    let more = beyond (spacing g.s) (getD g.t2 (l .k) zeroCanister) (l .a) g.b (sym (c .before .before .before .stands-apart .ensures) ∙ c .before .if1 .left) in
+loop-less-2 c =
+    let near = c .before .before .before in
+    let o = at-item near in
+    let l = o .loop in
+    let g = start o .args in
+    let more = beyond (spacing g.s) (getD g.t2 (l .k) zeroCanister) (l .a) g.b (sym (near .stands-apart .ensures) ∙ c .before .if1 .left) in
     farther (omega (arith, more)) (omega arith) (omega arith) (l .inv .few)
 
 loop-again-2 : tie.Need-loop-again-2 Inv-loop μ-loop
-loop-again-2 c = let l = c .before .before .before .before .before .before .loop in
-    let g = c .before .before .before .before .before .before .before .before .before .args in
-    let i = l .inv in
-    let p = row-jump (spacing g.s) g.n g.t2 g.b (l .a) (l .k) (omega arith) (omega arith) (c .before .before .before .stands-apart .ensures) (c .before .if1 .left) (i .passed) in
+loop-again-2 c =
+    let o = at-item (c .before .before .before) in
+    let g = start o .args in
+    let i = o .loop .inv in
     record {
       below = omega arith;
       few = i .few;
@@ -111,13 +133,14 @@ loop-again-2 c = let l = c .before .before .before .before .before .before .loop
       narrow = i .narrow;
       within = omega arith;
       spaced = i .spaced;
-      passed = rw (i .spaced) p;
+      passed = rw (i .spaced) (jump (c .before));
       clear-upto = row-start (spacing g.s) _ g.b g.t2;
     }
 
 returns-2 : tie.Need-returns-2 Inv-loop μ-loop
-returns-2 c = let l = c .before .loop in
-    let g = c .before .before .before .before .args in
+returns-2 c =
+    let l = c .before .loop in
+    let g = start (c .before) .args in
     let e : l .k ≡ g.n = omega arith in
     row-found (spacing g.s) (suc (span g.s)) (take g.n g.t2) g.b (l .a) (omega arith) (l .inv .passed) (rw e at (l .inv .clear-upto))
 

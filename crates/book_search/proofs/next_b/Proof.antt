@@ -64,10 +64,13 @@ loop-less : tie.Need-loop-less Inv-loop μ-loop
 loop-less c = search needs
 
 loop-again : tie.Need-loop-again Inv-loop μ-loop
-loop-again c = let l = c .before .before .before .before .loop in
-    let g = c .before .before .before .before .before .before .before .args in
+loop-again c =
+    let p = c .before .before in
+    let o = p .before .before in
+    let l = o .loop in
+    let g = o .before .before .before .args in
     let i = l .inv in
-    let d = c .before .before .before .before .before .before .spacing .result in
+    let d = o .before .before .spacing .result in
     let x = getD g.t2 (l .k) zeroCanister .b + d in
     let low = ltb-true g.b x (and-left (ltb g.b x) (ltb x (l .next)) (c .if1 .taken)) in
     let less = ltb-true x (l .next) (and-right (ltb g.b x) (ltb x (l .next)) (c .if1 .taken)) in
@@ -87,8 +90,11 @@ loop-less-2 : tie.Need-loop-less-2 Inv-loop μ-loop
 loop-less-2 c = search needs
 
 loop-again-2 : tie.Need-loop-again-2 Inv-loop μ-loop
-loop-again-2 c = let l = c .before .before .before .before .loop in
-    let g = c .before .before .before .before .before .before .before .args in
+loop-again-2 c =
+    let p = c .before .before in
+    let o = p .before .before in
+    let l = o .loop in
+    let g = o .before .before .before .args in
     let i = l .inv in
     record {
       below = omega arith;
@@ -96,18 +102,20 @@ loop-again-2 c = let l = c .before .before .before .before .loop in
       items-length = i .items-length;
       beyond = i .beyond;
       within = i .within;
-      ahead = ahead-stay (c .before .before .before .before .before .before .spacing .result) g.b (l .next) g.t2 (l .k) (omega arith) (c .if1 .left) (i .ahead);
+      ahead = ahead-stay (o .before .before .spacing .result) g.b (l .next) g.t2 (l .k) (omega arith) (c .if1 .left) (i .ahead);
     }
 
 cast-result : tie.Need-cast-result Inv-loop μ-loop
 cast-result c = search needs
 
 returns : tie.Need-returns Inv-loop μ-loop
-returns c = let l = c .before .loop in
-    let g = c .before .before .before .before .args in
+returns c =
+    let o = c .before in
+    let l = o .loop in
+    let g = o .before .before .before .args in
     let i = l .inv in
     let e : l .k ≡ g.n = omega arith in
-    (i .beyond, omega arith, rw (e, c .before .before .before .spacing .ensures) at (i .ahead))
+    (i .beyond, omega arith, rw (e, o .before .before .spacing .ensures) at (i .ahead))
 
 pub next-b-spec : {M : Type 1} → statement M
 next-b-spec =
