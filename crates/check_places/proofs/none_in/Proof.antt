@@ -43,8 +43,9 @@ loop-less c = search needs
 
 loop-again : tie.Need-loop-again Inv-loop μ-loop
 loop-again c =
-    let l = c .before .before .before .loop in
-    let g = c .before .before .before .before .args in
+    let o = c .before .before .before in
+    let l = o .loop in
+    let g = o .before .args in
     record {
       below = omega arith;
       items-length = l .inv .items-length;

@@ -70,9 +70,11 @@ loop2-less c = search needs
 
 loop2-again : tie.Need-loop2-again Inv-loop2 μ-loop2 Inv-loop μ-loop
 loop2-again c =
-    let l = c .before .before .before .loop2 in
-    let o = c .before .before .before .before .before .before .loop in
-    let g = c .before .before .before .before .before .before .before .args in
+    let z = c .before .before .before in
+    let p = z .before .before .before in
+    let l = z .loop2 in
+    let o = p .loop in
+    let g = p .before .args in
     record {
       below = omega arith;
       here = l .inv .here;
@@ -89,9 +91,11 @@ loop-less c = search needs
 
 loop-again : tie.Need-loop-again Inv-loop2 μ-loop2 Inv-loop μ-loop
 loop-again c =
-    let l = c .before .loop2 in
-    let o = c .before .before .before .before .loop in
-    let g = c .before .before .before .before .before .args in
+    let z = c .before in
+    let p = z .before .before .before in
+    let l = z .loop2 in
+    let o = p .loop in
+    let g = p .before .args in
     let e = ended (λ (i : ℕ). pairsOf (inOrder g.s) (take (o .j) g.t2) && allOf (λ x. inOrder g.s x (getD g.t2 (o .j) zeroCanister)) (take i g.t2)) (omega arith) (l .inv .below) (l .inv .ordered) in
     record {
       below = omega arith;

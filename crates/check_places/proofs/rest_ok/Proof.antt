@@ -62,8 +62,9 @@ loop-less c = search needs
 
 loop-again : tie.Need-loop-again Inv-loop μ-loop
 loop-again c =
-    let l = c .before .before .before .loop in
-    let g = c .before .before .before .before .before .args in
+    let o = c .before .before .before in
+    let l = o .loop in
+    let g = o .before .before .args in
     let h : l .k < length (drop g.n g.t1) = rw length-drop (omega arith) in
     record {
       below = omega arith;

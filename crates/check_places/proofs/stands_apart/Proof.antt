@@ -23,20 +23,20 @@ cast-yb : tie.Need-cast-yb
 cast-yb c = search needs
 
 add-result : tie.Need-add-result
-add-result c = omega (arith, c .before .before .before .before .spacing .ensures)
+add-result c = search needs
 
 add-result-2 : tie.Need-add-result-2
-add-result-2 c = omega (arith, c .before .before .before .before .spacing .ensures)
+add-result-2 c = search needs
 
 add-result-3 : tie.Need-add-result-3
-add-result-3 c = omega (arith, c .before .before .before .before .spacing .ensures)
+add-result-3 c = search needs
 
 add-result-4 : tie.Need-add-result-4
-add-result-4 c = omega (arith, c .before .before .before .before .spacing .ensures)
+add-result-4 c = search needs
 
 returns : tie.Need-returns
 unfolding apart
-returns c = rw (c .before .before .before .before .spacing .ensures)
+returns c = let d = c .before .before in rw (d .before .before .spacing .ensures)
 
 pub stands-apart-spec : {M : Type 1} → statement M
 stands-apart-spec =
