@@ -14,7 +14,7 @@ faces-ok-requires : tie.Need-faces-ok-requires
 faces-ok-requires c κs = c .before .before .before .pre
 
 faces-ok-requires-2 : tie.Need-faces-ok-requires-2
-faces-ok-requires-2 c κs = c .before .before .before .before .pre
+faces-ok-requires-2 c κs = search needs
 
 returns : tie.Need-returns
 unfolding headSound

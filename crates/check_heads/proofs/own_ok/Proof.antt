@@ -33,9 +33,10 @@ running-ok-requires c κs = search needs
 returns-2 : tie.Need-returns-2
 unfolding isHopper
 returns-2 c =
-    let g = c .before .before .before .before .before .args in
+    let i = c .before .before .before in
+    let g = i .before .before .args in
     c .running-ok .ensures ∙ pick-yes (runningSound g.s g.h) (stoppedSound g.h) (eq-eqb (g.h .running) 1 (c .before .if2 .taken))
-    ∙ pick-no (hopperSound g.h) (cond (eqb (g.h .running) 1) (runningSound g.s g.h) (stoppedSound g.h)) (sym (c .before .before .before .before .holds .ensures) ∙ c .before .before .before .if1 .left)
+    ∙ pick-no (hopperSound g.h) (cond (eqb (g.h .running) 1) (runningSound g.s g.h) (stoppedSound g.h)) (sym (i .before .holds .ensures) ∙ i .if1 .left)
 
 stopped-ok-requires : tie.Need-stopped-ok-requires
 stopped-ok-requires c κs = search needs
@@ -43,9 +44,10 @@ stopped-ok-requires c κs = search needs
 returns-3 : tie.Need-returns-3
 unfolding isHopper
 returns-3 c =
-    let g = c .before .before .before .before .before .args in
+    let i = c .before .before .before in
+    let g = i .before .before .args in
     c .stopped-ok .ensures ∙ pick-no (runningSound g.s g.h) (stoppedSound g.h) (ne-eqb (g.h .running) 1 (c .before .if2 .left))
-    ∙ pick-no (hopperSound g.h) (cond (eqb (g.h .running) 1) (runningSound g.s g.h) (stoppedSound g.h)) (sym (c .before .before .before .before .holds .ensures) ∙ c .before .before .before .if1 .left)
+    ∙ pick-no (hopperSound g.h) (cond (eqb (g.h .running) 1) (runningSound g.s g.h) (stoppedSound g.h)) (sym (i .before .holds .ensures) ∙ i .if1 .left)
 
 pub own-ok-spec : {M : Type 1} → statement M
 own-ok-spec =
