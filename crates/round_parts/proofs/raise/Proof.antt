@@ -42,8 +42,9 @@ cast-sums c = search needs
 
 add-sums : tie.Need-add-sums Inv-loop μ-loop
 add-sums c =
-    let l = c .before .before .before .loop in
-    let S = c .before .before .before .before .before in
+    let o = c .before .before .before in
+    let l = o .loop in
+    let S = o .before .before in
     record { fits = rw (ap (λ (x : Delivery). x .count) (get-same (S .args .t2) (l .k) noDelivery beyond (omega arith))) at (S .pre (l .k) (omega arith)) }
 
 mul-sums-2 : tie.Need-mul-sums-2 Inv-loop μ-loop
@@ -60,8 +61,9 @@ loop-less c = search needs
 
 loop-again : tie.Need-loop-again Inv-loop μ-loop
 loop-again c =
-    let l = c .before .before .before .loop in
-    let g = c .before .before .before .before .before .args in
+    let o = c .before .before .before in
+    let l = o .loop in
+    let g = o .before .before .args in
     (omega arith, l .inv .1, l .inv .2, simp length-set (l .inv .3), refl, upto-turn (l .k) (λ j. getD (g .c .delivered) j 0 + getD (g .t2) j noDelivery .count) 0 (l .sums) _ (omega arith) (l .inv .5) (ap (λ (x : Delivery). getD (g .c .delivered) (l .k) 0 + x .count) (get-same (g .t2) (l .k) beyond noDelivery (omega arith))))
 
 returns : tie.Need-returns Inv-loop μ-loop
