@@ -12,8 +12,10 @@ use borrow.Author.Tests.{lt-ltb, le-ltb, eq-eqb, ne-eqb}
 use lib.ListN.{length, length-append, length-set, set}
 use Rattle.laws.specs.Define.{tab, join}
 use Rattle.laws.proofs.Tables.{tab-same}
+use Rattle.image_bytes.specs.Bytes.{bytes}
 use Rattle.image_bytes.specs.Put.{put}
-use Rattle.image_bytes.proofs.PutLaws.{put-one, put-two}
+use Rattle.image_bytes.proofs.PutLaws.{put-one, put-two, put-three, bytes-one}
+use Rattle.image_record_write.proofs.RecordBytes.{put-four}
 use Rattle.floor.specs.declared.Tile.{Tile}
 use Rattle.floor.specs.Model.{tileOf}
 use Rattle.floor.specs.Memory.{head}
@@ -95,25 +97,48 @@ put-three-is l at x y z h =
     put-two l (set (set l at x) (at + 1) y) (set (set (set l at x) (at + 1) y) (at + 2) z) at (at + 2) (x ∷ y ∷ []) (z ∷ []) (omega arith) (omega arith)
     (put-pair-is l at x y (omega arith)) (put-one (set (set l at x) (at + 1) y) (at + 2) z (rw (length-set, length-set) (omega arith)))
 
-pub two-small : (n : ℕ) → n < 10 → 32 ∷ (48 + n) ∷ [] ≡ two n
-unfolding two
-two-small n h = rw (lt-ltb n 10 h) refl
+-- l before, m after: the piece that stands in m is the one asked for
+module _ (l m : List ℕ) (at n : ℕ) where
+  pub two-small : n < 10 → m ≡ put l at (32 ∷ (48 + n) ∷ []) → m ≡ put l at (two n)
+  unfolding two
+  two-small h e = rw (lt-ltb n 10 h) e
 
-pub two-large : (n : ℕ) → 10 ≤ n → (48 + n / 10) ∷ (48 + n % 10) ∷ [] ≡ two n
-unfolding two
-two-large n h = rw (le-ltb n 10 h) refl
+  pub two-large : 10 ≤ n → m ≡ put l at ((48 + n / 10) ∷ (48 + n % 10) ∷ []) → m ≡ put l at (two n)
+  unfolding two
+  two-large h e = rw (le-ltb n 10 h) e
 
-pub distance-stopped : (h : Tile) → h .running ≢ 1 → 88 ∷ 88 ∷ [] ≡ distanceText h
-unfolding distanceText
-distance-stopped h n = rw (ne-eqb (h .running) 1 n) refl
+module _ (l m : List ℕ) (at : ℕ) (h : Tile) where
+  pub distance-stopped : h .running ≢ 1 → m ≡ put l at (88 ∷ 88 ∷ []) → m ≡ put l at (distanceText h)
+  unfolding distanceText
+  distance-stopped n e = rw (ne-eqb (h .running) 1 n) e
 
-pub distance-none : (h : Tile) → h .running ≡ 1 → h .distance ≡ 255 → 45 ∷ 45 ∷ [] ≡ distanceText h
-unfolding distanceText
-distance-none h r d = rw (eq-eqb (h .running) 1 r, eq-eqb (h .distance) 255 d) refl
+  pub distance-none : h .running ≡ 1 → h .distance ≡ 255 → m ≡ put l at (45 ∷ 45 ∷ []) → m ≡ put l at (distanceText h)
+  unfolding distanceText
+  distance-none r d e = rw (eq-eqb (h .running) 1 r, eq-eqb (h .distance) 255 d) e
 
-pub distance-some : (h : Tile) → h .running ≡ 1 → h .distance ≢ 255 → two (h .distance) ≡ distanceText h
-unfolding distanceText
-distance-some h r d = rw (eq-eqb (h .running) 1 r, ne-eqb (h .distance) 255 d) refl
+  pub distance-some : h .running ≡ 1 → h .distance ≢ 255 → m ≡ put l at (two (h .distance)) → m ≡ put l at (distanceText h)
+  unfolding distanceText
+  distance-some r d e = rw (eq-eqb (h .running) 1 r, ne-eqb (h .distance) 255 d) e
+
+-- a cell, piece by piece; d: the arrow's letter
+pub cell-put : (l m k j i : List ℕ) (at d : ℕ) (h : Tile) → at + 8 ≤ length l → m ≡ put l at (two (h .count)) → d ≡ letter (h .next .code) → k ≡ put m (at + 2) (32 ∷ d ∷ 32 ∷ [])
+    → j ≡ put k (at + 5) (distanceText h) → i ≡ put j (at + 7) (bytes 1 124) → i ≡ put l at (cell h)
+unfolding cell
+cell-put l m k j i at d h room em ed ek ej ei =
+    let n1 = two-length (h .count) in
+    let n2 = distance-length h in
+    put-four l m k j i at (at + 2) (at + 5) (at + 7) (two (h .count)) (32 ∷ letter (h .next .code) ∷ 32 ∷ []) (distanceText h) (124 ∷ [])
+    (omega (arith, n1, n2)) (omega (arith, n1)) (omega (arith, n1)) (omega (arith, n1, n2))
+    em (ek ∙ ap (λ (x : ℕ). put m (at + 2) (32 ∷ x ∷ 32 ∷ [])) ed) ej (ei ∙ ap (put j (at + 7)) (bytes-one 124 (omega arith)))
+
+-- a line, piece by piece
+pub line-put : (l m k j : List ℕ) (at w h r : ℕ) (g : ℕ → Tile) → at + (8 * w + 2) ≤ length l → m ≡ put l at (bytes 1 124) → k ≡ put m (at + 1) (cells g w h r)
+    → j ≡ put k (at + 1 + 8 * w) (bytes 1 10) → j ≡ put l at (line g w h r)
+unfolding line
+line-put l m k j at w h r g room em ek ej =
+    let n = cells-length g w h r in
+    put-three l m k j at (at + 1) (at + 1 + 8 * w) (124 ∷ []) (cells g w h r) (10 ∷ []) (omega (arith, n, room)) (omega arith) (omega (arith, n))
+    (em ∙ ap (put l at) (bytes-one 124 (omega arith))) ek (ej ∙ ap (put k (at + 1 + 8 * w)) (bytes-one 10 (omega arith)))
 
 -- ---- a turn of a loop that puts pieces of n bytes one after the other
 pub turn : (s₀ s s′ : List ℕ) (from at n k : ℕ) (f : ℕ → List ℕ) → ((i : ℕ) → length (f i) ≡ n) → at ≡ from + k * n → at + n ≤ length s₀

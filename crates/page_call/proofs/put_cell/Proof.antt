@@ -1,12 +1,4 @@
-use mathlib.Core.Path.{_≡_, ap, _∙_}
-use mathlib.Core.List.{[], _∷_}
-use Prim.Native.Nat.{ℕ, _+_}
-use native.Mathlib.Omega.{arith}
-use Rattle.image_bytes.specs.Put.{put}
-use Rattle.image_bytes.proofs.PutLaws.{bytes-one}
-use Rattle.image_record_write.proofs.RecordBytes.{put-four}
-use Rattle.page_call.specs.Page.{two, letter, distanceText, cell}
-use Rattle.page_call.proofs.Pieces.{two-length, distance-length}
+use Rattle.page_call.proofs.Pieces.{cell-put}
 use borrow.Author.Needs.{needs}
 use Rattle.page_call.proofs.put_cell.Statement.{statement}
 use Rattle.page_call.proofs.put_cell.Tie as tie
@@ -46,20 +38,7 @@ same-length : tie.Need-same-length
 same-length c = search needs
 
 returns : tie.Need-returns
-unfolding cell
-returns c =
-    let g = c .before .before .before .before .before .before .before .before .before .before .before .before .before .before .before .before .before .before .args in
-    let h = g.h in
-    let n1 = two-length (h .count) in
-    let n2 = distance-length h in
-    let e : c .before .before .before .before .before .before .before .before .before .before .before .before .letter .result ≡ letter (h .next .code) = c .before .before .before .before .before .before .before .before .before .before .before .before .letter .ensures in
-    let m = c .before .before .before .before .before .before .before .before .before .before .before .before .before .before .before .put-two .last .0 in
-    let k = c .before .before .before .before .before .before .before .before .before .before .put-three .last .0 in
-    let j = c .before .before .before .before .before .before .put-distance .last .0 in
-    put-four (g.s .now) m k j (c .before .before .put-byte .last .0) g.at (g.at + 2) (g.at + 5) (g.at + 7) (two (h .count)) (32 ∷ letter (h .next .code) ∷ 32 ∷ []) (distanceText h) (124 ∷ [])
-    (omega (arith, n1, n2)) (omega (arith, n1)) (omega (arith, n1)) (omega (arith, n1, n2))
-    (c .before .before .before .before .before .before .before .before .before .before .before .before .before .before .before .put-two .ensures) (c .before .before .before .before .before .before .before .before .before .before .put-three .ensures ∙ ap (λ (x : ℕ). put m (g.at + 2) (32 ∷ x ∷ 32 ∷ [])) e) (c .before .before .before .before .before .before .put-distance .ensures)
-    (c .before .before .put-byte .ensures ∙ ap (put j (g.at + 7)) (bytes-one 124 (omega arith)))
+returns c = search (cell-put, needs)
 
 pub put-cell-spec : {M : Type 1} → statement M
 put-cell-spec =

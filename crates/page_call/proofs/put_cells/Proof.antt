@@ -67,9 +67,11 @@ loop-less c = search needs
 
 loop-again : tie.Need-loop-again Inv-loop μ-loop
 loop-again c =
-    let p = c .before .before .put-cell in
-    let l = c .before .before .before .before .before .before .loop in
-    let g = c .before .before .before .before .before .before .before .before .args in
+    let q = c .before .before in
+    let p = q .put-cell in
+    let t = q .before .before .before in
+    let l = t .before .loop in
+    let g = t .before .before .before .args in
     record {
       below = omega arith;
       columns-few = l .inv .columns-few;

@@ -1,5 +1,3 @@
-use mathlib.Core.Path.{ap, _∙_}
-use Rattle.image_bytes.specs.Put.{put}
 use Rattle.page_call.proofs.Pieces.{distance-stopped, distance-none, distance-some}
 use borrow.Author.Needs.{needs}
 use Rattle.page_call.proofs.put_distance.Statement.{statement}
@@ -22,19 +20,19 @@ same-length : tie.Need-same-length
 same-length c = search needs
 
 returns : tie.Need-returns
-returns c = let g = c .before .before .before .before .before .before .before .args in c .before .before .put-pair .ensures ∙ ap (put (g.s .now) g.at) (distance-stopped g.h (c .before .before .before .before .if1 .taken))
+returns c = search (distance-stopped, needs)
 
 same-length-2 : tie.Need-same-length-2
 same-length-2 c = search needs
 
 returns-2 : tie.Need-returns-2
-returns-2 c = let g = c .before .before .before .before .before .before .before .before .args in c .before .before .put-pair2 .ensures ∙ ap (put (g.s .now) g.at) (distance-none g.h (c .before .before .before .before .before .if1 .left) (c .before .before .before .before .if2 .taken))
+returns-2 c = search (distance-none, needs)
 
 same-length-3 : tie.Need-same-length-3
 same-length-3 c = search needs
 
 returns-3 : tie.Need-returns-3
-returns-3 c = let g = c .before .before .before .before .before .before .before .before .args in c .before .before .put-two .ensures ∙ ap (put (g.s .now) g.at) (distance-some g.h (c .before .before .before .before .before .if1 .left) (c .before .before .before .before .if2 .left))
+returns-3 c = search (distance-some, needs)
 
 pub put-distance-spec : {M : Type 1} → statement M
 put-distance-spec =

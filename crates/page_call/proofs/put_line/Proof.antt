@@ -1,14 +1,4 @@
-use mathlib.Core.Path.{ap, _∙_}
-use mathlib.Core.List.{[], _∷_}
-use Prim.Native.Nat.{ℕ, _+_, _*_}
-use native.Mathlib.Omega.{arith}
-use lib.ListN.{getD}
-use Rattle.image_bytes.specs.Put.{put}
-use Rattle.image_bytes.proofs.PutLaws.{put-three, bytes-one}
-use Rattle.floor.specs.declared.Tile.{Tile}
-use Rattle.floor.specs.Memory.{zeroTile}
-use Rattle.page_call.specs.Page.{cells, line}
-use Rattle.page_call.proofs.Pieces.{cells-length}
+use Rattle.page_call.proofs.Pieces.{line-put}
 use borrow.Author.Needs.{needs}
 use Rattle.page_call.proofs.put_line.Statement.{statement}
 use Rattle.page_call.proofs.put_line.Tie as tie
@@ -42,14 +32,7 @@ same-length : tie.Need-same-length
 same-length c = search needs
 
 returns : tie.Need-returns
-unfolding line
-returns c =
-    let g = c .before .before .before .before .before .before .before .before .before .before .before .before .before .args in
-    let look : ℕ → Tile = λ t. getD g.tiles t zeroTile in
-    let n = cells-length look g.w g.h g.r in
-    let room = c .before .before .before .before .before .before .before .before .before .before .before .before .before .pre .3 in
-    put-three (g.s .now) _ _ _ g.at (g.at + 1) (g.at + 1 + 8 * g.w) (124 ∷ []) (cells look g.w g.h g.r) (10 ∷ []) (omega (arith, n, room)) (omega arith) (omega (arith, n))
-    (c .before .before .before .before .before .before .before .before .before .before .put-byte .ensures ∙ ap (put (g.s .now) g.at) (bytes-one 124 (omega arith))) (c .before .before .before .before .before .before .put-cells .ensures) (c .before .before .put-byte2 .ensures ∙ ap (put _ _) (bytes-one 10 (omega arith)))
+returns c = search (line-put, needs)
 
 pub put-line-spec : {M : Type 1} → statement M
 put-line-spec =

@@ -48,8 +48,9 @@ sub-put-line-2 c = search needs
 
 put-line-requires : tie.Need-put-line-requires Inv-loop μ-loop
 put-line-requires c κs =
-    let l = c .before .before .loop in
-    let g = c .before .before .before .before .args in
+    let h = c .before .before in
+    let l = h .loop in
+    let g = h .before .before .args in
     (l .inv .columns-few, l .inv .rows-few, omega arith, omega (arith, row-room (l .k) g.h (8 * g.w + 2) (c .before .loop-test .taken)))
 
 add-k : tie.Need-add-k Inv-loop μ-loop
@@ -60,11 +61,13 @@ loop-less c = search needs
 
 loop-again : tie.Need-loop-again Inv-loop μ-loop
 loop-again c =
-    let p = c .before .before .put-line in
-    let l = c .before .before .before .before .before .loop in
-    let g = c .before .before .before .before .before .before .before .args in
+    let q = c .before .before in
+    let p = q .put-line in
+    let t = q .before .before in
+    let l = t .before .loop in
+    let g = t .before .before .before .args in
     let n = 8 * g.w + 2 in
-    let r = row-room (l .k) g.h n (c .before .before .before .before .loop-test .taken) in
+    let r = row-room (l .k) g.h n (t .loop-test .taken) in
     record {
       below = omega arith;
       columns-few = l .inv .columns-few;

@@ -1,5 +1,3 @@
-use mathlib.Core.Path.{ap, _∙_}
-use Rattle.image_bytes.specs.Put.{put}
 use Rattle.page_call.proofs.Pieces.{two-small, two-large}
 use borrow.Author.Needs.{needs}
 use Rattle.page_call.proofs.put_two.Statement.{statement}
@@ -27,13 +25,13 @@ same-length : tie.Need-same-length
 same-length c = search needs
 
 returns : tie.Need-returns
-returns c = let g = c .before .before .before .before .before .before .args in c .before .before .put-pair .ensures ∙ ap (put (g.s .now) g.at) (two-small g.n (c .before .before .before .before .if1 .taken))
+returns c = search (two-small, needs)
 
 same-length-2 : tie.Need-same-length-2
 same-length-2 c = search needs
 
 returns-2 : tie.Need-returns-2
-returns-2 c = let g = c .before .before .before .before .before .before .args in c .before .before .put-pair2 .ensures ∙ ap (put (g.s .now) g.at) (two-large g.n (c .before .before .before .before .if1 .left))
+returns-2 c = search (two-large, needs)
 
 pub put-two-spec : {M : Type 1} → statement M
 put-two-spec =
