@@ -14,6 +14,7 @@ use Rattle.floor.specs.declared.Report.{Report}
 use Rattle.floor.specs.declared.Placed.{Placed}
 use Rattle.floor.specs.Well.{wellFormed}
 use Rattle.floor.specs.Anywhere.{anywhereAnswer}
+use Rattle.plan_parts.specs.declared.Asked.{Asked}
 use Rattle.plan.specs.declared.Plan.{Plan}
 use Rattle.plan.specs.declared.Offered.{Offered}
 use Rattle.plan.specs.declared.Planned.{Planned}
@@ -25,81 +26,98 @@ pub sound-few : (p : Plan) → planSound p ≡ true → p .count ≤ 64
 unfolding planSound
 sound-few p h = leb-true (p .count) 64 (and-left (leb (p .count) 64) _ h)
 
+pub few-sound : (p : Plan) (good : Bool) → good ≡ planSound p → not good ≡ false → p .count ≤ 64
+few-sound p good e h = sound-few p (sym e ∙ not-false good h)
+
+pub fits-yes : (p : Plan) (fitting : Bool) → fitting ≡ planFits p → not fitting ≡ false → planFits p ≡ true
+fits-yes p fitting e h = sym e ∙ not-false fitting h
+
 -- ---- offer
-module _ (p : Plan) where
-  pub offer-unsound : planSound p ≡ false → _≡_ {A = Offered} (record { label = 0; refusal = 30 }) (offerAnswer p)
+module _ (p : Plan) (good : Bool) (es : good ≡ planSound p) where
+  pub offer-unsound : not good ≡ true → _≡_ {A = Offered} (record { label = 0; refusal = 30 }) (offerAnswer p)
   unfolding offerAnswer offerTests refusal
-  offer-unsound e = rw e
+  offer-unsound h = rw (sym es, h)
 
-  module _ (s : planSound p ≡ true) where
-    pub offer-misfit : planFits p ≡ false → _≡_ {A = Offered} (record { label = 0; refusal = 47 }) (offerAnswer p)
+  module _ (s : not good ≡ false) (fitting : Bool) (ef : fitting ≡ planFits p) where
+    pub offer-misfit : not fitting ≡ true → _≡_ {A = Offered} (record { label = 0; refusal = 47 }) (offerAnswer p)
     unfolding offerAnswer offerTests refusal
-    offer-misfit e = rw (s, e)
+    offer-misfit h = rw (sym es, s, sym ef, h)
 
-    pub offer-made : {n : ℕ} → planFits p ≡ true → n ≡ offered p → _≡_ {A = Offered} (record { label = n; refusal = 0 }) (offerAnswer p)
+    pub offer-made : {n : ℕ} → not fitting ≡ false → n ≡ offered p → _≡_ {A = Offered} (record { label = n; refusal = 0 }) (offerAnswer p)
     unfolding offerAnswer offerTests refusal
-    offer-made e q = rw (s, e, q)
+    offer-made h q = rw (sym es, s, sym ef, h, q)
 
 -- ---- release: its own tests
-module _ (p : Plan) (f : Floor) (k : ℕ) where
-  pub release-unsound : planSound p ≡ false → 30 ≡ refusal (releaseTests p f k)
+-- by what the code read: whether the plan is sound, the floor well-formed, the numbers known, the labels fitting, the label ready
+module _ (p : Plan) (f : Floor) (k : ℕ) (good : Bool) (es : good ≡ planSound p) where
+  pub release-unsound : not good ≡ true → 30 ≡ refusal (releaseTests p f k)
   unfolding releaseTests refusal
-  release-unsound e = rw e
+  release-unsound h = rw (sym es, h)
 
-  module _ (s : planSound p ≡ true) where
-    pub release-malformed : wellFormed f ≡ false → 30 ≡ refusal (releaseTests p f k)
+  module _ (s : not good ≡ false) (well : Bool) (ew : well ≡ wellFormed f) where
+    pub release-malformed : not well ≡ true → 30 ≡ refusal (releaseTests p f k)
     unfolding releaseTests refusal
-    release-malformed e = rw (s, e)
+    release-malformed h = rw (sym es, s, sym ew, h)
 
-    module _ (w : wellFormed f ≡ true) where
-      pub release-unknown : numbersUpto (f .counters .last) p ≡ false → 30 ≡ refusal (releaseTests p f k)
+    module _ (w : not well ≡ false) (l : List ℕ) (el : l ≡ held (used p)) (known : Bool) (ek : known ≡ allOf (λ x. ltb 0 x && leb x (f .counters .last)) l) where
+      upto : numbersUpto (f .counters .last) p ≡ known
+      unfolding numbersUpto
+      upto = rw (sym el, ek)
+
+      pub release-unknown : not known ≡ true → 30 ≡ refusal (releaseTests p f k)
       unfolding releaseTests refusal
-      release-unknown e = rw (s, w, e)
+      release-unknown h = rw (sym es, s, sym ew, w, upto, h)
 
-      module _ (u : numbersUpto (f .counters .last) p ≡ true) where
-        pub release-misfit : planFits p ≡ false → 47 ≡ refusal (releaseTests p f k)
+      module _ (u : not known ≡ false) (fitting : Bool) (ef : fitting ≡ planFits p) where
+        pub release-misfit : not fitting ≡ true → 47 ≡ refusal (releaseTests p f k)
         unfolding releaseTests refusal
-        release-misfit e = rw (s, w, u, e)
+        release-misfit h = rw (sym es, s, sym ew, w, upto, u, sym ef, h)
 
-        pub release-early : planFits p ≡ true → readyLabel (used p) k ≡ false → 48 ≡ refusal (releaseTests p f k)
-        unfolding releaseTests refusal
-        release-early t e = rw (s, w, u, t, e)
+        module _ (t : not fitting ≡ false) (a : Asked) (ea : a ≡ record { tile = tileFor (used p) k; ready = readyLabel (used p) k }) where
+          pub release-early : not (a .ready) ≡ true → 48 ≡ refusal (releaseTests p f k)
+          unfolding releaseTests refusal
+          release-early h = rw (sym es, s, sym ew, w, upto, u, sym ef, t, rw ea at h)
 
-        pub release-ready : planFits p ≡ true → readyLabel (used p) k ≡ true → 0 ≡ refusal (releaseTests p f k)
-        unfolding releaseTests refusal
-        release-ready t e = rw (s, w, u, t, e)
+          pub release-ready : not (a .ready) ≡ false → 0 ≡ refusal (releaseTests p f k)
+          unfolding releaseTests refusal
+          release-ready h = rw (sym es, s, sym ew, w, upto, u, sym ef, t, rw ea at h)
 
-  -- what its booking may rely on
-  pub release-passed : refusal (releaseTests p f k) ≡ 0 → (planSound p ≡ true) × (wellFormed f ≡ true)
-  unfolding releaseTests
-  release-passed e =
-      let a = refusal-none (releaseTests p f k) (omega arith) e in
-      (not-false (planSound p) (a .0), not-false (wellFormed f) (a .1 .0))
+pub ready-tile : (p : Plan) (k : ℕ) (a : Asked) → a ≡ record { tile = tileFor (used p) k; ready = readyLabel (used p) k } → a .tile ≡ tileFor (used p) k
+ready-tile p k a e = ap (λ (x : Asked). x .tile) e
 
-  -- the three ways out
-  pub release-refused : (n : ℕ) → n ≡ refusal (releaseTests p f k) → n ≢ 0 → _≡_ {A = Released} (record { floor = f; plan = p; number = 0; a = 0; b = 0; refusal = n }) (releaseAnswer p f k)
+-- the three ways out, by what its own tests and its booking told
+module _ (p : Plan) (f : Floor) (k n : ℕ) (e : n ≡ refusal (releaseTests p f k)) where
+  pub release-refused : n ≢ 0 → _≡_ {A = Released} (record { floor = f; plan = p; number = 0; a = 0; b = 0; refusal = n }) (releaseAnswer p f k)
   unfolding releaseAnswer
-  release-refused n e z = rw (sym e, ne-eqb n 0 z, ne-eqb n 0 z)
+  release-refused z = rw (sym e, ne-eqb n 0 z, ne-eqb n 0 z)
 
-  module _ (own : refusal (releaseTests p f k) ≡ 0) (r : Placed) (e : r ≡ releaseBooking p f k) where
-    pub release-unbooked : r .refusal ≢ 0 → _≡_ {A = Released} (record { floor = f; plan = p; number = 0; a = 0; b = 0; refusal = r .refusal }) (releaseAnswer p f k)
-    unfolding releaseAnswer
-    release-unbooked z = rw (own, sym e, ne-eqb (r .refusal) 0 z)
+  module _ (z : n ≡ 0) where
+    -- what its booking may rely on
+    passed : (planSound p ≡ true) × (wellFormed f ≡ true)
+    unfolding releaseTests
+    passed =
+        let a = refusal-none (releaseTests p f k) (omega arith) (sym e ∙ z) in
+        (not-false (planSound p) (a .0), not-false (wellFormed f) (a .1 .0))
 
-    pub release-booked : (n : ℕ) (q : Plan) → r .refusal ≡ 0 → n ≡ following f → q ≡ changed p (released k n)
-        → _≡_ {A = Released} (record { floor = r .floor; plan = q; number = n; a = r .a; b = r .b; refusal = 0 }) (releaseAnswer p f k)
-    unfolding releaseAnswer
-    release-booked n q z m c = rw (own, sym e, z, c, m)
+    pub release-few : p .count ≤ 64
+    release-few = sound-few p (passed .0)
 
--- the numbers that the code tested are those held
-pub known-code : (p : Plan) (last : ℕ) {l : List ℕ} {b : Bool} → l ≡ held (used p) → b ≡ allOf (λ x. ltb 0 x && leb x last) l → b ≡ numbersUpto last p
-unfolding numbersUpto
-known-code p last e h = h ∙ ap (allOf (λ x. ltb 0 x && leb x last)) e
+    pub release-well : true ≡ wellFormed f
+    release-well = sym (passed .1)
 
--- the booking that the code made is the release's
-pub booking-code : (p : Plan) (f : Floor) (k : ℕ) {t n : ℕ} {r : Placed} → t ≡ tileFor (used p) k → n ≡ following f → r ≡ anywhereAnswer f t n → r ≡ releaseBooking p f k
-unfolding releaseBooking
-booking-code p f k e m h = h ∙ rw (e, m)
+    module _ (t : ℕ) (et : n ≡ 0 → t ≡ tileFor (used p) k) (m : ℕ) (em : m ≡ following f) (r : Placed) (er : r ≡ anywhereAnswer f t m) where
+      booking : releaseBooking p f k ≡ r
+      unfolding releaseBooking
+      booking = rw (er, et z, em)
+
+      pub release-unbooked : r .refusal ≢ 0 → _≡_ {A = Released} (record { floor = f; plan = p; number = 0; a = 0; b = 0; refusal = r .refusal }) (releaseAnswer p f k)
+      unfolding releaseAnswer
+      release-unbooked o = rw (sym e, z, booking, ne-eqb (r .refusal) 0 o)
+
+      pub release-booked : (q : Plan) → r .refusal ≡ 0 → q ≡ changed p (released k m)
+          → _≡_ {A = Released} (record { floor = r .floor; plan = q; number = m; a = r .a; b = r .b; refusal = 0 }) (releaseAnswer p f k)
+      unfolding releaseAnswer
+      release-booked q o c = rw (sym e, z, booking, o, c, em)
 
 pub following-last : (f : Floor) → f .counters .last ≡ 4294967295 → f .counters .last ≡ following f
 unfolding following
@@ -114,40 +132,53 @@ module _ (p : Plan) (r : Report) where
   abbrev over : Bool
   over = anyOf (λ d. ltb 4 (d .count)) (r .deliveries)
 
-  pub report-unsound : (a : Bool) → a ≡ over → (not (planSound p) || a) ≡ true → 30 ≡ refusal (reportTests p r)
-  unfolding reportTests refusal
-  report-unsound a e h = go (not (planSound p)) over (rw (sym e) h)
-    where
-      go : (x y : Bool) → (x || y) ≡ true → _≡_ {A = ℕ} 30 (cond x 30 (cond y 30 (cond (not (planFits p)) 47 0)))
-      go true y h = refl
-      go false true h = refl
-      go false false h = absurd (false≢true h)
-
-  module _ (a : Bool) (e : a ≡ over) (h : (not (planSound p) || a) ≡ false) where
-    pub report-sound : planSound p ≡ true
-    report-sound = not-false (planSound p) (or-off-left (not (planSound p)) a h)
-
-    report-few : over ≡ false
-    report-few = sym e ∙ or-off-right (not (planSound p)) a h
-
-    pub report-misfit : planFits p ≡ false → 47 ≡ refusal (reportTests p r)
+  module _ (good : Bool) (es : good ≡ planSound p) (a : Bool) (e : a ≡ over) where
+    pub report-unsound : (not good || a) ≡ true → 30 ≡ refusal (reportTests p r)
     unfolding reportTests refusal
-    report-misfit q = rw (report-sound, report-few, q)
+    report-unsound h = go (not (planSound p)) over (rw (sym e, sym es) h)
+      where
+        go : (x y : Bool) → (x || y) ≡ true → _≡_ {A = ℕ} 30 (cond x 30 (cond y 30 (cond (not (planFits p)) 47 0)))
+        go true y h = refl
+        go false true h = refl
+        go false false h = absurd (false≢true h)
 
-    pub report-passes : planFits p ≡ true → 0 ≡ refusal (reportTests p r)
-    unfolding reportTests refusal
-    report-passes q = rw (report-sound, report-few, q)
+    module _ (h : (not good || a) ≡ false) where
+      report-sound : planSound p ≡ true
+      report-sound = sym es ∙ not-false good (or-off-left (not good) a h)
 
-  pub report-passed : refusal (reportTests p r) ≡ 0 → (planSound p ≡ true) × (over ≡ false)
-  unfolding reportTests
-  report-passed e =
-      let a = refusal-none (reportTests p r) (omega arith) e in
-      (not-false (planSound p) (a .0), a .1 .0)
+      pub report-count : p .count ≤ 64
+      report-count = sound-few p report-sound
 
-  pub report-refused : (n : ℕ) → n ≡ refusal (reportTests p r) → n ≢ 0 → _≡_ {A = Planned} (record { plan = p; refusal = n }) (reportAnswer p r)
-  unfolding reportAnswer
-  report-refused n e z = rw (sym e, ne-eqb n 0 z)
+      report-few : over ≡ false
+      report-few = sym e ∙ or-off-right (not good) a h
 
-  pub report-marked : (q : Plan) → refusal (reportTests p r) ≡ 0 → q ≡ changed p (reported (numbersIn r)) → _≡_ {A = Planned} (record { plan = q; refusal = 0 }) (reportAnswer p r)
-  unfolding reportAnswer
-  report-marked q e c = rw (e, c)
+      module _ (fitting : Bool) (ef : fitting ≡ planFits p) where
+        pub report-misfit : not fitting ≡ true → 47 ≡ refusal (reportTests p r)
+        unfolding reportTests refusal
+        report-misfit q = rw (report-sound, report-few, sym ef, q)
+
+        pub report-passes : not fitting ≡ false → 0 ≡ refusal (reportTests p r)
+        unfolding reportTests refusal
+        report-passes q = rw (report-sound, report-few, sym ef, q)
+
+  module _ (n : ℕ) (e : n ≡ refusal (reportTests p r)) where
+    pub report-refused : n ≢ 0 → _≡_ {A = Planned} (record { plan = p; refusal = n }) (reportAnswer p r)
+    unfolding reportAnswer
+    report-refused z = rw (sym e, ne-eqb n 0 z)
+
+    module _ (z : n ≡ 0) where
+      passed-report : (planSound p ≡ true) × (over ≡ false)
+      unfolding reportTests
+      passed-report =
+          let a = refusal-none (reportTests p r) (omega arith) (sym e ∙ z) in
+          (not-false (planSound p) (a .0), a .1 .0)
+
+      pub report-entries : p .count ≤ 64
+      report-entries = sound-few p (passed-report .0)
+
+      pub report-listable : over ≡ false
+      report-listable = passed-report .1
+
+      pub report-marked : (q : Plan) {l : List ℕ} → l ≡ numbersIn r → q ≡ changed p (reported l) → _≡_ {A = Planned} (record { plan = q; refusal = 0 }) (reportAnswer p r)
+      unfolding reportAnswer
+      report-marked q el c = rw (sym e, z, c, el)

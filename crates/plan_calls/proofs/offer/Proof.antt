@@ -1,6 +1,4 @@
-use mathlib.Core.Path.{sym, _∙_}
-use borrow.Author.Tests.{not-true, not-false}
-use Rattle.plan_calls.proofs.Answers.{sound-few, offer-unsound, offer-misfit, offer-made}
+use Rattle.plan_calls.proofs.Answers.{few-sound, fits-yes, offer-unsound, offer-misfit, offer-made}
 use borrow.Author.Needs.{needs}
 use Rattle.plan_calls.proofs.offer.Statement.{statement}
 use Rattle.plan_calls.proofs.offer.Tie as tie
@@ -14,19 +12,19 @@ sound-requires : tie.Need-sound-requires
 sound-requires c κs = search needs
 
 returns : tie.Need-returns
-returns c = offer-unsound (c .before .before .args .plan) (sym (c .before .sound .ensures) ∙ not-true _ (c .if1 .taken))
+returns c = search (offer-unsound, needs)
 
 fits-requires : tie.Need-fits-requires
-fits-requires c κs = sound-few (c .before .before .args .plan) (sym (c .before .sound .ensures) ∙ not-false _ (c .if1 .left))
+fits-requires c κs = search (few-sound, needs)
 
 returns-2 : tie.Need-returns-2
-returns-2 c = offer-misfit (c .before .before .before .before .args .plan) (sym (c .before .before .before .sound .ensures) ∙ not-false _ (c .before .before .if1 .left)) (sym (c .before .fits2 .ensures) ∙ not-true _ (c .if2 .taken))
+returns-2 c = search (offer-misfit, needs)
 
 lowest-ready-requires : tie.Need-lowest-ready-requires
-lowest-ready-requires c κs = (sound-few (c .before .before .before .before .args .plan) (sym (c .before .before .before .sound .ensures) ∙ not-false _ (c .before .before .if1 .left)), (sym (c .before .fits2 .ensures) ∙ not-false _ (c .if2 .left)))
+lowest-ready-requires c κs = search (few-sound, fits-yes, needs)
 
 returns-3 : tie.Need-returns-3
-returns-3 c = offer-made (c .before .before .before .before .before .args .plan) (sym (c .before .before .before .before .sound .ensures) ∙ not-false _ (c .before .before .before .if1 .left)) (sym (c .before .before .fits2 .ensures) ∙ not-false _ (c .before .if2 .left)) (c .lowest-ready .ensures)
+returns-3 c = search (offer-made, needs)
 
 pub offer-spec : {M : Type 1} → statement M
 offer-spec =

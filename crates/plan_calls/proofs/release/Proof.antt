@@ -1,5 +1,4 @@
-use mathlib.Core.Path.{sym, _∙_}
-use Rattle.plan_calls.proofs.Answers.{sound-few, release-passed, release-refused, release-unbooked, release-booked, booking-code}
+use Rattle.plan_calls.proofs.Answers.{release-refused, release-few, release-well, release-unbooked, release-booked}
 use borrow.Author.Needs.{needs}
 use Rattle.plan_calls.proofs.release.Statement.{statement}
 use Rattle.plan_calls.proofs.release.Tie as tie
@@ -14,47 +13,22 @@ release-asked-requires : tie.Need-release-asked-requires
 release-asked-requires c κs = search needs
 
 returns : tie.Need-returns
-returns c =
-    let g = c .before .before .before .args in
-    let a = c .before .before .release-asked in
-    release-refused g.plan g.floor g.label (a .result .refusal) (a .ensures .0) (c .if1 .taken)
+returns c = search (release-refused, needs)
 
 number-after-requires : tie.Need-number-after-requires
 number-after-requires c κs = search needs
 
 anywhere-checked-requires : tie.Need-anywhere-checked-requires
-anywhere-checked-requires c κs =
-    let g = c .before .before .before .before .args in
-    let a = c .before .before .before .release-asked in
-    let own = sym (a .ensures .0) ∙ c .before .if1 .left in
-    sym (release-passed g.plan g.floor g.label own .1)
+anywhere-checked-requires c κs = search (release-well, needs)
 
 returns-2 : tie.Need-returns-2
-returns-2 c =
-    let g = c .before .before .before .before .before .before .before .args in
-    let a = c .before .before .before .before .before .before .release-asked in
-    let own = sym (a .ensures .0) ∙ c .before .before .before .before .if1 .left in
-    let n = c .before .before .before .number-after in
-    let b = c .before .before .anywhere-checked in
-    let made = booking-code g.plan g.floor g.label (a .ensures .1 (c .before .before .before .before .if1 .left)) (n .ensures) (b .ensures) in
-    release-unbooked g.plan g.floor g.label own (b .result) made (c .if2 .taken)
+returns-2 c = search (release-unbooked, needs)
 
 plan-released-requires : tie.Need-plan-released-requires
-plan-released-requires c κs =
-    let g = c .before .before .before .before .before .before .before .before .args in
-    let a = c .before .before .before .before .before .before .before .release-asked in
-    let own = sym (a .ensures .0) ∙ c .before .before .before .before .before .if1 .left in
-    sound-few g.plan (release-passed g.plan g.floor g.label own .0)
+plan-released-requires c κs = search (release-few, needs)
 
 returns-3 : tie.Need-returns-3
-returns-3 c =
-    let g = c .before .before .before .before .before .before .before .before .before .args in
-    let a = c .before .before .before .before .before .before .before .before .release-asked in
-    let own = sym (a .ensures .0) ∙ c .before .before .before .before .before .before .if1 .left in
-    let n = c .before .before .before .before .before .number-after in
-    let b = c .before .before .before .before .anywhere-checked in
-    let made = booking-code g.plan g.floor g.label (a .ensures .1 (c .before .before .before .before .before .before .if1 .left)) (n .ensures) (b .ensures) in
-    release-booked g.plan g.floor g.label own (b .result) made (n .result) (c .plan-released .result) (c .before .before .if2 .left) (n .ensures) (c .plan-released .ensures)
+returns-3 c = search (release-booked, needs)
 
 pub release-spec : {M : Type 1} → statement M
 release-spec =

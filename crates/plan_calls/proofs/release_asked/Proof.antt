@@ -1,8 +1,4 @@
-use mathlib.Core.Path.{sym, ap, _∙_}
-use native.Mathlib.Omega.{arith}
-use borrow.Author.Tests.{not-true, not-false}
-use Rattle.plan_parts.specs.declared.Asked.{Asked}
-use Rattle.plan_calls.proofs.Answers.{sound-few, release-unsound, release-malformed, release-unknown, release-misfit, release-early, release-ready, known-code}
+use Rattle.plan_calls.proofs.Answers.{few-sound, release-unsound, release-malformed, release-unknown, release-misfit, release-early, release-ready, ready-tile}
 use borrow.Author.Needs.{needs}
 use Rattle.plan_calls.proofs.release_asked.Statement.{statement}
 use Rattle.plan_calls.proofs.release_asked.Tie as tie
@@ -19,72 +15,37 @@ sound-requires : tie.Need-sound-requires
 sound-requires c κs = search needs
 
 returns : tie.Need-returns
-returns c =
-    let g = c .before .before .args in
-    (release-unsound g.plan g.floor g.label (sym (c .before .sound .ensures) ∙ not-true _ (c .if1 .taken)), λ z. absurd (omega arith))
+returns c = search (release-unsound, needs)
 
 well-formed-requires : tie.Need-well-formed-requires
 well-formed-requires c κs = search needs
 
 returns-2 : tie.Need-returns-2
-returns-2 c =
-    let g = c .before .before .before .before .args in
-    let s = sym (c .before .before .before .sound .ensures) ∙ not-false _ (c .before .before .if1 .left) in
-    (release-malformed g.plan g.floor g.label s (sym (c .before .well-formed .ensures) ∙ not-true _ (c .if2 .taken)), λ z. absurd (omega arith))
+returns-2 c = search (release-malformed, needs)
 
 booked-numbers-requires : tie.Need-booked-numbers-requires
-booked-numbers-requires c κs =
-    sound-few (c .before .before .before .before .before .args .plan) (sym (c .before .before .before .before .sound .ensures) ∙ not-false _ (c .before .before .before .if1 .left))
+booked-numbers-requires c κs = search (few-sound, needs)
 
 all-upto-requires : tie.Need-all-upto-requires
-all-upto-requires c κs = c .before .booked-numbers .ensures .0
+all-upto-requires c κs = search needs
 
 returns-3 : tie.Need-returns-3
-returns-3 c =
-    let g = c .before .before .before .before .before .before .before .before .before .args in
-    let s = sym (c .before .before .before .before .before .before .before .before .sound .ensures) ∙ not-false _ (c .before .before .before .before .before .before .before .if1 .left) in
-    let w = sym (c .before .before .before .before .before .before .well-formed .ensures) ∙ not-false _ (c .before .before .before .before .before .if2 .left) in
-    let known = known-code g.plan (g.floor .counters .last) (c .before .before .before .booked-numbers .ensures .1) (c .before .all-upto .ensures) in
-    (release-unknown g.plan g.floor g.label s w (sym known ∙ not-true _ (c .if3 .taken)), λ z. absurd (omega arith))
+returns-3 c = search (release-unknown, needs) fits 200
 
 fits-requires : tie.Need-fits-requires
-fits-requires c κs =
-    sound-few (c .before .before .before .before .before .before .before .before .before .args .plan) (sym (c .before .before .before .before .before .before .before .before .sound .ensures) ∙ not-false _ (c .before .before .before .before .before .before .before .if1 .left))
+fits-requires c κs = search (few-sound, needs)
 
 returns-4 : tie.Need-returns-4
-returns-4 c =
-    let g = c .before .before .before .before .before .before .before .before .before .before .before .args in
-    let s = sym (c .before .before .before .before .before .before .before .before .before .before .sound .ensures) ∙ not-false _ (c .before .before .before .before .before .before .before .before .before .if1 .left) in
-    let w = sym (c .before .before .before .before .before .before .before .before .well-formed .ensures) ∙ not-false _ (c .before .before .before .before .before .before .before .if2 .left) in
-    let known = known-code g.plan (g.floor .counters .last) (c .before .before .before .before .before .booked-numbers .ensures .1) (c .before .before .before .all-upto .ensures) in
-    let u = sym known ∙ not-false _ (c .before .before .if3 .left) in
-    (release-misfit g.plan g.floor g.label s w u (sym (c .before .fits2 .ensures) ∙ not-true _ (c .if4 .taken)), λ z. absurd (omega arith))
+returns-4 c = search (release-misfit, needs) fits 200
 
 asked-for-requires : tie.Need-asked-for-requires
-asked-for-requires c κs =
-    sound-few (c .before .before .before .before .before .before .before .before .before .before .before .args .plan) (sym (c .before .before .before .before .before .before .before .before .before .before .sound .ensures) ∙ not-false _ (c .before .before .before .before .before .before .before .before .before .if1 .left))
+asked-for-requires c κs = search (few-sound, needs)
 
 returns-5 : tie.Need-returns-5
-returns-5 c =
-    let g = c .before .before .before .before .before .before .before .before .before .before .before .before .before .before .args in
-    let s = sym (c .before .before .before .before .before .before .before .before .before .before .before .before .before .sound .ensures) ∙ not-false _ (c .before .before .before .before .before .before .before .before .before .before .before .before .if1 .left) in
-    let w = sym (c .before .before .before .before .before .before .before .before .before .before .before .well-formed .ensures) ∙ not-false _ (c .before .before .before .before .before .before .before .before .before .before .if2 .left) in
-    let known = known-code g.plan (g.floor .counters .last) (c .before .before .before .before .before .before .before .before .booked-numbers .ensures .1) (c .before .before .before .before .before .before .all-upto .ensures) in
-    let u = sym known ∙ not-false _ (c .before .before .before .before .before .if3 .left) in
-    let t = sym (c .before .before .before .before .fits2 .ensures) ∙ not-false _ (c .before .before .before .if4 .left) in
-    let r = c .before .before .asked-for .ensures in
-    (release-early g.plan g.floor g.label s w u t (sym (ap (λ (x : Asked). x .ready) r) ∙ not-true _ (c .if5 .taken)), λ z. absurd (omega arith))
+returns-5 c = search (release-early, needs) fits 200
 
 returns-6 : tie.Need-returns-6
-returns-6 c =
-    let g = c .before .before .before .before .before .before .before .before .before .before .before .before .before .before .args in
-    let s = sym (c .before .before .before .before .before .before .before .before .before .before .before .before .before .sound .ensures) ∙ not-false _ (c .before .before .before .before .before .before .before .before .before .before .before .before .if1 .left) in
-    let w = sym (c .before .before .before .before .before .before .before .before .before .before .before .well-formed .ensures) ∙ not-false _ (c .before .before .before .before .before .before .before .before .before .before .if2 .left) in
-    let known = known-code g.plan (g.floor .counters .last) (c .before .before .before .before .before .before .before .before .booked-numbers .ensures .1) (c .before .before .before .before .before .before .all-upto .ensures) in
-    let u = sym known ∙ not-false _ (c .before .before .before .before .before .if3 .left) in
-    let t = sym (c .before .before .before .before .fits2 .ensures) ∙ not-false _ (c .before .before .before .if4 .left) in
-    let r = c .before .before .asked-for .ensures in
-    (release-ready g.plan g.floor g.label s w u t (sym (ap (λ (x : Asked). x .ready) r) ∙ not-false _ (c .if5 .left)), λ z. ap (λ (x : Asked). x .tile) r)
+returns-6 c = search (release-ready, ready-tile, needs) fits 200
 
 pub release-asked-spec : {M : Type 1} → statement M
 release-asked-spec =

@@ -1,8 +1,4 @@
-use mathlib.Core.Path.{sym, ap, _∙_}
-use mathlib.Core.List.{List}
-use Prim.Native.Nat.{ℕ}
-use Rattle.plan.specs.Entries.{changed, reported}
-use Rattle.plan_calls.proofs.Answers.{sound-few, report-passed, report-refused, report-marked}
+use Rattle.plan_calls.proofs.Answers.{report-refused, report-entries, report-listable, report-marked}
 use borrow.Author.Needs.{needs}
 use Rattle.plan_calls.proofs.report.Statement.{statement}
 use Rattle.plan_calls.proofs.report.Tie as tie
@@ -16,16 +12,16 @@ report-refusal-requires : tie.Need-report-refusal-requires
 report-refusal-requires c κs = search needs
 
 returns : tie.Need-returns
-returns c = report-refused (c .before .before .args .plan) (c .before .before .args .given) (c .before .report-refusal .result) (c .before .report-refusal .ensures) (c .if1 .taken)
+returns c = search (report-refused, needs)
 
 listed-numbers-requires : tie.Need-listed-numbers-requires
-listed-numbers-requires c κs = report-passed (c .before .before .args .plan) (c .before .before .args .given) (sym (c .before .report-refusal .ensures) ∙ c .if1 .left) .1
+listed-numbers-requires c κs = search (report-listable, needs)
 
 plan-reported-requires : tie.Need-plan-reported-requires
-plan-reported-requires c κs = (sound-few (c .before .before .before .before .args .plan) (report-passed (c .before .before .before .before .args .plan) (c .before .before .before .before .args .given) (sym (c .before .before .before .report-refusal .ensures) ∙ c .before .before .if1 .left) .0), c .before .listed-numbers .ensures .0)
+plan-reported-requires c κs = search (report-entries, needs)
 
 returns-2 : tie.Need-returns-2
-returns-2 c = report-marked (c .before .before .before .before .before .args .plan) (c .before .before .before .before .before .args .given) (c .plan-reported .result) (sym (c .before .before .before .before .report-refusal .ensures) ∙ c .before .before .before .if1 .left) (c .plan-reported .ensures ∙ ap (λ (l : List ℕ). changed (c .before .before .before .before .before .args .plan) (reported l)) (c .before .before .listed-numbers .ensures .1))
+returns-2 c = search (report-marked, needs)
 
 pub report-spec : {M : Type 1} → statement M
 report-spec =

@@ -1,6 +1,4 @@
-use mathlib.Core.Path.{sym, _∙_}
-use borrow.Author.Tests.{not-true, not-false}
-use Rattle.plan_calls.proofs.Answers.{sound-few, report-unsound, report-sound, report-misfit, report-passes}
+use Rattle.plan_calls.proofs.Answers.{report-unsound, report-count, report-misfit, report-passes}
 use borrow.Author.Needs.{needs}
 use Rattle.plan_calls.proofs.report_refusal.Statement.{statement}
 use Rattle.plan_calls.proofs.report_refusal.Tie as tie
@@ -17,16 +15,16 @@ over-four-requires : tie.Need-over-four-requires
 over-four-requires c κs = search needs
 
 returns : tie.Need-returns
-returns c = report-unsound (c .before .before .before .args .plan) (c .before .before .before .args .given) (c .before .over-four .result) (c .before .over-four .ensures) (rw (c .before .before .sound .ensures) at (c .if1 .taken))
+returns c = search (report-unsound, needs)
 
 fits-requires : tie.Need-fits-requires
-fits-requires c κs = sound-few (c .before .before .before .args .plan) (report-sound (c .before .before .before .args .plan) (c .before .before .before .args .given) (c .before .over-four .result) (c .before .over-four .ensures) (rw (c .before .before .sound .ensures) at (c .if1 .left)))
+fits-requires c κs = search (report-count, needs)
 
 returns-2 : tie.Need-returns-2
-returns-2 c = report-misfit (c .before .before .before .before .before .args .plan) (c .before .before .before .before .before .args .given) (c .before .before .before .over-four .result) (c .before .before .before .over-four .ensures) (rw (c .before .before .before .before .sound .ensures) at (c .before .before .if1 .left)) (sym (c .before .fits2 .ensures) ∙ not-true _ (c .if2 .taken))
+returns-2 c = search (report-misfit, needs)
 
 returns-3 : tie.Need-returns-3
-returns-3 c = report-passes (c .before .before .before .before .before .args .plan) (c .before .before .before .before .before .args .given) (c .before .before .before .over-four .result) (c .before .before .before .over-four .ensures) (rw (c .before .before .before .before .sound .ensures) at (c .before .before .if1 .left)) (sym (c .before .fits2 .ensures) ∙ not-false _ (c .if2 .left))
+returns-3 c = search (report-passes, needs)
 
 pub report-refusal-spec : {M : Type 1} → statement M
 report-refusal-spec =
