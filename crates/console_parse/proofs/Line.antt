@@ -10,7 +10,7 @@ use native.Mathlib.Decide.{decLe, ℕ-discrete}
 use lib.Dec.{ltb, eqb}
 use lib.ListN.{length, take, drop, getD, set, replicate, length-take, length-drop, length-set, List·getD-eq-default}
 use lib.Seq.{drop-cons, drop-drop, getD-drop, getD-set-same, getD-set-other}
-use borrow.Author.Tests.{eq-eqb, ne-eqb, lt-ltb, le-ltb, ltb-true, le-leb}
+use borrow.Author.Tests.{eq-eqb, ne-eqb, lt-ltb, le-ltb, ltb-true, lt-leb, le-leb}
 use Rattle.laws.specs.Define.{tab, allOf, anyOf, bit}
 use Rattle.laws.proofs.Tests.{same-test, or-no}
 use Rattle.laws.specs.Filled.{Upto, From}
@@ -18,7 +18,7 @@ use Rattle.laws.proofs.Tables.{tab-length, tab-at, filled, below-zero, below-mo
 use Rattle.console_words.specs.Text.{hasSome, numberOf}
 use Rattle.console_words.proofs.Text.{from-place, from-end}
 use Rattle.console_words.specs.declared.Parsed.{Parsed}
-use Rattle.console_words.specs.declared.Parsed.the-variants.{Value}
+use Rattle.console_words.specs.declared.Parsed.the-variants.{Value, Unreadable}
 use Rattle.console_parse.specs.Line.{remark, isValue, valueOf, numberAt, allNumbers, valueAt, parts, isTile, onlyTiles, lists, TilesIn, allWord, noneWord, SourcesIn, nameIn}
 use Rattle.console_parse.specs.declared.Sources.{Sources}
 use Rattle.console_parse.specs.declared.Sources.the-variants.{All, Set, Unreadable as NoTiles}
@@ -121,9 +121,15 @@ module _ (s : List ℕ) (at to set : ℕ) (found : (at ≤ to) × (to ≤ length
       ∙ ap (λ (l : List ℕ). take (to - at) (drop at s) ∷ after l) rest
 
   -- a part that is no tile
-  pub tiles-bad : isTile n ≡ false → TilesIn s NoTiles
+  tiles-bad : isTile n ≡ false → TilesIn s NoTiles
   unfolding TilesIn onlyTiles allOf
   tiles-bad b = sym (unread .0) ∙ rw (first, ← e, b)
+
+  pub tiles-unread : n ≡ Unreadable → TilesIn s NoTiles
+  tiles-unread v = tiles-bad (ap isTile v)
+
+  pub tiles-large : (x : ℕ) → n ≡ Value x → 63 < x → TilesIn s NoTiles
+  tiles-large x v h = tiles-bad (ap isTile v ∙ lt-leb x 63 h)
 
   -- a part that is the tile x, which is now in the set
   module _ (x next : ℕ) (v : n ≡ Value x) (small : x ≤ 63) (with : (k : ℕ) → bit next k ≡ (eqb k x || bit set k)) where
@@ -139,12 +145,16 @@ module _ (s : List ℕ) (at to set : ℕ) (found : (at ≤ to) × (to ≤ length
         let step : lists (parts (drop at s)) t ≡ (eqb t x || lists (after (drop to s)) t) = rw (first, ← e, v) in
         rw (with t) (or-swap (eqb t x) (bit set t) (lists (after (drop to s)) t) ∙ sym (ap (λ (b : Bool). bit set t || b) step) ∙ unread .1 t)
 
-    pub tiles-more : to < length s → Unread s (to + 1) next
-    tiles-more h = (rw (from-place s to h) at only, λ t. rw (from-place s to h) at (listed t))
+    pub tiles-more : to ≢ length s → Unread s (to + 1) next
+    tiles-more z =
+        let h : to < length s = omega arith in
+        (rw (from-place s to h) at only, λ t. rw (from-place s to h) at (listed t))
 
-    pub tiles-end : length s ≤ to → TilesIn s (Set next)
+    pub tiles-end : to ≡ length s → TilesIn s (Set next)
     unfolding TilesIn onlyTiles allOf lists anyOf
-    tiles-end h = (sym (rw (from-end s to h) at only), λ t. sym (or-no (bit next t)) ∙ (rw (from-end s to h) at (listed t)))
+    tiles-end z =
+        let h : length s ≤ to = omega arith in
+        (sym (rw (from-end s to h) at only), λ t. sym (or-no (bit next t)) ∙ (rw (from-end s to h) at (listed t)))
 
 -- ---- the word of fill tiles
 not-two : {G : Type 0} (w : List ℕ) → w ≡ allWord → w ≡ noneWord → G

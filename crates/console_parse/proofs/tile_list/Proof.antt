@@ -1,10 +1,7 @@
-use mathlib.Core.Path.{ap, _∙_}
 use Prim.Native.Nat.{_-_}
 use native.Mathlib.Omega.{arith}
 use lib.ListN.{length}
-use borrow.Author.Tests.{lt-leb}
-use Rattle.console_parse.specs.Line.{isTile}
-use Rattle.console_parse.proofs.Line.{unread-all, tiles-bad, tiles-more, tiles-end}
+use Rattle.console_parse.proofs.Line.{unread-all, tiles-unread, tiles-large, tiles-more, tiles-end}
 use Rattle.console_parse.proofs.Loops.{TilesRead}
 use borrow.Author.Needs.{needs}
 use Rattle.console_parse.proofs.tile_list.Statement.{statement}
@@ -49,21 +46,10 @@ enum-told : tie.Need-enum-told Inv-loop μ-loop
 enum-told c = search needs
 
 returns : tie.Need-returns Inv-loop μ-loop
-returns c =
-    let s = c .before .before .before .before .before .before .before .args .word .now in
-    let l = c .before .before .before .before .before .loop in
-    let f = c .before .before .before .before .find in
-    let n = c .before .before .number in
-    tiles-bad s (l .at) (f .result) (l .set) (f .ensures .0) (f .ensures .1 .0) (f .ensures .1 .1) (l .inv .unread) (n .result) (n .ensures) (ap isTile (c .enum-told .given .1))
+returns c = search (tiles-unread, needs)
 
 returns-2 : tie.Need-returns-2 Inv-loop μ-loop
-returns-2 c =
-    let s = c .before .before .before .before .before .before .before .before .before .args .word .now in
-    let l = c .before .before .before .before .before .before .before .loop in
-    let f = c .before .before .before .before .before .before .find in
-    let n = c .before .before .before .before .number in
-    let x = c .before .before .n .given in
-    tiles-bad s (l .at) (f .result) (l .set) (f .ensures .0) (f .ensures .1 .0) (f .ensures .1 .1) (l .inv .unread) (n .result) (n .ensures) (ap isTile (x .1) ∙ lt-leb (x .0 .0) 63 (c .if1 .taken))
+returns-2 c = search (tiles-large, needs)
 
 cast-with : tie.Need-cast-with Inv-loop μ-loop
 cast-with c = search needs
@@ -72,14 +58,7 @@ with-requires : tie.Need-with-requires Inv-loop μ-loop
 with-requires c κs = search needs
 
 returns-3 : tie.Need-returns-3 Inv-loop μ-loop
-returns-3 c =
-    let s = c .before .before .before .before .before .before .before .before .before .before .before .args .word .now in
-    let l = c .before .before .before .before .before .before .before .before .before .loop in
-    let f = c .before .before .before .before .before .before .before .before .find in
-    let n = c .before .before .before .before .before .before .number in
-    let x = c .before .before .before .before .n .given in
-    let w = c .before .with in
-    tiles-end s (l .at) (f .result) (l .set) (f .ensures .0) (f .ensures .1 .0) (f .ensures .1 .1) (l .inv .unread) (n .result) (n .ensures) (x .0 .0) (w .result) (x .1) (c .before .before .if1 .left) (w .ensures) (omega arith)
+returns-3 c = search (tiles-end, needs)
 
 add-at : tie.Need-add-at Inv-loop μ-loop
 add-at c = search needs
@@ -88,17 +67,7 @@ loop-less : tie.Need-loop-less Inv-loop μ-loop
 loop-less c = search needs
 
 loop-again : tie.Need-loop-again Inv-loop μ-loop
-loop-again c =
-    let s = c .before .before .before .before .before .before .before .before .before .before .before .args .word .now in
-    let l = c .before .before .before .before .before .before .before .before .before .loop in
-    let f = c .before .before .before .before .before .before .before .before .find in
-    let n = c .before .before .before .before .before .before .number in
-    let x = c .before .before .before .before .n .given in
-    let w = c .before .with in
-    record {
-      below = omega arith;
-      unread = tiles-more s (l .at) (f .result) (l .set) (f .ensures .0) (f .ensures .1 .0) (f .ensures .1 .1) (l .inv .unread) (n .result) (n .ensures) (x .0 .0) (w .result) (x .1) (c .before .before .if1 .left) (w .ensures) (omega arith);
-    }
+loop-again c = record { below = omega arith; unread = search (tiles-more, needs) }
 
 pub tile-list-spec : {M : Type 1} → statement M
 tile-list-spec =
