@@ -21,7 +21,7 @@ use Rattle.console_list.specs.Entries.{noEntries, withEntry}
 use Rattle.console_session.specs.declared.Session.{Session}
 use Rattle.console_session.specs.Sessions.{withFloor, withEntries}
 use Rattle.console_session.proofs.Sessions.{call-refused, call-accepted}
-use Rattle.console_book.specs.Typed.{canisterIn, afterPlaced, afterBooked, bookTyped, sent, entryTyped}
+use Rattle.console_book.specs.Typed.{canisterTyped, afterPlaced, afterBooked, bookTyped, sent, lineTyped}
 
 pub anywhere-refused : (s r : Session) (a b : Placed) → a ≡ b → a .refusal ≢ 0 → r ≡ s → r ≡ afterPlaced s b
 anywhere-refused s r a b e n p = rw (sym e) (call-refused s r (a .refusal) (a .floor) n p)
@@ -40,16 +40,16 @@ pub book-unread : (s r : Session) (line : List ℕ) (n m : Numbers) → n ≡ ar
 unfolding bookTyped
 book-unread s r line n m e g f h p = rw (sym e, g, sym f, not-true (m .good) h) p
 
-pub book-four : (s r : Session) (line : List ℕ) (n m : Numbers) (c : Canister) → n ≡ argumentsOf line 2 → n .good ≡ false → m ≡ argumentsOf line 4 → not (m .good) ≡ false → c ≡ canisterIn m → r ≡ afterBooked s (bookAnswer (s .floor) (getD (m .at) 0 0) c) → r ≡ bookTyped s line
+pub book-four : (s r : Session) (line : List ℕ) (n m : Numbers) (c : Canister) → n ≡ argumentsOf line 2 → n .good ≡ false → m ≡ argumentsOf line 4 → not (m .good) ≡ false → c ≡ canisterTyped m → r ≡ afterBooked s (bookAnswer (s .floor) (getD (m .at) 0 0) c) → r ≡ bookTyped s line
 unfolding bookTyped
 book-four s r line n m c e g f h k p = rw (sym e, g, sym f, not-false (m .good) h, sym k) p
 
-pub entry-unread : (s r : Session) (line : List ℕ) (n : Numbers) (b : Bool) → n ≡ numbersOf line 0 4 → b ≡ endsBy 4 line → not (n .good && b) ≡ true → r ≡ s → r ≡ entryTyped s line
-unfolding entryTyped
+pub entry-unread : (s r : Session) (line : List ℕ) (n : Numbers) (b : Bool) → n ≡ numbersOf line 0 4 → b ≡ endsBy 4 line → not (n .good && b) ≡ true → r ≡ s → r ≡ lineTyped s line
+unfolding lineTyped
 entry-unread s r line n b e f g p = rw (sym e, sym f, not-true (n .good && b) g) p
 
-pub entry-read : (s : Session) (line : List ℕ) (n : Numbers) (b : Bool) (c : Canister) (l : Entries) → n ≡ numbersOf line 0 4 → b ≡ endsBy 4 line → not (n .good && b) ≡ false → c ≡ canisterIn n → l ≡ withEntry (s .entries) (record { tile = getD (n .at) 0 0; canister = c; answer = 0 }) → withEntries s l ≡ entryTyped s line
-unfolding entryTyped
+pub entry-read : (s : Session) (line : List ℕ) (n : Numbers) (b : Bool) (c : Canister) (l : Entries) → n ≡ numbersOf line 0 4 → b ≡ endsBy 4 line → not (n .good && b) ≡ false → c ≡ canisterTyped n → l ≡ withEntry (s .entries) (record { tile = getD (n .at) 0 0; canister = c; answer = 0 }) → withEntries s l ≡ lineTyped s line
+unfolding lineTyped
 entry-read s line n b c l e f g k q = rw (sym e, sym f, not-false (n .good && b) g, sym k, sym q)
 
 pub sent-refused : (s r : Session) (a : Listed) (l : Entries) → a ≡ placesAnswer (s .floor) (s .entries .list) (s .entries .count) → l ≡ noEntries false → (not (eqb (a .refusal) 0) || not (s .made)) ≡ true → r ≡ withEntries s l → r ≡ sent s

@@ -17,8 +17,8 @@ use Rattle.console_session.specs.declared.Session.{Session}
 use Rattle.console_session.specs.Sessions.{withFloor, withEntries, afterCall}
 
 -- the canister that four numbers name after its tile; an a or b above 65,535 is 65,535, which is refused as it is
-abbrev pub canisterIn : Numbers → Canister
-canisterIn n = record { number = getD (n .at) 1 0; a = min (getD (n .at) 2 0) 65535; b = min (getD (n .at) 3 0) 65535 }
+abbrev pub canisterTyped : Numbers → Canister
+canisterTyped n = record { number = getD (n .at) 1 0; a = min (getD (n .at) 2 0) 65535; b = min (getD (n .at) 3 0) 65535 }
 
 -- after a booking without a place, and after one with its place
 abbrev pub afterPlaced : Session → Placed → Session
@@ -33,7 +33,7 @@ bookTyped s line =
     let two = argumentsOf line 2 in
     let four = argumentsOf line 4 in
     cond (two .good) (afterPlaced s (anywhereAnswer (s .floor) (getD (two .at) 0 0) (getD (two .at) 1 0)))
-    (cond (four .good) (afterBooked s (bookAnswer (s .floor) (getD (four .at) 0 0) (canisterIn four))) s)
+    (cond (four .good) (afterBooked s (bookAnswer (s .floor) (getD (four .at) 0 0) (canisterTyped four))) s)
 
 -- the list that was typed, sent: no list is begun any more; where there is a floor and no 42, the floor is the answer's
 unfoldable pub sent : Session → Session
@@ -43,7 +43,7 @@ sent s =
     cond (not (eqb (a .refusal) 0) || not (s .made)) next (withFloor next (a .floor))
 
 -- a line of the list that is no word alone
-unfoldable pub entryTyped : Session → List ℕ → Session
-entryTyped s line =
+unfoldable pub lineTyped : Session → List ℕ → Session
+lineTyped s line =
     let n = numbersOf line 0 4 in
-    cond (n .good && endsBy 4 line) (withEntries s (withEntry (s .entries) (record { tile = getD (n .at) 0 0; canister = canisterIn n; answer = 0 }))) s
+    cond (n .good && endsBy 4 line) (withEntries s (withEntry (s .entries) (record { tile = getD (n .at) 0 0; canister = canisterTyped n; answer = 0 }))) s

@@ -5,7 +5,7 @@ ghost use Rattle.floor.specs.Calls.{bookAnswer};
 ghost use Rattle.floor.specs.Anywhere.{anywhereAnswer};
 ghost use Rattle.console_list.specs.Entries.{noEntries};
 ghost use Rattle.console_session.specs.Sessions.{withEntries};
-ghost use Rattle.console_book.specs.Typed.{canisterIn, afterPlaced, afterBooked, bookTyped, sent, entryTyped};
+ghost use Rattle.console_book.specs.Typed.{canisterTyped, afterPlaced, afterBooked, bookTyped, sent, lineTyped};
 use book_list::Booking;
 use console_parse::Numbers;
 use console_session::Session;
@@ -13,7 +13,7 @@ use floor::Canister;
 
 // The canister that four numbers name after its tile.
 pub fn canister(n: Numbers) -> Canister
-    ensures { λ r. ⌜ r ≡ canisterIn n ⌝ }
+    ensures { λ r. ⌜ r ≡ canisterTyped n ⌝ }
 {
     Canister {
         number: n.at[1],
@@ -100,7 +100,7 @@ fn send(s: Session) -> Session
 
 // One more booking of the list.
 fn entry(s: Session, line: &[u8]) -> Session
-    ensures { λ r. ⌜ r ≡ entryTyped s (now (line .entry)) ⌝ }
+    ensures { λ r. ⌜ r ≡ lineTyped s (now (line .entry)) ⌝ }
 {
     let n = console_parse::numbers_at(line, 0, 4);
     if !(n.good & console_parse::ended(line, 4)) {

@@ -12,7 +12,7 @@ use Rattle.barge.specs.declared.BargeAnswer.{BargeAnswer}
 use Rattle.barge.specs.declared.BargePlaced.{BargePlaced}
 use Rattle.barge.specs.Barges.{bargeBook, bargeBookAnywhere, bargeStop, bargeRepair}
 use Rattle.console_parse.specs.declared.Numbers.{Numbers}
-use Rattle.console_book.specs.Typed.{canisterIn}
+use Rattle.console_book.specs.Typed.{canisterTyped}
 use Rattle.console_barge.specs.declared.WithBarge.{WithBarge}
 use Rattle.console_barge.specs.Aboard.{bargeSet, afterOn}
 use Rattle.console_on.specs.Typed.{argumentsOn, answeredOn, placedOn, stopOn, repairOn, bookOn}
@@ -64,6 +64,6 @@ pub book-unread : (a r : WithBarge) (line : List ℕ) (k : ℕ) (n m : Numbers) 
 unfolding bookOn
 book-unread a r line k n m e g f h p = rw (sym e, g, sym f, not-true (m .good) h) p
 
-pub book-four : (a r : WithBarge) (line : List ℕ) (k : ℕ) (n m : Numbers) (c : Canister) → n ≡ argumentsOn line 2 → n .good ≡ false → m ≡ argumentsOn line 4 → not (m .good) ≡ false → c ≡ canisterIn m → r ≡ answeredOn a (bargeBook (a .barge) k (getD (m .at) 0 0) c) → r ≡ bookOn a line k
+pub book-four : (a r : WithBarge) (line : List ℕ) (k : ℕ) (n m : Numbers) (c : Canister) → n ≡ argumentsOn line 2 → n .good ≡ false → m ≡ argumentsOn line 4 → not (m .good) ≡ false → c ≡ canisterTyped m → r ≡ answeredOn a (bargeBook (a .barge) k (getD (m .at) 0 0) c) → r ≡ bookOn a line k
 unfolding bookOn
 book-four a r line k n m c e g f h q p = rw (sym e, g, sym f, not-false (m .good) h, sym q) p

@@ -18,7 +18,7 @@ use Rattle.console_parse.specs.declared.Numbers.{Numbers}
 use Rattle.console_parse.specs.Line.{endsBy, argumentsOf}
 use Rattle.console_session.specs.declared.Session.{Session}
 use Rattle.console_session.specs.Sessions.{noPlan, withFloor, withPlan}
-use Rattle.console_plan.specs.Typed.{withEntry, added, entryNumbers, entryTyped, afterRelease, releaseTyped}
+use Rattle.console_plan.specs.Typed.{planWith, added, entryNumbers, entryTyped, afterRelease, releaseTyped}
 
 pub plan-begun : (s r : Session) (p : Plan) → p ≡ noPlan → r ≡ withPlan s p → r ≡ withPlan s noPlan
 plan-begun s r p e q = rw (sym e) q
@@ -26,23 +26,23 @@ plan-begun s r p e q = rw (sym e) q
 pub plan-followed : (s r : Session) (a b : Planned) → a ≡ b → r ≡ withPlan s (a .plan) → r ≡ withPlan s (b .plan)
 plan-followed s r a b e q = rw (sym e) q
 
-pub entry-room : (p : Plan) (e : Entry) → p .count < 64 → record { entries = set (p .entries) (p .count) e; count = p .count + 1 } ≡ withEntry p e
-unfolding withEntry
+pub entry-room : (p : Plan) (e : Entry) → p .count < 64 → record { entries = set (p .entries) (p .count) e; count = p .count + 1 } ≡ planWith p e
+unfolding planWith
 entry-room p e h = rw (lt-ltb (p .count) 64 h)
 
-pub entry-full : (p : Plan) (e : Entry) → 64 ≤ p .count → p ≡ withEntry p e
-unfolding withEntry
+pub entry-full : (p : Plan) (e : Entry) → 64 ≤ p .count → p ≡ planWith p e
+unfolding planWith
 entry-full p e h = rw (le-ltb (p .count) 64 h)
 
 pub add-full : (s r : Session) (e : Entry) → 63 < s .plan .count → r ≡ s → r ≡ added s e
 unfolding added
 add-full s r e h p = rw (le-ltb (s .plan .count) 64 (omega (arith, h))) p
 
-pub add-refused : (s r : Session) (e : Entry) (q : Plan) (a : Offered) → s .plan .count ≤ 63 → q ≡ withEntry (s .plan) e → a ≡ offerAnswer q → a .refusal ≢ 0 → r ≡ s → r ≡ added s e
+pub add-refused : (s r : Session) (e : Entry) (q : Plan) (a : Offered) → s .plan .count ≤ 63 → q ≡ planWith (s .plan) e → a ≡ offerAnswer q → a .refusal ≢ 0 → r ≡ s → r ≡ added s e
 unfolding added
 add-refused s r e q a h f g n p = rw (lt-ltb (s .plan .count) 64 (omega (arith, h)), sym f, sym g, ne-eqb (a .refusal) 0 n) p
 
-pub add-accepted : (s r : Session) (e : Entry) (q : Plan) (a : Offered) → s .plan .count ≤ 63 → q ≡ withEntry (s .plan) e → a ≡ offerAnswer q → a .refusal ≡ 0 → r ≡ withPlan s q → r ≡ added s e
+pub add-accepted : (s r : Session) (e : Entry) (q : Plan) (a : Offered) → s .plan .count ≤ 63 → q ≡ planWith (s .plan) e → a ≡ offerAnswer q → a .refusal ≡ 0 → r ≡ withPlan s q → r ≡ added s e
 unfolding added
 add-accepted s r e q a h f g n p = rw (lt-ltb (s .plan .count) 64 (omega (arith, h)), sym f, sym g, n) p
 

@@ -13,13 +13,13 @@ use Rattle.console_session.specs.declared.Session.{Session}
 use Rattle.console_session.specs.Sessions.{withFloor, withPlan}
 
 -- one more entry; with 64 as it was
-unfoldable pub withEntry : Plan → Entry → Plan
-withEntry p e = cond (ltb (p .count) 64) (record { entries = set (p .entries) (p .count) e; count = p .count + 1 }) p
+unfoldable pub planWith : Plan → Entry → Plan
+planWith p e = cond (ltb (p .count) 64) (record { entries = set (p .entries) (p .count) e; count = p .count + 1 }) p
 
 -- an entry added; one with which the plan would be refused is left out, and so is a 65th
 unfoldable pub added : Session → Entry → Session
 added s e =
-    let p = withEntry (s .plan) e in
+    let p = planWith (s .plan) e in
     cond (ltb (s .plan .count) 64 && eqb (offerAnswer p .refusal) 0) (withPlan s p) s
 
 -- how many numbers an entry is typed with

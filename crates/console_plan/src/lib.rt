@@ -3,7 +3,7 @@ ghost use mathlib.Core.Path.{_≡_};
 ghost use Prim.Native.Nat.{_≤_};
 ghost use Rattle.plan.specs.Plans.{reportAnswer};
 ghost use Rattle.console_session.specs.Sessions.{noPlan, withPlan};
-ghost use Rattle.console_plan.specs.Typed.{withEntry, added, entryNumbers, entryTyped, releaseTyped};
+ghost use Rattle.console_plan.specs.Typed.{planWith, added, entryNumbers, entryTyped, releaseTyped};
 use console_say::number;
 use console_say::small;
 use console_say::text;
@@ -99,7 +99,7 @@ fn typed(line: &[u8]) -> usize
 
 // The plan with one more entry; with 64 as it was.
 fn with_entry(p: Plan, e: Entry) -> Plan
-    ensures { λ r. ⌜ r ≡ withEntry p e ⌝ }
+    ensures { λ r. ⌜ r ≡ planWith p e ⌝ }
 {
     let mut next = p;
     let k = p.count as usize;

@@ -25,7 +25,7 @@ use Rattle.floor.proofs.Well.{sound-fact}
 use Rattle.floor.proofs.Pack.{well-sound}
 use Rattle.floor.proofs.Capacity.{well-pack}
 use Rattle.floor.proofs.First.{fresh-well, pack-view-well}
-use Rattle.image.specs.Image.{encode, lengthIn, modelIn, recordFault, fault, answerBy, named, recordsRefusal, recordsAnswer, imageRefusal, imageAnswer, standard, loadAnswer, writeRefusal, writeAnswer, written}
+use Rattle.image.specs.Image.{encode, lengthIn, modelIn, recordFault, fault, answerBy, allNamed, recordsRefusal, recordsAnswer, imageRefusal, imageAnswer, standard, loadAnswer, writeRefusal, writeAnswer, written}
 use Rattle.image.proofs.Records.{orElse-none, not-off}
 use Rattle.image.proofs.Sizes.{encode-size}
 use Rattle.image.proofs.LoadedWrites.{written-again}
@@ -171,18 +171,18 @@ only-empty [] b a n = refl
 only-empty (x ∷ xs) b a n = absurd (n (loaded-writes (x ∷ xs) (omega arith) a b))
 
 -- ---- bytes as records, in the order of the code: the records first, then 12 of the floor in memory
-records-none : (xs : List ℕ) → recordsRefusal xs ≡ 0 → (fault xs ≡ 0) × (named (modelIn xs) ≡ true)
+records-none : (xs : List ℕ) → recordsRefusal xs ≡ 0 → (fault xs ≡ 0) × (allNamed (modelIn xs) ≡ true)
 unfolding recordsRefusal
 records-none xs h =
     let o = orElse-none (fault xs) _ h in
-    (o .0, not-off (named (modelIn xs)) (test-none (not (named (modelIn xs))) 12 [] (omega arith) (o .1) .0))
+    (o .0, not-off (allNamed (modelIn xs)) (test-none (not (allNamed (modelIn xs))) 12 [] (omega arith) (o .1) .0))
 
 records-load : (xs : List ℕ) → recordsRefusal xs ≢ 0 → recordsRefusal xs ≡ imageRefusal xs
 unfolding recordsRefusal imageRefusal refusal
-records-load xs n = go (by-test (named (modelIn xs))) (by-test (sound (modelIn xs))) (by-test (eqb (fault xs) 0))
+records-load xs n = go (by-test (allNamed (modelIn xs))) (by-test (sound (modelIn xs))) (by-test (eqb (fault xs) 0))
   where
-    go : (named (modelIn xs) ≡ true) ⊎ (named (modelIn xs) ≡ false) → (sound (modelIn xs) ≡ true) ⊎ (sound (modelIn xs) ≡ false) → (eqb (fault xs) 0 ≡ true) ⊎ (eqb (fault xs) 0 ≡ false)
-        → cond (eqb (fault xs) 0) (cond (not (named (modelIn xs))) 12 0) (fault xs) ≡ cond (eqb (fault xs) 0) (cond (not (sound (modelIn xs))) 12 0) (fault xs)
+    go : (allNamed (modelIn xs) ≡ true) ⊎ (allNamed (modelIn xs) ≡ false) → (sound (modelIn xs) ≡ true) ⊎ (sound (modelIn xs) ≡ false) → (eqb (fault xs) 0 ≡ true) ⊎ (eqb (fault xs) 0 ≡ false)
+        → cond (eqb (fault xs) 0) (cond (not (allNamed (modelIn xs))) 12 0) (fault xs) ≡ cond (eqb (fault xs) 0) (cond (not (sound (modelIn xs))) 12 0) (fault xs)
     go a b (inr e) = rw e
     go (inl a) b (inl e) = absurd (n (rw (e, a)))
     go (inr a) (inr b) (inl e) = rw (a, b)

@@ -19,7 +19,7 @@ use Rattle.floor.specs.Well.{stateSound, sound, wellFormed}
 use Rattle.floor.proofs.Sound.{Measured}
 use Rattle.floor.proofs.Rows.{Placed, sound-named}
 use Rattle.floor.proofs.Pack.{view-pack, fits-pack}
-use Rattle.image.specs.Image.{hopperCount, tileWidths, lengthIn, bodyIn, restIn, settingsIn, tileIn, tilesIn, afterLayouts, modelIn, recordFault, tilesFault, laidFault, fault, named}
+use Rattle.image.specs.Image.{hopperCount, tileWidths, lengthIn, bodyIn, restIn, settingsIn, tileIn, tilesIn, afterLayouts, modelIn, recordFault, tilesFault, laidFault, fault, allNamed}
 use Rattle.image.proofs.Records.{orElse-none, whole}
 use Rattle.image.proofs.Layouts.{laid-few}
 use Rattle.image.proofs.LoadedWrites.{canisters-length, tile-good, settings-good}
@@ -71,9 +71,9 @@ module _ (xs : List ℕ) (z : fault xs ≡ 0) where
   unfolding modelIn
   read-eight = laid-few 8 (restIn (restIn xs))
 
-  module _ (n : named (modelIn xs) ≡ true) where
+  module _ (n : allNamed (modelIn xs) ≡ true) where
     placed : Placed (modelIn xs .layouts)
-    unfolding named
+    unfolding allNamed
     placed = (all-imp (λ x. ltb 0 (x .name) ≡ true) (λ x. x .name ≢ 0) (modelIn xs .layouts) (λ x h e. omega (arith, ltb-true 0 (x .name) h)) (all-true (λ x. ltb 0 (x .name)) (modelIn xs .layouts) n), read-eight)
 
     pub view-read : view (pack (modelIn xs)) ≡ modelIn xs
@@ -87,6 +87,6 @@ module _ (xs : List ℕ) (z : fault xs ≡ 0) where
         rw (view-read, e) (and-yes (sound (modelIn xs)))
 
 -- layouts that are sound have names
-pub sound-names : (m : Model) → sound m ≡ true → named m ≡ true
-unfolding sound named
+pub sound-names : (m : Model) → sound m ≡ true → allNamed m ≡ true
+unfolding sound allNamed
 sound-names m h = true-all (λ x. ltb 0 (x .name)) (m .layouts) (all-imp (λ x. x .name ≢ 0) (λ x. ltb 0 (x .name) ≡ true) (m .layouts) (λ x n. lt-ltb 0 (x .name) (omega arith)) (sound-named (m .settings) (m .layouts) (and-right (stateSound m) (layoutsSound (m .settings) (m .layouts)) h) .0))

@@ -260,11 +260,11 @@ loadAnswer (x ∷ xs) = imageAnswer (x ∷ xs)
 
 -- ---- the same in the two steps of the code: the records are read, then the floor that they gave is judged in memory, and is 12 where it is not well formed (`load-12` and `load-other` of proofs/Promises)
 -- In memory a layout of sixteen zero bytes is an unused place, and the second step could not tell. So the first step answers 12 for a layout without a name; every other 12 comes from the second.
-unfoldable pub named : Model → Bool
-named m = allOf (λ x. ltb 0 (x .name)) (m .layouts)
+unfoldable pub allNamed : Model → Bool
+allNamed m = allOf (λ x. ltb 0 (x .name)) (m .layouts)
 
 unfoldable pub recordsRefusal : List ℕ → ℕ
-recordsRefusal xs = orElse (fault xs) (refusal ((not (named (modelIn xs)), 12) ∷ []))
+recordsRefusal xs = orElse (fault xs) (refusal ((not (allNamed (modelIn xs)), 12) ∷ []))
 
 unfoldable pub recordsAnswer : List ℕ → Answer
 recordsAnswer xs = answerBy (recordsRefusal xs) (modelIn xs)

@@ -22,7 +22,7 @@ use Rattle.floor.specs.Settings.{total, hoppersOf}
 use Rattle.floor.specs.Model.{TileState}
 use Rattle.floor.specs.Memory.{zeroCanister, zeroLayout, zeroFloor, unused, head, rows, layoutPlaces, build, pack}
 use Rattle.floor.proofs.Rows.{rows-filled}
-use Rattle.image.specs.Image.{hopperCount, tileWidths, lengthIn, bodyIn, restIn, settingsIn, countersIn, canisterIn, canistersIn, tileIn, tilesIn, layoutIn, layoutsIn, afterLayouts, modelIn, recordFault, orElse, tilesFault, laidFault, fault, answerBy, named, recordsRefusal, recordsAnswer}
+use Rattle.image.specs.Image.{hopperCount, tileWidths, lengthIn, bodyIn, restIn, settingsIn, countersIn, canisterIn, canistersIn, tileIn, tilesIn, layoutIn, layoutsIn, afterLayouts, modelIn, recordFault, orElse, tilesFault, laidFault, fault, answerBy, allNamed, recordsRefusal, recordsAnswer}
 use Rattle.image.proofs.Records.{whole}
 use Rattle.image.proofs.LoadedWrites.{canisters-length, settings-good, counters-good}
 use Rattle.image_record_read.proofs.Refusals.{room-20}
@@ -301,8 +301,8 @@ module _ {xs : List ℕ} {r : Front} {n : ℕ} {t : Scan} (T : TilesRead xs r n 
   abbrev F : FrontRead xs r
   F = T .kept .front
 
-  all-are : b ≡ named (modelIn xs)
-  unfolding named
+  all-are : b ≡ allNamed (modelIn xs)
+  unfolding allNamed
   all-are = e ∙ ap (allOf (λ x. ltb 0 (x .name))) (F .used)
 
   pub answer-3 : b ≡ false → record { refusal = 12; floor = zeroFloor } ≡ recordsAnswer xs

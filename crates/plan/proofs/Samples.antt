@@ -14,8 +14,8 @@ use Rattle.floor.proofs.Calling.{got, book, stop, on, Table, holds}
 use Rattle.floor.proofs.AnywhereSamples.{small}
 use Rattle.plan.specs.declared.Entry.{Entry}
 use Rattle.plan.specs.declared.Plan.{Plan}
-use Rattle.plan.specs.Entries.{stageOf, predecessors, done, present, held, afterPredecessors, planSound, numbersUpto, entryFits, planFits, ready, readyLabel, released, reported}
-use Rattle.plan.specs.Plans.{offerTests, offered, offerAnswer, releaseTests, following, tileFor, releaseBooking, releaseAnswer, numbersIn, reportTests, reportAnswer}
+use Rattle.plan.specs.Entries.{stageOf, predecessors, done, present, bookedNumbers, afterPredecessors, planSound, numbersUpto, entryFits, planFits, ready, readyLabel, released, reported}
+use Rattle.plan.specs.Plans.{offerTests, offered, offerAnswer, releaseTests, numberAfter, tileFor, releaseBooking, releaseAnswer, numbersIn, reportTests, reportAnswer}
 
 -- label k on tile t after a and b; its stage and its number
 unfoldable pub entry : ℕ → ℕ → ℕ → ℕ → ℕ → ℕ → Entry
@@ -177,15 +177,15 @@ releasing =
 
 offers-hold : holds offers ≡ true
 unfolding holds entry plan three many ask offers
-    stageOf predecessors done present held afterPredecessors planSound entryFits planFits ready readyLabel offerTests offered offerAnswer
+    stageOf predecessors done present bookedNumbers afterPredecessors planSound entryFits planFits ready readyLabel offerTests offered offerAnswer
 offers-hold = refl
 
 reports-hold : holds reports ≡ true
 unfolding holds entry plan three two entries delivery report told reports
-    stageOf predecessors done present held afterPredecessors planSound entryFits planFits reported numbersIn reportTests reportAnswer
+    stageOf predecessors done present bookedNumbers afterPredecessors planSound entryFits planFits reported numbersIn reportTests reportAnswer
 reports-hold = refl
 
 releasing-holds : holds releasing ≡ true
 unfolding holds small entry plan three two entries releases refused releasing
-    stageOf predecessors done present held afterPredecessors planSound numbersUpto entryFits planFits ready readyLabel released releaseTests following tileFor releaseBooking releaseAnswer
+    stageOf predecessors done present bookedNumbers afterPredecessors planSound numbersUpto entryFits planFits ready readyLabel released releaseTests numberAfter tileFor releaseBooking releaseAnswer
 releasing-holds = refl

@@ -13,7 +13,7 @@ use Rattle.laws.proofs.Tests.{by-test}
 use Rattle.laws.proofs.Lists.{all-imp, all-map}
 use Rattle.plan.specs.declared.Entry.{Entry}
 use Rattle.plan.specs.declared.Plan.{Plan}
-use Rattle.plan.specs.Entries.{Stage, waiting, booked, delivered, stageOf, isWaiting, isDelivered, numberIn, waits, wasDelivered, heldBy, used, held, changed, bookedAs, deliveredAs, released, reported}
+use Rattle.plan.specs.Entries.{Stage, waiting, booked, delivered, stageOf, isWaiting, isDelivered, numberIn, waits, wasDelivered, heldBy, used, bookedNumbers, changed, bookedAs, deliveredAs, released, reported}
 
 -- ---- the byte
 two-one : (n : ℕ) → eqb n 0 ≡ true → eqb n 2 ≡ false
@@ -160,7 +160,7 @@ waiting-held e h = go (stageOf e) h
     go (booked n) h = absurd (false≢true h)
     go delivered h = refl
 
-pub none-held : (es : List Entry) → All (λ e. heldBy e ≡ []) es → held es ≡ []
-unfolding held
+pub none-held : (es : List Entry) → All (λ e. heldBy e ≡ []) es → bookedNumbers es ≡ []
+unfolding bookedNumbers
 none-held [] h = refl
 none-held (e ∷ es) h = (λ i. h .0 i ++ none-held es (h .1) i)

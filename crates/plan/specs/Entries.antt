@@ -60,9 +60,9 @@ unfoldable pub present : List Entry → ℕ → Bool
 present es k = anyOf (λ x. eqb (x .label) k) es
 
 -- the numbers that booked entries hold
-unfoldable pub held : List Entry → List ℕ
-held [] = []
-held (e ∷ es) = heldBy e ++ held es
+unfoldable pub bookedNumbers : List Entry → List ℕ
+bookedNumbers [] = []
+bookedNumbers (e ∷ es) = heldBy e ++ bookedNumbers es
 
 -- ---- 30
 -- "an entry past waiting has a predecessor's label on an undelivered entry"
@@ -71,11 +71,11 @@ afterPredecessors es e = waits e || allOf (done es) (predecessors e)
 
 -- "A plan is 30 if an entry past waiting has a predecessor's label on an undelivered entry, or two booked entries hold one number"; "A plan that claims more than 64 entries … is 30 too."
 unfoldable pub planSound : Plan → Bool
-planSound p = leb (p .count) 64 && (allOf (afterPredecessors (used p)) (used p) && pairsOf (λ x y. not (eqb x y)) (held (used p)))
+planSound p = leb (p .count) 64 && (allOf (afterPredecessors (used p)) (used p) && pairsOf (λ x y. not (eqb x y)) (bookedNumbers (used p)))
 
 -- "or at release a booked number is 0 or above the last booked"
 unfoldable pub numbersUpto : ℕ → Plan → Bool
-numbersUpto last p = allOf (λ n. ltb 0 n && leb n last) (held (used p))
+numbersUpto last p = allOf (λ n. ltb 0 n && leb n last) (bookedNumbers (used p))
 
 -- ---- "47, an entry's label repeated or outside 1 to 64, or a predecessor absent or not lower"
 unfoldable pub entryFits : List Entry → Entry → Bool

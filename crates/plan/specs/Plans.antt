@@ -36,8 +36,8 @@ releaseTests p f k =
     ∷ (not (planFits p), 47) ∷ (not (readyLabel (used p) k), 48) ∷ []
 
 -- "under the number after the last booked; with no such number left it is 33": then the last itself, which a booking refuses by 33
-unfoldable pub following : Floor → ℕ
-following f = let n = f .counters .last in cond (ltb (n + 1) (2 ^ 32)) (n + 1) n
+unfoldable pub numberAfter : Floor → ℕ
+numberAfter f = let n = f .counters .last in cond (ltb (n + 1) (2 ^ 32)) (n + 1) n
 
 -- the tile of label k
 unfoldable pub tileFor : List Entry → ℕ → ℕ
@@ -46,7 +46,7 @@ tileFor (e ∷ es) k = let r = tileFor es k in cond (eqb (e .label) k) (e .tile)
 
 -- "A release books a waiting label as in [1]"
 unfoldable pub releaseBooking : Plan → Floor → ℕ → Placed
-releaseBooking p f k = anywhereAnswer f (tileFor (used p) k) (following f)
+releaseBooking p f k = anywhereAnswer f (tileFor (used p) k) (numberAfter f)
 
 -- accepted: the floor of the booking, the plan with the label booked, the number and the place; refused: both as they came, and zeros
 unfoldable pub releaseAnswer : Plan → Floor → ℕ → Released
@@ -57,8 +57,8 @@ releaseAnswer p f k =
     let accepted = eqb n 0 in
     record {
       floor = cond accepted (r .floor) f;
-      plan = cond accepted (changed p (released k (following f))) p;
-      number = cond accepted (following f) 0;
+      plan = cond accepted (changed p (released k (numberAfter f))) p;
+      number = cond accepted (numberAfter f) 0;
       a = cond accepted (r .a) 0;
       b = cond accepted (r .b) 0;
       refusal = n;

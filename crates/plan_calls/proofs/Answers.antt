@@ -19,8 +19,8 @@ use Rattle.plan.specs.declared.Plan.{Plan}
 use Rattle.plan.specs.declared.Offered.{Offered}
 use Rattle.plan.specs.declared.Planned.{Planned}
 use Rattle.plan.specs.declared.Released.{Released}
-use Rattle.plan.specs.Entries.{used, held, planSound, numbersUpto, planFits, readyLabel, changed, released, reported}
-use Rattle.plan.specs.Plans.{offerTests, offered, offerAnswer, releaseTests, following, tileFor, releaseBooking, releaseAnswer, numbersIn, reportTests, reportAnswer}
+use Rattle.plan.specs.Entries.{used, bookedNumbers, planSound, numbersUpto, planFits, readyLabel, changed, released, reported}
+use Rattle.plan.specs.Plans.{offerTests, offered, offerAnswer, releaseTests, numberAfter, tileFor, releaseBooking, releaseAnswer, numbersIn, reportTests, reportAnswer}
 
 pub sound-few : (p : Plan) → planSound p ≡ true → p .count ≤ 64
 unfolding planSound
@@ -59,7 +59,7 @@ module _ (p : Plan) (f : Floor) (k : ℕ) (good : Bool) (es : good ≡ planSound
     unfolding releaseTests refusal
     release-malformed h = rw (sym es, s, sym ew, h)
 
-    module _ (w : not well ≡ false) (l : List ℕ) (el : l ≡ held (used p)) (known : Bool) (ek : known ≡ allOf (λ x. ltb 0 x && leb x (f .counters .last)) l) where
+    module _ (w : not well ≡ false) (l : List ℕ) (el : l ≡ bookedNumbers (used p)) (known : Bool) (ek : known ≡ allOf (λ x. ltb 0 x && leb x (f .counters .last)) l) where
       upto : numbersUpto (f .counters .last) p ≡ known
       unfolding numbersUpto
       upto = rw (sym el, ek)
@@ -105,7 +105,7 @@ module _ (p : Plan) (f : Floor) (k n : ℕ) (e : n ≡ refusal (releaseTests p f
     pub release-well : true ≡ wellFormed f
     release-well = sym (passed .1)
 
-    module _ (t : ℕ) (et : n ≡ 0 → t ≡ tileFor (used p) k) (m : ℕ) (em : m ≡ following f) (r : Placed) (er : r ≡ anywhereAnswer f t m) where
+    module _ (t : ℕ) (et : n ≡ 0 → t ≡ tileFor (used p) k) (m : ℕ) (em : m ≡ numberAfter f) (r : Placed) (er : r ≡ anywhereAnswer f t m) where
       booking : releaseBooking p f k ≡ r
       unfolding releaseBooking
       booking = rw (er, et z, em)
@@ -119,13 +119,13 @@ module _ (p : Plan) (f : Floor) (k n : ℕ) (e : n ≡ refusal (releaseTests p f
       unfolding releaseAnswer
       release-booked q o c = rw (sym e, z, booking, o, c, em)
 
-pub following-last : (f : Floor) → f .counters .last ≡ 4294967295 → f .counters .last ≡ following f
-unfolding following
-following-last f e = rw (le-ltb (f .counters .last + 1) (2 ^ 32) (omega arith))
+pub number-after-last : (f : Floor) → f .counters .last ≡ 4294967295 → f .counters .last ≡ numberAfter f
+unfolding numberAfter
+number-after-last f e = rw (le-ltb (f .counters .last + 1) (2 ^ 32) (omega arith))
 
-pub following-next : (f : Floor) → f .counters .last + 1 ≤ 4294967295 → f .counters .last + 1 ≡ following f
-unfolding following
-following-next f h = rw (lt-ltb (f .counters .last + 1) (2 ^ 32) (omega arith))
+pub number-after-next : (f : Floor) → f .counters .last + 1 ≤ 4294967295 → f .counters .last + 1 ≡ numberAfter f
+unfolding numberAfter
+number-after-next f h = rw (lt-ltb (f .counters .last + 1) (2 ^ 32) (omega arith))
 
 -- ---- report
 module _ (p : Plan) (r : Report) where

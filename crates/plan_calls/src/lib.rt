@@ -2,7 +2,7 @@
 ghost use mathlib.Core.Path.{_≡_};
 ghost use Rattle.laws.specs.Define.{refusal};
 ghost use Rattle.plan.specs.Entries.{used};
-ghost use Rattle.plan.specs.Plans.{offerAnswer, releaseTests, following, tileFor, releaseAnswer, reportTests, reportAnswer};
+ghost use Rattle.plan.specs.Plans.{offerAnswer, releaseTests, numberAfter, tileFor, releaseAnswer, reportTests, reportAnswer};
 use book_anywhere::anywhere_checked;
 use check_floor::well_formed;
 use floor::Floor;
@@ -104,7 +104,7 @@ fn release_asked(plan: Plan, floor: Floor, label: u32) -> Asking
 
 // The number after the last booked; the last itself where none is left, which a booking refuses by 33.
 fn number_after(floor: Floor) -> u32
-    ensures { λ r. ⌜ r ≡ following floor ⌝ }
+    ensures { λ r. ⌜ r ≡ numberAfter floor ⌝ }
 {
     let counters = floor.counters;
     let last = counters.last;

@@ -9,7 +9,7 @@ use Rattle.laws.specs.Define.{allOf, pairsOf}
 use Rattle.laws.specs.Filled.{Upto}
 use Rattle.plan.specs.declared.Entry.{Entry}
 use Rattle.plan.specs.declared.Plan.{Plan}
-use Rattle.plan.specs.Entries.{held, present, done}
+use Rattle.plan.specs.Entries.{bookedNumbers, present, done}
 use Rattle.plan_check.proofs.Tables.{unlike}
 
 pub record Tested (plan : Plan) (f : ℕ → Bool) (test : Entry → Bool) (table : List Bool) (n : ℕ) (ok : Bool) (k : ℕ) : Type 0 where
@@ -26,7 +26,7 @@ pub record Gathered (plan : Plan) (n : ℕ) (items : List ℕ) (m k : ℕ) : Typ
   pub entries-length : length (plan .entries) ≡ 64
   pub items-length : length items ≡ 64
   pub no-more : m ≤ k
-  pub gathered : take m items ≡ held (take k (plan .entries))
+  pub gathered : take m items ≡ bookedNumbers (take k (plan .entries))
 
 pub record Apart (n : ℕ) (items : List ℕ) (ok : Bool) (j : ℕ) : Type 0 where
   pub below : j ≤ n

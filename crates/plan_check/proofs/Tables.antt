@@ -15,7 +15,7 @@ use Rattle.laws.specs.Filled.{Upto}
 use Rattle.laws.proofs.Tests.{and-yes, or-no}
 use Rattle.laws.proofs.Tables.{all-more, pairs-zero, pairs-more}
 use Rattle.plan.specs.declared.Entry.{Entry}
-use Rattle.plan.specs.Entries.{wasDelivered, heldBy, done, present, held}
+use Rattle.plan.specs.Entries.{wasDelivered, heldBy, done, present, bookedNumbers}
 use Rattle.plan_check.proofs.Entries.{held-code}
 
 -- what would be read beyond the entries
@@ -113,29 +113,29 @@ unlike-turn l k table h small t a e = rw (pairs-more unlike l k zeroEntry h, e, 
         go false ih = ih
 
 -- ---- the numbers held
-held-append : (l k : List Entry) → held (l ++ k) ≡ held l ++ held k
-unfolding held
+held-append : (l k : List Entry) → bookedNumbers (l ++ k) ≡ bookedNumbers l ++ bookedNumbers k
+unfolding bookedNumbers
 held-append [] k = refl
-held-append (x ∷ l) k = rw (held-append l k) (sym (append-assoc (heldBy x) (held l) (held k)))
+held-append (x ∷ l) k = rw (held-append l k) (sym (append-assoc (heldBy x) (bookedNumbers l) (bookedNumbers k)))
 
-held-more : (l : List Entry) (k : ℕ) → k < length l → held (take (k + 1) l) ≡ held (take k l) ++ heldBy (entryAt l k)
-unfolding held
+held-more : (l : List Entry) (k : ℕ) → k < length l → bookedNumbers (take (k + 1) l) ≡ bookedNumbers (take k l) ++ heldBy (entryAt l k)
+unfolding bookedNumbers
 held-more l k h = rw (add-one, take-suc l k zeroEntry h, held-append (take k l) (entryAt l k ∷ []), append-nil (heldBy (entryAt l k)))
 
-pub held-none : (l : List Entry) (items : List ℕ) → take 0 items ≡ held (take 0 l)
-unfolding held
+pub held-none : (l : List Entry) (items : List ℕ) → take 0 items ≡ bookedNumbers (take 0 l)
+unfolding bookedNumbers
 held-none l items = refl
 
 -- the next number is written in any case, and counted where it is held
-pub held-turn : (l : List Entry) (k m next : ℕ) (items : List ℕ) → k < length l → m < length items → next ≡ m + length (heldBy (entryAt l k)) → take m items ≡ held (take k l)
-    → (next ≤ m + 1) × (take next (set items m (entryAt l k .number)) ≡ held (take (k + 1) l))
+pub held-turn : (l : List Entry) (k m next : ℕ) (items : List ℕ) → k < length l → m < length items → next ≡ m + length (heldBy (entryAt l k)) → take m items ≡ bookedNumbers (take k l)
+    → (next ≤ m + 1) × (take next (set items m (entryAt l k .number)) ≡ bookedNumbers (take (k + 1) l))
 held-turn l k m next items h s e t = go (not (eqb (entryAt l k .stage) 0) && not (eqb (entryAt l k .stage) 2)) (held-code (entryAt l k))
   where
     go : (b : Bool) → cond b (entryAt l k .number ∷ []) [] ≡ heldBy (entryAt l k)
-        → (next ≤ m + 1) × (take next (set items m (entryAt l k .number)) ≡ held (take (k + 1) l))
+        → (next ≤ m + 1) × (take next (set items m (entryAt l k .number)) ≡ bookedNumbers (take (k + 1) l))
     go true q =
         let n : next ≡ m + 1 = e ∙ ap (λ (w : List ℕ). m + length w) (sym q) in
         (omega arith, rw (n, held-more l k h, sym q, add-one m, take-suc-set items m (entryAt l k .number) s, t))
     go false q =
         let n : next ≡ m = e ∙ ap (λ (w : List ℕ). m + length w) (sym q) ∙ omega arith in
-        (omega arith, rw (n, held-more l k h, sym q, take-set-le m items m (entryAt l k .number) (omega arith), t) (sym (append-nil (held (take k l)))))
+        (omega arith, rw (n, held-more l k h, sym q, take-set-le m items m (entryAt l k .number) (omega arith), t) (sym (append-nil (bookedNumbers (take k l)))))

@@ -8,7 +8,7 @@ ghost use lib.ListN.{length, take};
 ghost use Rattle.laws.specs.Define.{allOf, pairsOf};
 ghost use Rattle.laws.specs.Filled.{Upto};
 ghost use Rattle.plan.specs.Entries as E;
-ghost use Rattle.plan.specs.Entries.{used, done, present, held, planSound, planFits};
+ghost use Rattle.plan.specs.Entries.{used, done, present, bookedNumbers, planSound, planFits};
 use plan::Entry;
 use plan::Plan;
 
@@ -94,7 +94,7 @@ fn counted(m: usize, e: Entry) -> usize
 
 pub fn booked_numbers(plan: Plan) -> Numbers
     requires { ⌜ plan .count ≤ 64 ⌝ }
-    ensures { λ r. ⌜ (r .count ≤ 64) × (take (r .count) (r .items) ≡ held (used plan)) ⌝ }
+    ensures { λ r. ⌜ (r .count ≤ 64) × (take (r .count) (r .items) ≡ bookedNumbers (used plan)) ⌝ }
 {
     let n = plan.count as usize;
     let mut items = [0u32; 64];

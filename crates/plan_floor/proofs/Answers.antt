@@ -11,7 +11,7 @@ use Rattle.laws.proofs.Search.{any-find, any-mem}
 use Rattle.plan.specs.declared.Entry.{Entry}
 use Rattle.plan.specs.Entries.{Stage, waiting, booked, delivered, stageOf, isDelivered, numberIn, wasDelivered, heldBy, deliveredAs, reported}
 use Rattle.plan.specs.Plans.{offerAnswer, releaseAnswer, reportAnswer}
-use Rattle.plan_floor.specs.Promises.{written, BookPromise, MarkPromise, RefusedPromise}
+use Rattle.plan_floor.specs.Promises.{asWritten, BookPromise, MarkPromise, RefusedPromise}
 use Rattle.plan.proofs.Stages.{marked, booked-stage, delivered-stage, reported-stage, released-same, reported-same, released-there, released-other}
 use Rattle.plan_floor.proofs.Keeping.{reported-waits}
 
@@ -45,11 +45,11 @@ else-same l e = go (anyOf (λ n. anyOf (eqb n) l) (heldBy e))
     go false h = refl
 
 pub books : BookPromise
-unfolding written
+unfolding asWritten
 books k n e = record {
   booked = λ q. ap heldBy (released-there k n e q) ∙ ap numberIn (booked-stage n e);
   others-same = released-other k n e;
-  same-written = released-same written k n (λ e. refl) e;
+  same-written = released-same asWritten k n (λ e. refl) e;
 }
 
 pub marks : MarkPromise

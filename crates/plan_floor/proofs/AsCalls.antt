@@ -20,8 +20,8 @@ use Rattle.floor.proofs.Lists.{after-both, booked-both, reported-both, list-kee
 use Rattle.floor.proofs.Theorem.{demand3}
 use Rattle.plan.specs.declared.Plan.{Plan}
 use Rattle.plan.specs.Entries.{used}
-use Rattle.plan.specs.Plans.{releaseTests, following, tileFor, releaseBooking, releaseAnswer}
-use Rattle.plan_floor.specs.Steps.{Step, call, offer, release, report, State, stepped, after, TypedStep, callsOf, callsIn, bookedOf, bookedBy, reportedOf, reportedBy}
+use Rattle.plan.specs.Plans.{releaseTests, numberAfter, tileFor, releaseBooking, releaseAnswer}
+use Rattle.plan_floor.specs.Steps.{Step, call, offer, release, report, State, stepped, stateAfter, TypedStep, callsOf, callsIn, bookedOf, bookedBy, reportedOf, reportedBy}
 use Rattle.plan_floor.specs.Promises.{CallsPromise}
 
 -- ---- a release
@@ -45,7 +45,7 @@ module _ (p : Plan) (f : Floor) (k : ℕ) where
   own = refusal (releaseTests p f k)
 
   abbrev there : Call
-  there = anywhere (tileFor (used p) k) (following f)
+  there = anywhere (tileFor (used p) k) (numberAfter f)
 
   abbrev r : Placed
   r = releaseBooking p f k
@@ -53,14 +53,14 @@ module _ (p : Plan) (f : Floor) (k : ℕ) where
   -- by whether its own tests passed
   release-floor : (b : Bool) → eqb own 0 ≡ b → floorAfter f (cond b (there ∷ []) []) ≡ cond (eqb (cond b (r .refusal) own) 0) (r .floor) f
   unfolding floorAfter outcome releaseBooking
-  release-floor true e = booking-kept f (tileFor (used p) k) (following f)
+  release-floor true e = booking-kept f (tileFor (used p) k) (numberAfter f)
   release-floor false e = rw e
 
-  release-booked : (b : Bool) → eqb own 0 ≡ b → bookedIn f (cond b (there ∷ []) []) ≡ cond (eqb (cond b (r .refusal) own) 0) (cond (eqb (cond b (r .refusal) own) 0) (following f) 0 ∷ []) []
+  release-booked : (b : Bool) → eqb own 0 ≡ b → bookedIn f (cond b (there ∷ []) []) ≡ cond (eqb (cond b (r .refusal) own) 0) (cond (eqb (cond b (r .refusal) own) 0) (numberAfter f) 0 ∷ []) []
   unfolding bookedIn outcome releaseBooking
   release-booked true e = go (eqb (r .refusal) 0)
     where
-      go : (b : Bool) → cond b (following f ∷ []) [] ++ [] ≡ cond b (cond b (following f) 0 ∷ []) []
+      go : (b : Bool) → cond b (numberAfter f ∷ []) [] ++ [] ≡ cond b (cond b (numberAfter f) 0 ∷ []) []
       go true = refl
       go false = refl
   release-booked false e = rw e
@@ -82,8 +82,8 @@ same-step s (release k) = record {
 same-step s (report r) = record { floor = refl; booked = refl; reported = λ k. refl }
 
 -- ---- lists
-same-floor : (s : State) (cs : List Step) → floorAfter (s .floor) (callsIn s cs) ≡ after s cs .floor
-unfolding floorAfter callsIn after
+same-floor : (s : State) (cs : List Step) → floorAfter (s .floor) (callsIn s cs) ≡ stateAfter s cs .floor
+unfolding floorAfter callsIn stateAfter
 same-floor s [] = refl
 same-floor s (c ∷ cs) =
     after-both (s .floor) (callsOf s c) (callsIn (stepped s c) cs) ∙ ap (λ (f : Floor). floorAfter f (callsIn (stepped s c) cs)) (same-step s c .floor) ∙ same-floor (stepped s c) cs
@@ -109,9 +109,9 @@ same-reported s (c ∷ cs) k =
     ∙ ap (λ (l : List ℕ). reportedOf s c k ++ l) (same-reported (stepped s c) cs k)
 
 -- ---- widths
-following-fits : (f : Floor) → wellFormed f ≡ true → following f < 2 ^ 32
-unfolding following view
-following-fits f w = go (ltb (f .counters .last + 1) (2 ^ 32)) refl
+number-after-fits : (f : Floor) → wellFormed f ≡ true → numberAfter f < 2 ^ 32
+unfolding numberAfter view
+number-after-fits f w = go (ltb (f .counters .last + 1) (2 ^ 32)) refl
   where
     go : (b : Bool) → ltb (f .counters .last + 1) (2 ^ 32) ≡ b → cond b (f .counters .last + 1) (f .counters .last) < 2 ^ 32
     go true e = ltb-true (f .counters .last + 1) (2 ^ 32) e
@@ -123,8 +123,8 @@ typed-step s (call c) w t = (t, tt)
 typed-step s offer w t = tt
 typed-step s (release k) w t = go (eqb (refusal (releaseTests (s .plan) (s .floor) k)) 0)
   where
-    go : (b : Bool) → All Typed (cond b (anywhere (tileFor (used (s .plan)) k) (following (s .floor)) ∷ []) [])
-    go true = (following-fits (s .floor) w, tt)
+    go : (b : Bool) → All Typed (cond b (anywhere (tileFor (used (s .plan)) k) (numberAfter (s .floor)) ∷ []) [])
+    go true = (number-after-fits (s .floor) w, tt)
     go false = tt
 typed-step s (report r) w t = tt
 

@@ -11,7 +11,7 @@ use Rattle.laws.proofs.Lists.{all-of, all-append, all-left, all-right, pairs-be
 use Rattle.floor.specs.Model.{numbersOn}
 use Rattle.floor.specs.Memory.{view}
 use Rattle.floor.specs.Demand3.{bookedIn, reportedAll}
-use Rattle.plan_floor.specs.Steps.{Step, State, stepped, after, bookingsOf, bookingsIn, callsIn, bookedOf, bookedBy}
+use Rattle.plan_floor.specs.Steps.{Step, State, stepped, stateAfter, bookingsOf, bookingsIn, callsIn, bookedOf, bookedBy}
 use Rattle.plan_floor.specs.Promises.{OnFloorUntilReported, CanisterPromise}
 use Rattle.plan_floor.proofs.AsCalls.{as-calls}
 use Rattle.plan_floor.proofs.Once.{step-numbers}
@@ -28,7 +28,7 @@ pub canisters : CanisterPromise
 canisters s w cs t =
     let C = as-calls s cs in
     let D = C .promises w t in
-    let there = numbersOn (view (after s cs .floor)) in
+    let there = numbersOn (view (stateAfter s cs .floor)) in
     let told = reportedAll (s .floor) (callsIn s cs) in
     let now : numbersOn (view (D .now)) ≡ there = (λ i. numbersOn (view ((D .is-now ∙ C .same-floor) i))) in
     let apart = r-pairs (λ x y. not (eqb x y)) (λ x y. x ≢ y) r-ne (numbersOn (view (D .now)) ++ told) .0 (D .once-now) in

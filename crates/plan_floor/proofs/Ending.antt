@@ -43,8 +43,8 @@ use Rattle.floor.proofs.Lists.{list-keeps, quiet-rounds}
 use Rattle.plan.specs.declared.Entry.{Entry}
 use Rattle.plan.specs.declared.Plan.{Plan}
 use Rattle.plan.specs.Entries.{Stage, waiting, booked as bookedUnder, delivered, stageOf, isWaiting, isDelivered, numberIn, waits, wasDelivered, heldBy, used, predecessors, done, planSound, numbersUpto, planFits, ready, readyLabel, changed, released, reported}
-use Rattle.plan.specs.Plans.{offerTests, offerAnswer, releaseTests, following, tileFor, releaseBooking, releaseAnswer}
-use Rattle.plan_floor.specs.Steps.{Step, call, release, report, State, stepped, after, TypedStep, reportOfCall, reportsOf, callsOf, callsIn, reportedBy}
+use Rattle.plan.specs.Plans.{offerTests, offerAnswer, releaseTests, numberAfter, tileFor, releaseBooking, releaseAnswer}
+use Rattle.plan_floor.specs.Steps.{Step, call, release, report, State, stepped, stateAfter, TypedStep, reportOfCall, reportsOf, callsOf, callsIn, reportedBy}
 use Rattle.plan_floor.specs.Ending.{waitingIn, Served, HandedIn, Cycle, releaseOffered, Cycles, afterCycles, refusalsIn, EndsPromise, handedRounds, schedule, SchedulePromise}
 use Rattle.plan.proofs.Stages.{neither, booked-stage, reported-label, released-there, released-other, used-changed, changed-all, none-held}
 use Rattle.plan_floor.proofs.Written.{reported-plain}
@@ -236,7 +236,7 @@ module _ (s : State) (n : ℕ) (R : BetweenCycles s (suc n)) where
   k = offerAnswer p .label
 
   abbrev num : ℕ
-  num = following g
+  num = numberAfter g
 
   abbrev tile : ℕ
   tile = tileFor (used p) k
@@ -262,7 +262,7 @@ module _ (s : State) (n : ℕ) (R : BetweenCycles s (suc n)) where
   own-none = rw (sound, R .fine .0, upto, R .fits, can-go)
 
   next-number : num ≡ g .counters .last + 1
-  unfolding following
+  unfolding numberAfter
   next-number = rw (lt-ltb (g .counters .last + 1) (2 ^ 32) (omega (arith, R .room)))
 
   entry : (e : Entry) × List·Memᴰ e (used p) × (e .label ≡ k) × (ready (used p) e ≡ true)
@@ -343,7 +343,7 @@ module _ (s : State) (n : ℕ) (R : BetweenCycles s (suc n)) where
     calls = callsIn s1 cs
 
     abbrev now : State
-    now = after s1 cs
+    now = stateAfter s1 cs
 
     abbrev m1 : Model
     m1 = view (s1 .floor)
@@ -457,7 +457,7 @@ module _ (s : State) (I : Idle s) where
   unfolding stepped releaseAnswer
   unchanged = rw (ne-eqb (releaseAnswer (s .plan) (s .floor) label .refusal) 0 not-taken)
 
-  idle-cycle : (cs : List Step) → Cycle s cs → Idle (after s cs)
+  idle-cycle : (cs : List Step) → Cycle s cs → Idle (stateAfter s cs)
   unfolding numbersOn view
   idle-cycle cs T =
       let m = view (s .floor) in
@@ -477,7 +477,7 @@ unfolding afterCycles
 idle-cycles [] s I T = I
 idle-cycles (cs ∷ cycles) s I T =
     let same = unchanged s I in
-    idle-cycles cycles (after (releaseOffered s) cs) (subst (λ (x : State). Idle (after x cs)) (sym same) (idle-cycle s I cs (subst (λ (x : State). Cycle x cs) same (T .0)))) (T .1)
+    idle-cycles cycles (stateAfter (releaseOffered s) cs) (subst (λ (x : State). Idle (stateAfter x cs)) (sym same) (idle-cycle s I cs (subst (λ (x : State). Cycle x cs) same (T .0)))) (T .1)
 
 -- n labels wait
 record EndedBy (n : ℕ) (s : State) (cycles : List (List Step)) : Type 0 where
@@ -489,7 +489,7 @@ unfolding afterCycles refusalsIn
 cycle-by-cycle zero cycles s R l T = record { accepted = tt; idle = idle-cycles cycles s (record { well = R .fine .0; delivered = all-arrived s R; empty = R .empty }) T }
 cycle-by-cycle (suc n) [] s R l T = absurd (omega arith)
 cycle-by-cycle (suc n) (cs ∷ cycles) s R l T =
-    let E = cycle-by-cycle n cycles (after (releaseOffered s) cs) (between-now s n R cs (T .0)) (omega arith) (T .1) in
+    let E = cycle-by-cycle n cycles (stateAfter (releaseOffered s) cs) (between-now s n R cs (T .0)) (omega arith) (T .1) in
     record { accepted = (taken s n R, E .accepted); idle = E .idle }
 
 -- ---- at first
@@ -541,12 +541,12 @@ scheduled-cycles zero s = tt
 scheduled-cycles (suc n) s =
     let r = releaseOffered s in
     let k = bound (r .floor .settings) 1 in
-    (record { typed = handed-typed k r; quiet = handed-quiet k r; handed = handed-in k r; enough = omega (arith, handed-rounds k r) }, scheduled-cycles n (after r (handedRounds k r)))
+    (record { typed = handed-typed k r; quiet = handed-quiet k r; handed = handed-in k r; enough = omega (arith, handed-rounds k r) }, scheduled-cycles n (stateAfter r (handedRounds k r)))
 
 scheduled-length : (n : ℕ) (s : State) → length (schedule n s) ≡ n
 unfolding schedule
 scheduled-length zero s = refl
-scheduled-length (suc n) s = let r = releaseOffered s in ap suc (scheduled-length n (after r (handedRounds (bound (r .floor .settings) 1) r)))
+scheduled-length (suc n) s = let r = releaseOffered s in ap suc (scheduled-length n (stateAfter r (handedRounds (bound (r .floor .settings) 1) r)))
 
 pub scheduled : SchedulePromise
 scheduled s B = let n = waitingIn (s .plan) in ends s B (schedule n s) (omega (arith, scheduled-length n s)) (scheduled-cycles n s)

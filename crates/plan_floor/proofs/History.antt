@@ -17,8 +17,8 @@ use Rattle.floor.specs.Well.{wellFormed}
 use Rattle.plan.specs.declared.Entry.{Entry}
 use Rattle.plan.specs.declared.Plan.{Plan}
 use Rattle.plan.specs.Entries.{Stage, waiting, booked, delivered, stageOf, isWaiting, isDelivered, waits, wasDelivered, used, predecessors, done, present, planSound, numbersUpto, entryFits, planFits, ready, readyLabel, changed, bookedAs, released, reported}
-use Rattle.plan.specs.Plans.{following, releaseTests, releaseBooking, releaseAnswer, numbersIn, reportTests, reportAnswer}
-use Rattle.plan_floor.specs.Steps.{Step, call, offer, release, report, State, stepped, after, allWaiting, Event, booking, listing, eventsOf, eventsIn, BookedThenListed, here, later, predecessorsOf}
+use Rattle.plan.specs.Plans.{numberAfter, releaseTests, releaseBooking, releaseAnswer, numbersIn, reportTests, reportAnswer}
+use Rattle.plan_floor.specs.Steps.{Step, call, offer, release, report, State, stepped, stateAfter, allWaiting, Event, booking, listing, eventsOf, eventsIn, BookedThenListed, here, later, predecessorsOf}
 use Rattle.plan_floor.specs.Promises.{HistoryPromise}
 use Rattle.plan.proofs.Stages.{marked, booked-stage, reported-stage, reported-label, changed-all}
 use Rattle.plan_floor.proofs.Written.{list-predecessors}
@@ -85,7 +85,7 @@ step-inv s offer past h = none-new (s .plan) past h
 step-inv s (release k) past h = go (eqb (releaseAnswer (s .plan) (s .floor) k .refusal) 0)
   where
     n : ℕ
-    n = following (s .floor)
+    n = numberAfter (s .floor)
 
     go : (b : Bool) → Inv (cond b (changed (s .plan) (released k n)) (s .plan)) (past ++ cond b (booking k (cond b n 0) ∷ []) [])
     go true = changed-all (Recorded past) (Recorded (past ++ (booking k n ∷ []))) (s .plan) (released k n) (λ e r. booked-told k n e past r) h
@@ -96,11 +96,11 @@ step-inv s (report r) past h = go (eqb (refusal (reportTests (s .plan) r)) 0)
     go true = changed-all (Recorded past) (Recorded (past ++ map listing (numbersIn r))) (s .plan) (reported (numbersIn r)) (λ e q. marks-told (numbersIn r) e past q) h
     go false = none-new (s .plan) past h
 
-list-inv : (s : State) (cs : List Step) (past : List Event) → Inv (s .plan) past → Inv (after s cs .plan) (past ++ eventsIn s cs)
-unfolding after eventsIn
+list-inv : (s : State) (cs : List Step) (past : List Event) → Inv (s .plan) past → Inv (stateAfter s cs .plan) (past ++ eventsIn s cs)
+unfolding stateAfter eventsIn
 list-inv s [] past h = none-new (s .plan) past h
 list-inv s (c ∷ cs) past h =
-    subst (λ (l : List Event). Inv (after (stepped s c) cs .plan) l) (append-assoc past (eventsOf s c) (eventsIn (stepped s c) cs))
+    subst (λ (l : List Event). Inv (stateAfter (stepped s c) cs .plan) l) (append-assoc past (eventsOf s c) (eventsIn (stepped s c) cs))
     (list-inv (stepped s c) cs (past ++ eventsOf s c) (step-inv s c past h))
 
 -- ---- an accepted release
@@ -242,7 +242,7 @@ waiting-inv p h = all-imp (λ e. waits e ≡ true) (Recorded []) (used p) (λ e 
 
 pub history : HistoryPromise
 history s h cs k e =
-    let now = after s cs in
+    let now = stateAfter s cs in
     let P = accepted (now .plan) (now .floor) k e in
     subst (All (λ j. (n : ℕ) × BookedThenListed j n (eventsIn s cs))) (list-predecessors s cs k)
     (release-reported (now .plan) (P .fits) (eventsIn s cs) (list-inv s cs [] (waiting-inv (s .plan) h)) k (P .is-ready))

@@ -12,7 +12,7 @@ use Rattle.laws.proofs.Tests.{by-test, not-both, and-right, and-left, or-case, 
 use Rattle.laws.proofs.Lists.{all-mem, all-of, all-imp, all-append, all-map, all-true, true-all, all-left, all-right, pairs-left, pairs-right, pairs-append, pairs-between}
 use Rattle.plan.specs.declared.Entry.{Entry}
 use Rattle.plan.specs.declared.Plan.{Plan}
-use Rattle.plan.specs.Entries.{Stage, waiting, booked, delivered, stageOf, isWaiting, isDelivered, numberIn, waits, wasDelivered, heldBy, used, predecessors, done, present, held, afterPredecessors, entryFits, planFits, ready, readyLabel, changed, bookedAs, released, reported}
+use Rattle.plan.specs.Entries.{Stage, waiting, booked, delivered, stageOf, isWaiting, isDelivered, numberIn, waits, wasDelivered, heldBy, used, predecessors, done, present, bookedNumbers, afterPredecessors, entryFits, planFits, ready, readyLabel, changed, bookedAs, released, reported}
 use Rattle.plan.proofs.Stages.{marked, booked-stage, reported-stage, released-label, reported-label, released-there, released-other, used-changed}
 use Rattle.plan_floor.proofs.Written.{Plain, released-plain, reported-plain, same-predecessors}
 use Rattle.plan_floor.proofs.History.{ready-entry, all-ready}
@@ -140,38 +140,38 @@ held-booked : (n : ℕ) (e : Entry) → heldBy (bookedAs n e) ≡ n ∷ []
 held-booked n e = ap numberIn (booked-stage n e)
 
 -- the numbers after a release: the old ones, and the new one
-pub released-all : (P : ℕ → Type 0) (k n : ℕ) (es : List Entry) → P n → All P (held es) → All P (held (map (released k n) es))
-unfolding held
+pub released-all : (P : ℕ → Type 0) (k n : ℕ) (es : List Entry) → P n → All P (bookedNumbers es) → All P (bookedNumbers (map (released k n) es))
+unfolding bookedNumbers
 released-all P k n [] q h = tt
 released-all P k n (e ∷ es) q h =
-    all-append P (heldBy (released k n e)) (held (map (released k n) es)) (go (by-test (eqb (e .label) k))) (released-all P k n es q (all-right P (heldBy e) (held es) h))
+    all-append P (heldBy (released k n e)) (bookedNumbers (map (released k n) es)) (go (by-test (eqb (e .label) k))) (released-all P k n es q (all-right P (heldBy e) (bookedNumbers es) h))
   where
     go : (eqb (e .label) k ≡ true) ⊎ (eqb (e .label) k ≡ false) → All P (heldBy (released k n e))
     go (inl l) = subst (All P) (sym (ap heldBy (released-there k n e (eqb-true (e .label) k l)) ∙ held-booked n e)) (q, tt)
-    go (inr l) = subst (All P) (sym (ap heldBy (released-other k n e (eqb-false (e .label) k l)))) (all-left P (heldBy e) (held es) h)
+    go (inr l) = subst (All P) (sym (ap heldBy (released-other k n e (eqb-false (e .label) k l)))) (all-left P (heldBy e) (bookedNumbers es) h)
 
 pub none-released : (k n : ℕ) (es : List Entry) → All (λ x. x .label ≢ k) es → map (released k n) es ≡ es
 none-released k n [] h = refl
 none-released k n (e ∷ es) h = (λ i. released-other k n e (h .0) i ∷ none-released k n es (h .1) i)
 
-pub released-differ : (k n : ℕ) (es : List Entry) → Pairs (λ x y. x .label ≢ y .label) es → All (λ x. x .label ≡ k → heldBy x ≡ []) es → Pairs (λ x y. x ≢ y) (held es) → All (λ m. n ≢ m) (held es)
-    → Pairs (λ x y. x ≢ y) (held (map (released k n) es))
-unfolding held
+pub released-differ : (k n : ℕ) (es : List Entry) → Pairs (λ x y. x .label ≢ y .label) es → All (λ x. x .label ≡ k → heldBy x ≡ []) es → Pairs (λ x y. x ≢ y) (bookedNumbers es) → All (λ m. n ≢ m) (bookedNumbers es)
+    → Pairs (λ x y. x ≢ y) (bookedNumbers (map (released k n) es))
+unfolding bookedNumbers
 released-differ k n [] L W D N = tt
-released-differ k n (e ∷ es) L W D N = go (by-test (eqb (e .label) k)) (released-differ k n es (L .1) (W .1) (pairs-right (λ x y. x ≢ y) (heldBy e) (held es) D) (all-right (λ m. n ≢ m) (heldBy e) (held es) N))
+released-differ k n (e ∷ es) L W D N = go (by-test (eqb (e .label) k)) (released-differ k n es (L .1) (W .1) (pairs-right (λ x y. x ≢ y) (heldBy e) (bookedNumbers es) D) (all-right (λ m. n ≢ m) (heldBy e) (bookedNumbers es) N))
   where
-    go : (eqb (e .label) k ≡ true) ⊎ (eqb (e .label) k ≡ false) → Pairs (λ x y. x ≢ y) (held (map (released k n) es)) → Pairs (λ x y. x ≢ y) (heldBy (released k n e) ++ held (map (released k n) es))
+    go : (eqb (e .label) k ≡ true) ⊎ (eqb (e .label) k ≡ false) → Pairs (λ x y. x ≢ y) (bookedNumbers (map (released k n) es)) → Pairs (λ x y. x ≢ y) (heldBy (released k n e) ++ bookedNumbers (map (released k n) es))
     go (inl l) ih =
         let q = eqb-true (e .label) k l in
         let others = none-released k n es (all-imp (λ y. e .label ≢ y .label) (λ x. x .label ≢ k) es (λ y d s. d (q ∙ sym s)) (L .0)) in
-        subst (λ (a : List ℕ). Pairs (λ x y. x ≢ y) (a ++ held (map (released k n) es))) (sym (ap heldBy (released-there k n e q) ∙ held-booked n e))
-        (subst (λ (xs : List Entry). Pairs (λ x y. x ≢ y) (n ∷ held xs)) (sym others) (all-right (λ m. n ≢ m) (heldBy e) (held es) N, pairs-right (λ x y. x ≢ y) (heldBy e) (held es) D))
+        subst (λ (a : List ℕ). Pairs (λ x y. x ≢ y) (a ++ bookedNumbers (map (released k n) es))) (sym (ap heldBy (released-there k n e q) ∙ held-booked n e))
+        (subst (λ (xs : List Entry). Pairs (λ x y. x ≢ y) (n ∷ bookedNumbers xs)) (sym others) (all-right (λ m. n ≢ m) (heldBy e) (bookedNumbers es) N, pairs-right (λ x y. x ≢ y) (heldBy e) (bookedNumbers es) D))
     go (inr l) ih =
-        subst (λ (a : List ℕ). Pairs (λ x y. x ≢ y) (a ++ held (map (released k n) es))) (sym (ap heldBy (released-other k n e (eqb-false (e .label) k l))))
-        (pairs-append (λ x y. x ≢ y) (heldBy e) (held (map (released k n) es)) (pairs-left (λ x y. x ≢ y) (heldBy e) (held es) D) ih
-        (all-of (λ x. All (λ y. x ≢ y) (held (map (released k n) es))) (heldBy e)
-        (λ x m. released-all (λ y. x ≢ y) k n es (λ s. all-mem (λ y. n ≢ y) m (all-left (λ m. n ≢ m) (heldBy e) (held es) N) (sym s))
-        (all-of (λ y. x ≢ y) (held es) (λ y m′. pairs-between (λ x y. x ≢ y) (heldBy e) (held es) D m m′)))))
+        subst (λ (a : List ℕ). Pairs (λ x y. x ≢ y) (a ++ bookedNumbers (map (released k n) es))) (sym (ap heldBy (released-other k n e (eqb-false (e .label) k l))))
+        (pairs-append (λ x y. x ≢ y) (heldBy e) (bookedNumbers (map (released k n) es)) (pairs-left (λ x y. x ≢ y) (heldBy e) (bookedNumbers es) D) ih
+        (all-of (λ x. All (λ y. x ≢ y) (bookedNumbers (map (released k n) es))) (heldBy e)
+        (λ x m. released-all (λ y. x ≢ y) k n es (λ s. all-mem (λ y. n ≢ y) m (all-left (λ m. n ≢ m) (heldBy e) (bookedNumbers es) N) (sym s))
+        (all-of (λ y. x ≢ y) (bookedNumbers es) (λ y m′. pairs-between (λ x y. x ≢ y) (heldBy e) (bookedNumbers es) D m m′)))))
 
 -- ---- a report
 pub reported-waits : (l : List ℕ) (e : Entry) → waits (reported l e) ≡ waits e
@@ -219,23 +219,23 @@ fewer l e = subst (λ (s : Stage). (numberIn s ≡ []) ⊎ (numberIn s ≡ heldB
         by false = inr refl
     go delivered = inl refl
 
-pub reported-all : (P : ℕ → Type 0) (l : List ℕ) (es : List Entry) → All P (held es) → All P (held (map (reported l) es))
-unfolding held
+pub reported-all : (P : ℕ → Type 0) (l : List ℕ) (es : List Entry) → All P (bookedNumbers es) → All P (bookedNumbers (map (reported l) es))
+unfolding bookedNumbers
 reported-all P l [] h = tt
-reported-all P l (e ∷ es) h = all-append P (heldBy (reported l e)) (held (map (reported l) es)) (go (fewer l e)) (reported-all P l es (all-right P (heldBy e) (held es) h))
+reported-all P l (e ∷ es) h = all-append P (heldBy (reported l e)) (bookedNumbers (map (reported l) es)) (go (fewer l e)) (reported-all P l es (all-right P (heldBy e) (bookedNumbers es) h))
   where
     go : (heldBy (reported l e) ≡ []) ⊎ (heldBy (reported l e) ≡ heldBy e) → All P (heldBy (reported l e))
     go (inl q) = subst (All P) (sym q) tt
-    go (inr q) = subst (All P) (sym q) (all-left P (heldBy e) (held es) h)
+    go (inr q) = subst (All P) (sym q) (all-left P (heldBy e) (bookedNumbers es) h)
 
-pub reported-differ : (l : List ℕ) (es : List Entry) → Pairs (λ x y. x ≢ y) (held es) → Pairs (λ x y. x ≢ y) (held (map (reported l) es))
-unfolding held
+pub reported-differ : (l : List ℕ) (es : List Entry) → Pairs (λ x y. x ≢ y) (bookedNumbers es) → Pairs (λ x y. x ≢ y) (bookedNumbers (map (reported l) es))
+unfolding bookedNumbers
 reported-differ l [] h = tt
-reported-differ l (e ∷ es) h = go (fewer l e) (reported-differ l es (pairs-right (λ x y. x ≢ y) (heldBy e) (held es) h))
+reported-differ l (e ∷ es) h = go (fewer l e) (reported-differ l es (pairs-right (λ x y. x ≢ y) (heldBy e) (bookedNumbers es) h))
   where
-    go : (heldBy (reported l e) ≡ []) ⊎ (heldBy (reported l e) ≡ heldBy e) → Pairs (λ x y. x ≢ y) (held (map (reported l) es)) → Pairs (λ x y. x ≢ y) (heldBy (reported l e) ++ held (map (reported l) es))
-    go (inl q) ih = subst (λ (a : List ℕ). Pairs (λ x y. x ≢ y) (a ++ held (map (reported l) es))) (sym q) ih
+    go : (heldBy (reported l e) ≡ []) ⊎ (heldBy (reported l e) ≡ heldBy e) → Pairs (λ x y. x ≢ y) (bookedNumbers (map (reported l) es)) → Pairs (λ x y. x ≢ y) (heldBy (reported l e) ++ bookedNumbers (map (reported l) es))
+    go (inl q) ih = subst (λ (a : List ℕ). Pairs (λ x y. x ≢ y) (a ++ bookedNumbers (map (reported l) es))) (sym q) ih
     go (inr q) ih =
-        subst (λ (a : List ℕ). Pairs (λ x y. x ≢ y) (a ++ held (map (reported l) es))) (sym q)
-        (pairs-append (λ x y. x ≢ y) (heldBy e) (held (map (reported l) es)) (pairs-left (λ x y. x ≢ y) (heldBy e) (held es) h) ih
-        (all-of (λ x. All (λ y. x ≢ y) (held (map (reported l) es))) (heldBy e) (λ x m. reported-all (λ y. x ≢ y) l es (all-of (λ y. x ≢ y) (held es) (λ y m′. pairs-between (λ x y. x ≢ y) (heldBy e) (held es) h m m′)))))
+        subst (λ (a : List ℕ). Pairs (λ x y. x ≢ y) (a ++ bookedNumbers (map (reported l) es))) (sym q)
+        (pairs-append (λ x y. x ≢ y) (heldBy e) (bookedNumbers (map (reported l) es)) (pairs-left (λ x y. x ≢ y) (heldBy e) (bookedNumbers es) h) ih
+        (all-of (λ x. All (λ y. x ≢ y) (bookedNumbers (map (reported l) es))) (heldBy e) (λ x m. reported-all (λ y. x ≢ y) l es (all-of (λ y. x ≢ y) (bookedNumbers es) (λ y m′. pairs-between (λ x y. x ≢ y) (heldBy e) (bookedNumbers es) h m m′)))))

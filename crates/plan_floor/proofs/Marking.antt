@@ -23,8 +23,8 @@ use Rattle.floor.proofs.Reports.{reports}
 use Rattle.plan.specs.declared.Entry.{Entry}
 use Rattle.plan.specs.declared.Plan.{Plan}
 use Rattle.plan.specs.Entries.{Stage, waiting, booked, delivered, stageOf, isWaiting, isDelivered, waits, wasDelivered, used, planFits, changed, released, reported}
-use Rattle.plan.specs.Plans.{releaseTests, following, tileFor, releaseBooking, releaseAnswer, numbersIn, reportTests, reportAnswer}
-use Rattle.plan_floor.specs.Steps.{Step, call, offer, release, report, State, stepped, after, TypedStep, reportOfCall, reportsOf, callsOf, callsIn, reportedOf, reportedBy}
+use Rattle.plan.specs.Plans.{releaseTests, numberAfter, tileFor, releaseBooking, releaseAnswer, numbersIn, reportTests, reportAnswer}
+use Rattle.plan_floor.specs.Steps.{Step, call, offer, release, report, State, stepped, stateAfter, TypedStep, reportOfCall, reportsOf, callsOf, callsIn, reportedOf, reportedBy}
 use Rattle.plan_floor.specs.Ending.{HandedIn, waitingIn}
 use Rattle.plan.proofs.Stages.{marked, booked-number, reported-stage, reported-label, other-label, used-changed, changed-all}
 use Rattle.plan_floor.proofs.Keeping.{reported-waits, reported-delivered}
@@ -46,8 +46,8 @@ step-arrived s (call c) k n U D = D
 step-arrived s offer k n U D = D
 step-arrived s (release j) k n U D = go (eqb (releaseAnswer (s .plan) (s .floor) j .refusal) 0) refl
   where
-    go : (b : Bool) → eqb (releaseAnswer (s .plan) (s .floor) j .refusal) 0 ≡ b → Arrived (cond b (changed (s .plan) (released j (following (s .floor)))) (s .plan)) k
-    go true e = changed-all (IsDone k) (IsDone k) (s .plan) (released j (following (s .floor))) (other-label (λ e. wasDelivered e ≡ true) k j (following (s .floor)) (not-again s k n j U e)) D
+    go : (b : Bool) → eqb (releaseAnswer (s .plan) (s .floor) j .refusal) 0 ≡ b → Arrived (cond b (changed (s .plan) (released j (numberAfter (s .floor)))) (s .plan)) k
+    go true e = changed-all (IsDone k) (IsDone k) (s .plan) (released j (numberAfter (s .floor))) (other-label (λ e. wasDelivered e ≡ true) k j (numberAfter (s .floor)) (not-again s k n j U e)) D
     go false e = D
 step-arrived s (report r) k n U D = go (eqb (refusal (reportTests (s .plan) r)) 0)
   where
@@ -58,8 +58,8 @@ step-arrived s (report r) k n U D = go (eqb (refusal (reportTests (s .plan) r)) 
     go true = changed-all (IsDone k) (IsDone k) (s .plan) (reported l) (λ e u q. reported-delivered l e (u (sym (reported-label l e) ∙ q))) D
     go false = D
 
-list-arrived : (s : State) (cs : List Step) (k n : ℕ) → Under (s .plan) k n → Arrived (s .plan) k → Arrived (after s cs .plan) k
-unfolding after
+list-arrived : (s : State) (cs : List Step) (k n : ℕ) → Under (s .plan) k n → Arrived (s .plan) k → Arrived (stateAfter s cs .plan) k
+unfolding stateAfter
 list-arrived s [] k n U D = D
 list-arrived s (c ∷ cs) k n U D = list-arrived (stepped s c) cs k n (step-under s c k n U) (step-arrived s c k n U D)
 
@@ -84,8 +84,8 @@ report-marks s r k n F fits few m U =
 
 -- handed in somewhere in the list
 handed-marks : (s : State) (cs : List Step) (r : Report) (k n : ℕ) → All TypedStep cs → Fine s → planFits (s .plan) ≡ true → Few r → List·Memᴰ n (numbersIn r) → Under (s .plan) k n → List·Memᴰ (report r) cs
-    → Arrived (after s cs .plan) k
-unfolding after
+    → Arrived (stateAfter s cs .plan) k
+unfolding stateAfter
 handed-marks s [] r k n T F fits few m U h = absurd (List·Memᴰ·not-nil h)
 handed-marks s (c ∷ cs) r k n T F fits few m U (List·Memᴰ·head q) =
     list-arrived (stepped s c) cs k n (step-under s c k n U) (subst (λ (c : Step). Arrived (stepped s c .plan) k) q (report-marks s r k n F fits few m U))
@@ -132,8 +132,8 @@ step-lists s (release k) j n w h m = absurd (List·Memᴰ·not-nil m)
 step-lists s (report r) j n w h m = absurd (List·Memᴰ·not-nil m)
 
 -- a number that a round of the list reports is marked
-pub round-marks : (s : State) (cs : List Step) (j k n : ℕ) → All TypedStep cs → Fine s → planFits (s .plan) ≡ true → Under (s .plan) k n → HandedIn s cs → j < 4 → List·Memᴰ n (reportedBy s cs j) → Arrived (after s cs .plan) k
-unfolding after reportedBy Lists
+pub round-marks : (s : State) (cs : List Step) (j k n : ℕ) → All TypedStep cs → Fine s → planFits (s .plan) ≡ true → Under (s .plan) k n → HandedIn s cs → j < 4 → List·Memᴰ n (reportedBy s cs j) → Arrived (stateAfter s cs .plan) k
+unfolding stateAfter reportedBy Lists
 round-marks s [] j k n T F fits U H h m = absurd (List·Memᴰ·not-nil m)
 round-marks s (c ∷ cs) j k n T F fits U H h m =
     let N = step-fine s c (T .0) F in
@@ -141,7 +141,7 @@ round-marks s (c ∷ cs) j k n T F fits U H h m =
     go (List·Memᴰ·append-cases (reportedOf s c j) m) (N .0) (N .1 ∙ fits) Y (λ q. round-marks (stepped s c) cs j k n (T .1) (N .0) (N .1 ∙ fits) Y (H .1) h q)
   where
     go : List·Memᴰ n (reportedOf s c j) ⊎ List·Memᴰ n (reportedBy (stepped s c) cs j) → Fine (stepped s c) → planFits (stepped s c .plan) ≡ true → Under (stepped s c .plan) k n
-        → (List·Memᴰ n (reportedBy (stepped s c) cs j) → Arrived (after (stepped s c) cs .plan) k) → Arrived (after (stepped s c) cs .plan) k
+        → (List·Memᴰ n (reportedBy (stepped s c) cs j) → Arrived (stateAfter (stepped s c) cs .plan) k) → Arrived (stateAfter (stepped s c) cs .plan) k
     go (inl q) G fit Y ih =
         let L = step-lists s c j n (F .0) h q in
         handed-marks (stepped s c) cs (L .0) k n (T .1) G fit (L .2) (L .3) Y (all-mem (λ r. List·Memᴰ (report r) cs) (L .1) (H .0))
@@ -167,7 +167,7 @@ quiet-refused s k q = go (eqb (refusal (releaseTests (s .plan) (s .floor) k)) 0)
     own : ℕ
     own = refusal (releaseTests (s .plan) (s .floor) k)
 
-    go : (b : Bool) → eqb own 0 ≡ b → Quiet (s .floor) (cond b (anywhere (tileFor (used (s .plan)) k) (following (s .floor)) ∷ []) []) → eqb (cond b (releaseBooking (s .plan) (s .floor) k .refusal) own) 0 ≡ false
+    go : (b : Bool) → eqb own 0 ≡ b → Quiet (s .floor) (cond b (anywhere (tileFor (used (s .plan)) k) (numberAfter (s .floor)) ∷ []) []) → eqb (cond b (releaseBooking (s .plan) (s .floor) k .refusal) own) 0 ≡ false
     go true e q = q .0
     go false e q = e
 
@@ -184,8 +184,8 @@ module _ (P : Entry → Type 0) (still : (l : List ℕ) (e : Entry) → P e → 
       go true = changed-all P P (s .plan) (reported (numbersIn r)) (still (numbersIn r)) h
       go false = h
 
-  pub quiet-list : (s : State) (cs : List Step) → Quiet (s .floor) (callsIn s cs) → All P (used (s .plan)) → All P (used (after s cs .plan))
-  unfolding after
+  pub quiet-list : (s : State) (cs : List Step) → Quiet (s .floor) (callsIn s cs) → All P (used (s .plan)) → All P (used (stateAfter s cs .plan))
+  unfolding stateAfter
   quiet-list s [] q h = h
   quiet-list s (c ∷ cs) q h = let r = quiet-split s c cs q in quiet-list (stepped s c) cs (r .1) (quiet-step s c (r .0) h)
 
@@ -210,7 +210,7 @@ step-waiting s (report r) q = go (eqb (refusal (reportTests (s .plan) r)) 0)
     go true = ap (λ (es : List Entry). length (keep waits es)) (used-changed (s .plan) (reported (numbersIn r))) ∙ same-waiting (numbersIn r) (used (s .plan))
     go false = refl
 
-pub quiet-waiting : (s : State) (cs : List Step) → Quiet (s .floor) (callsIn s cs) → waitingIn (after s cs .plan) ≡ waitingIn (s .plan)
-unfolding after
+pub quiet-waiting : (s : State) (cs : List Step) → Quiet (s .floor) (callsIn s cs) → waitingIn (stateAfter s cs .plan) ≡ waitingIn (s .plan)
+unfolding stateAfter
 quiet-waiting s [] q = refl
 quiet-waiting s (c ∷ cs) q = let r = quiet-split s c cs q in quiet-waiting (stepped s c) cs (r .1) ∙ step-waiting s c (r .0)

@@ -15,8 +15,8 @@ use Rattle.floor.specs.Well.{wellFormed}
 use Rattle.plan.specs.declared.Entry.{Entry}
 use Rattle.plan.specs.declared.Plan.{Plan}
 use Rattle.plan.specs.Entries.{isWaiting, waits, used, predecessors, done, ready, changed, released, reported}
-use Rattle.plan.specs.Plans.{following, releaseAnswer, numbersIn, reportTests, reportAnswer}
-use Rattle.plan_floor.specs.Steps.{Step, call, offer, release, report, State, stepped, after, TypedStep, bookingsOf, bookingsIn, bookedOf}
+use Rattle.plan.specs.Plans.{numberAfter, releaseAnswer, numbersIn, reportTests, reportAnswer}
+use Rattle.plan_floor.specs.Steps.{Step, call, offer, release, report, State, stepped, stateAfter, TypedStep, bookingsOf, bookingsIn, bookedOf}
 use Rattle.plan_floor.specs.Promises.{OncePromise}
 use Rattle.plan.proofs.Stages.{booked-stage, reported-same, released-label, reported-label, released-there, other-label, used-changed, changed-all}
 use Rattle.plan_floor.proofs.History.{accepted, ready-entry}
@@ -48,8 +48,8 @@ step-under s (call c) k n U = U
 step-under s offer k n U = U
 step-under s (release j) k n U = go (eqb (releaseAnswer (s .plan) (s .floor) j .refusal) 0) refl
   where
-    go : (b : Bool) → eqb (releaseAnswer (s .plan) (s .floor) j .refusal) 0 ≡ b → Under (cond b (changed (s .plan) (released j (following (s .floor)))) (s .plan)) k n
-    go true e = changed-all (IsUnder k n) (IsUnder k n) (s .plan) (released j (following (s .floor))) (other-label (λ e. (e .number ≡ n) × (waits e ≡ false)) k j (following (s .floor)) (not-again s k n j U e)) U
+    go : (b : Bool) → eqb (releaseAnswer (s .plan) (s .floor) j .refusal) 0 ≡ b → Under (cond b (changed (s .plan) (released j (numberAfter (s .floor)))) (s .plan)) k n
+    go true e = changed-all (IsUnder k n) (IsUnder k n) (s .plan) (released j (numberAfter (s .floor))) (other-label (λ e. (e .number ≡ n) × (waits e ≡ false)) k j (numberAfter (s .floor)) (not-again s k n j U e)) U
     go false e = U
 step-under s (report r) k n U = go (eqb (refusal (reportTests (s .plan) r)) 0)
   where
@@ -60,8 +60,8 @@ step-under s (report r) k n U = go (eqb (refusal (reportTests (s .plan) r)) 0)
     go true = changed-all (IsUnder k n) (IsUnder k n) (s .plan) (reported l) (λ e u q. let v = u (sym (reported-label l e) ∙ q) in (reported-same (λ e. e .number) l (λ e. refl) e ∙ v .0, reported-waits l e ∙ v .1)) U
     go false = U
 
-pub list-under : (s : State) (cs : List Step) (k n : ℕ) → Under (s .plan) k n → Under (after s cs .plan) k n
-unfolding after
+pub list-under : (s : State) (cs : List Step) (k n : ℕ) → Under (s .plan) k n → Under (stateAfter s cs .plan) k n
+unfolding stateAfter
 list-under s [] k n U = U
 list-under s (c ∷ cs) k n U = list-under (stepped s c) cs k n (step-under s c k n U)
 
@@ -97,7 +97,7 @@ step-booked s offer = tt
 step-booked s (release k) = go (eqb (releaseAnswer (s .plan) (s .floor) k .refusal) 0)
   where
     n : ℕ
-    n = following (s .floor)
+    n = numberAfter (s .floor)
 
     go : (b : Bool) → All (λ (x : ℕ × ℕ). Under (cond b (changed (s .plan) (released k n)) (s .plan)) (x .0) (x .1)) (cond b ((k, cond b n 0) ∷ []) [])
     go true = (booked-under (s .plan) k n, tt)
@@ -123,12 +123,12 @@ labels s (c ∷ cs) =
     pairs-append (λ x y. x .0 ≢ y .0) (bookingsOf s c) (bookingsIn (stepped s c) cs) (step-pairs (λ x y. x .0 ≢ y .0) s c) (labels (stepped s c) cs)
     (all-imp (λ x. Under (stepped s c .plan) (x .0) (x .1)) (λ x. All (λ y. x .0 ≢ y .0) (bookingsIn (stepped s c) cs)) (bookingsOf s c) (λ x U. list-away (stepped s c) cs (x .0) (x .1) U) (step-booked s c))
 
-kept : (s : State) (cs : List Step) → All (λ x. Under (after s cs .plan) (x .0) (x .1)) (bookingsIn s cs)
-unfolding bookingsIn after
+kept : (s : State) (cs : List Step) → All (λ x. Under (stateAfter s cs .plan) (x .0) (x .1)) (bookingsIn s cs)
+unfolding bookingsIn stateAfter
 kept s [] = tt
 kept s (c ∷ cs) =
-    all-append (λ x. Under (after (stepped s c) cs .plan) (x .0) (x .1)) (bookingsOf s c) (bookingsIn (stepped s c) cs)
-    (all-imp (λ x. Under (stepped s c .plan) (x .0) (x .1)) (λ x. Under (after (stepped s c) cs .plan) (x .0) (x .1)) (bookingsOf s c) (λ x U. list-under (stepped s c) cs (x .0) (x .1) U) (step-booked s c))
+    all-append (λ x. Under (stateAfter (stepped s c) cs .plan) (x .0) (x .1)) (bookingsOf s c) (bookingsIn (stepped s c) cs)
+    (all-imp (λ x. Under (stepped s c .plan) (x .0) (x .1)) (λ x. Under (stateAfter (stepped s c) cs .plan) (x .0) (x .1)) (bookingsOf s c) (λ x U. list-under (stepped s c) cs (x .0) (x .1) U) (step-booked s c))
     (kept (stepped s c) cs)
 
 -- ---- the numbers

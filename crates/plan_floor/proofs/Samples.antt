@@ -10,10 +10,10 @@ use Rattle.floor.specs.Reports.{listedAt}
 use Rattle.floor.specs.Demand3.{round, outcome, bookedIn}
 use Rattle.floor.proofs.Calling.{got, counted, Table, holds}
 use Rattle.floor.proofs.AnywhereSamples.{small}
-use Rattle.plan.specs.Entries.{stageOf, predecessors, done, present, held, afterPredecessors, planSound, numbersUpto, entryFits, planFits, ready, readyLabel, released, reported}
-use Rattle.plan.specs.Plans.{offerTests, offered, offerAnswer, releaseTests, following, tileFor, releaseBooking, releaseAnswer, numbersIn, reportTests, reportAnswer}
+use Rattle.plan.specs.Entries.{stageOf, predecessors, done, present, bookedNumbers, afterPredecessors, planSound, numbersUpto, entryFits, planFits, ready, readyLabel, released, reported}
+use Rattle.plan.specs.Plans.{offerTests, offered, offerAnswer, releaseTests, numberAfter, tileFor, releaseBooking, releaseAnswer, numbersIn, reportTests, reportAnswer}
 use Rattle.plan.proofs.Samples.{entry, plan, two, entries, delivery, report}
-use Rattle.plan_floor.specs.Steps.{Step, call, offer, release, report as handed, State, stepped, after, Event, booking, listing, eventsOf, eventsIn, bookingsOf, bookingsIn, reportOfCall, reportsOf, FromRounds, callsOf, callsIn, bookedOf, bookedBy, reportedOf, reportedBy}
+use Rattle.plan_floor.specs.Steps.{Step, call, offer, release, report as handed, State, stepped, stateAfter, Event, booking, listing, eventsOf, eventsIn, bookingsOf, bookingsIn, reportOfCall, reportsOf, FromRounds, callsOf, callsIn, bookedOf, bookedBy, reportedOf, reportedBy}
 use Rattle.plan_floor.specs.Ending.{releaseOffered, afterCycles, refusalsIn, handedRounds, schedule}
 
 -- a booking by label and number, a listing by 0 and number
@@ -40,7 +40,7 @@ walking =
     ∷ (paired (bookingsIn s cs), 1 ∷ 1 ∷ 2 ∷ 2 ∷ [])
     ∷ (length (callsIn s cs) ∷ bookedIn (s .floor) (callsIn s cs), 2 ∷ 1 ∷ 2 ∷ [])
     ∷ (bookedBy s cs, 1 ∷ 2 ∷ [])
-    ∷ (entries (after s cs .plan), entries (plan (entry 2 0 1 0 1 2 ∷ entry 1 0 0 0 2 1 ∷ [])))
+    ∷ (entries (stateAfter s cs .plan), entries (plan (entry 2 0 1 0 1 2 ∷ entry 1 0 0 0 2 1 ∷ [])))
     -- the second round reports the number
     ∷ (reportedBy first (call round ∷ []) 0, [])
     ∷ (reportedBy first (call round ∷ call round ∷ []) 0, 1 ∷ [])
@@ -53,8 +53,8 @@ walking =
 
 walking-holds : holds walking ≡ true
 unfolding holds small entry plan two entries delivery report shown paired walking
-    stageOf predecessors done present held afterPredecessors planSound numbersUpto entryFits planFits ready readyLabel released reported offerTests offered offerAnswer releaseTests following tileFor releaseBooking releaseAnswer numbersIn reportTests reportAnswer
-    outcome bookedIn stepped after eventsOf eventsIn bookingsOf bookingsIn callsOf callsIn bookedOf bookedBy listedAt reportedOf reportedBy afterCycles refusalsIn handedRounds schedule
+    stageOf predecessors done present bookedNumbers afterPredecessors planSound numbersUpto entryFits planFits ready readyLabel released reported offerTests offered offerAnswer releaseTests numberAfter tileFor releaseBooking releaseAnswer numbersIn reportTests reportAnswer
+    outcome bookedIn stepped stateAfter eventsOf eventsIn bookingsOf bookingsIn callsOf callsIn bookedOf bookedBy listedAt reportedOf reportedBy afterCycles refusalsIn handedRounds schedule
 walking-holds = refl
 
 -- the reports of such cycles are those of their rounds; a report that no round gave is not

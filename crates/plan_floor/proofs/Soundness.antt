@@ -20,9 +20,9 @@ use Rattle.floor.specs.Calls.{refusalOf, answer}
 use Rattle.floor.specs.Anywhere.{anywhereTests, anywhereAnswer}
 use Rattle.plan.specs.declared.Entry.{Entry}
 use Rattle.plan.specs.declared.Plan.{Plan}
-use Rattle.plan.specs.Entries.{waits, heldBy, used, predecessors, done, held, afterPredecessors, planSound, numbersUpto, entryFits, planFits, ready, readyLabel, changed, released, reported}
-use Rattle.plan.specs.Plans.{offerTests, offerAnswer, releaseTests, following, tileFor, releaseBooking, releaseAnswer, numbersIn, reportTests, reportAnswer}
-use Rattle.plan_floor.specs.Steps.{Step, call, offer, release, report, State, stepped, after, allWaiting, TypedStep, bookedOf}
+use Rattle.plan.specs.Entries.{waits, heldBy, used, predecessors, done, bookedNumbers, afterPredecessors, planSound, numbersUpto, entryFits, planFits, ready, readyLabel, changed, released, reported}
+use Rattle.plan.specs.Plans.{offerTests, offerAnswer, releaseTests, numberAfter, tileFor, releaseBooking, releaseAnswer, numbersIn, reportTests, reportAnswer}
+use Rattle.plan_floor.specs.Steps.{Step, call, offer, release, report, State, stepped, stateAfter, allWaiting, TypedStep, bookedOf}
 use Rattle.plan_floor.specs.Promises.{SoundPromise, WaitingPromise}
 use Rattle.plan.proofs.Stages.{used-changed, waiting-held, none-held}
 use Rattle.plan_floor.proofs.History.{accepted, all-ready}
@@ -34,18 +34,18 @@ use Rattle.plan_floor.proofs.Keeping.{Ordered, same-fits, released-orde
 pub record Good (last : ℕ) (n : ℕ) (es : List Entry) : Type 0 where
   pub few : n ≤ 64
   pub ordered : Ordered es
-  pub differ : Pairs (λ x y. x ≢ y) (held es)
-  pub upto : All (λ n. (0 < n) × (n ≤ last)) (held es)
+  pub differ : Pairs (λ x y. x ≢ y) (bookedNumbers es)
+  pub upto : All (λ n. (0 < n) × (n ≤ last)) (bookedNumbers es)
 
 pub good-sound : (last : ℕ) (p : Plan) → Good last (p .count) (used p) → planSound p ≡ true
 unfolding planSound
 good-sound last p G =
     and-true (le-leb (p .count) 64 (G .few))
-    (and-true (true-all (afterPredecessors (used p)) (used p) (G .ordered)) (r-pairs (λ x y. not (eqb x y)) (λ x y. x ≢ y) r-ne (held (used p)) .1 (G .differ)))
+    (and-true (true-all (afterPredecessors (used p)) (used p) (G .ordered)) (r-pairs (λ x y. not (eqb x y)) (λ x y. x ≢ y) r-ne (bookedNumbers (used p)) .1 (G .differ)))
 
 pub good-upto : (last : ℕ) (p : Plan) → Good last (p .count) (used p) → numbersUpto last p ≡ true
 unfolding numbersUpto
-good-upto last p G = r-all (λ n. ltb 0 n && leb n last) (λ n. (0 < n) × (n ≤ last)) (λ n. r-and (r-lt 0 n) (r-le n last)) (held (used p)) .1 (G .upto)
+good-upto last p G = r-all (λ n. ltb 0 n && leb n last) (λ n. (0 < n) × (n ≤ last)) (λ n. r-and (r-lt 0 n) (r-le n last)) (bookedNumbers (used p)) .1 (G .upto)
 
 pub sound-good : (last : ℕ) (p : Plan) → planSound p ≡ true → numbersUpto last p ≡ true → Good last (p .count) (used p)
 unfolding planSound numbersUpto
@@ -54,8 +54,8 @@ sound-good last p S U =
     record {
       few = leb-true (p .count) 64 (and-left (leb (p .count) 64) _ S);
       ordered = all-true (afterPredecessors (used p)) (used p) (and-left (allOf (afterPredecessors (used p)) (used p)) _ r);
-      differ = r-pairs (λ x y. not (eqb x y)) (λ x y. x ≢ y) r-ne (held (used p)) .0 (and-right (allOf (afterPredecessors (used p)) (used p)) _ r);
-      upto = r-all (λ n. ltb 0 n && leb n last) (λ n. (0 < n) × (n ≤ last)) (λ n. r-and (r-lt 0 n) (r-le n last)) (held (used p)) .0 U;
+      differ = r-pairs (λ x y. not (eqb x y)) (λ x y. x ≢ y) r-ne (bookedNumbers (used p)) .0 (and-right (allOf (afterPredecessors (used p)) (used p)) _ r);
+      upto = r-all (λ n. ltb 0 n && leb n last) (λ n. (0 < n) × (n ≤ last)) (λ n. r-and (r-lt 0 n) (r-le n last)) (bookedNumbers (used p)) .0 U;
     }
 
 pub labels-differ : (p : Plan) → planFits p ≡ true → Pairs (λ x y. x .label ≢ y .label) (used p)
@@ -75,18 +75,18 @@ module _ (s : State) where
   last = f .counters .last
 
   later-last : (n : ℕ) (es : List Entry) (last′ : ℕ) → last ≤ last′ → Good last n es → Good last′ n es
-  later-last n es last′ h G = record { few = G .few; ordered = G .ordered; differ = G .differ; upto = all-imp (λ n. (0 < n) × (n ≤ last)) (λ n. (0 < n) × (n ≤ last′)) (held es) (λ n q. (q .0, omega (arith, q .1))) (G .upto) }
+  later-last n es last′ h G = record { few = G .few; ordered = G .ordered; differ = G .differ; upto = all-imp (λ n. (0 < n) × (n ≤ last)) (λ n. (0 < n) × (n ≤ last′)) (bookedNumbers es) (λ n q. (q .0, omega (arith, q .1))) (G .upto) }
 
   release-good : (k n last′ : ℕ) → planFits p ≡ true → readyLabel (used p) k ≡ true → last < n → n ≤ last′ → Good last (p .count) (used p) → Good last′ (p .count) (map (released k n) (used p))
   unfolding ready
   release-good k n last′ fits r lo hi G =
       let W = all-of (λ x. x .label ≡ k → heldBy x ≡ []) (used p) (λ x m q. waiting-held x (and-left (waits x) (allOf (done (used p)) (predecessors x)) (all-ready p fits k r x m q))) in
-      let N = all-imp (λ m. (0 < m) × (m ≤ last)) (λ m. n ≢ m) (held (used p)) (λ m q e. omega (arith, q .1)) (G .upto) in
+      let N = all-imp (λ m. (0 < m) × (m ≤ last)) (λ m. n ≢ m) (bookedNumbers (used p)) (λ m q e. omega (arith, q .1)) (G .upto) in
       record {
         few = G .few;
         ordered = released-ordered p fits k n r (G .ordered);
         differ = released-differ k n (used p) (labels-differ p fits) W (G .differ) N;
-        upto = released-all (λ m. (0 < m) × (m ≤ last′)) k n (used p) (omega arith, hi) (all-imp (λ m. (0 < m) × (m ≤ last)) (λ m. (0 < m) × (m ≤ last′)) (held (used p)) (λ m q. (q .0, omega (arith, q .1))) (G .upto));
+        upto = released-all (λ m. (0 < m) × (m ≤ last′)) k n (used p) (omega arith, hi) (all-imp (λ m. (0 < m) × (m ≤ last)) (λ m. (0 < m) × (m ≤ last′)) (bookedNumbers (used p)) (λ m q. (q .0, omega (arith, q .1))) (G .upto));
       }
 
   report-good : (l : List ℕ) → Good last (p .count) (used p) → Good last (p .count) (map (reported l) (used p))
@@ -106,7 +106,7 @@ unfolding stepped releaseAnswer bookedOf
 release-fine s k F K = go (eqb (releaseAnswer (s .plan) (s .floor) k .refusal) 0) refl (K .well) (K .rises) (K .above) (K .upto)
   where
     n : ℕ
-    n = following (s .floor)
+    n = numberAfter (s .floor)
 
     g : Bool → Floor
     g b = cond b (releaseBooking (s .plan) (s .floor) k .floor) (s .floor)
@@ -143,8 +143,8 @@ step-fine s offer t F = (F, refl)
 step-fine s (release k) t F = release-fine s k F (step-keeps s (release k) (F .0) t)
 step-fine s (report r) t F = report-fine s r F
 
-pub list-fine : (s : State) (cs : List Step) → All TypedStep cs → Fine s → Fine (after s cs) × (planFits (after s cs .plan) ≡ planFits (s .plan))
-unfolding after
+pub list-fine : (s : State) (cs : List Step) → All TypedStep cs → Fine s → Fine (stateAfter s cs) × (planFits (stateAfter s cs .plan) ≡ planFits (s .plan))
+unfolding stateAfter
 list-fine s [] t F = (F, refl)
 list-fine s (c ∷ cs) t F = let A = step-fine s c (t .0) F in let B = list-fine (stepped s c) cs (t .1) (A .0) in (B .0, B .1 ∙ A .1)
 
@@ -192,7 +192,7 @@ unfolding releaseAnswer releaseTests refusal releaseBooking anywhereAnswer answe
 never-48 p f k r =
     either-not (refusal (releaseTests p f k)) (releaseBooking p f k .refusal) 48
     (rw r (refusal-not 48 ((not (planSound p), 30) ∷ (not (wellFormed f), 30) ∷ (not (numbersUpto (f .counters .last) p), 30) ∷ (not (planFits p), 47) ∷ []) (λ e. omega arith) (omega arith)))
-    (refusal-not 48 ((not (wellFormed f), 30) ∷ anywhereTests (view f) (tileFor (used p) k) (following f)) (λ e. omega arith) (omega arith))
+    (refusal-not 48 ((not (wellFormed f), 30) ∷ anywhereTests (view f) (tileFor (used p) k) (numberAfter f)) (λ e. omega arith) (omega arith))
 
 module _ (p : Plan) (f : Floor) (k : ℕ) (S : planSound p ≡ true) (W : wellFormed f ≡ true) (U : numbersUpto (f .counters .last) p ≡ true) where
   never-30 : releaseAnswer p f k .refusal ≢ 30
@@ -200,14 +200,14 @@ module _ (p : Plan) (f : Floor) (k : ℕ) (S : planSound p ≡ true) (W : wellFo
   never-30 =
       either-not (refusal (releaseTests p f k)) (releaseBooking p f k .refusal) 30
       (rw (S, W, U) (refusal-not 30 ((not (planFits p), 47) ∷ (not (readyLabel (used p) k), 48) ∷ []) (λ e. omega arith) (omega arith)))
-      (booking-not f (tileFor (used p) k) (following f) 30 W (λ e. omega arith) (omega arith))
+      (booking-not f (tileFor (used p) k) (numberAfter f) 30 W (λ e. omega arith) (omega arith))
 
   never-47 : planFits p ≡ true → releaseAnswer p f k .refusal ≢ 47
   unfolding releaseAnswer releaseTests refusal releaseBooking
   never-47 F =
       either-not (refusal (releaseTests p f k)) (releaseBooking p f k .refusal) 47
       (rw (S, W, U, F) (refusal-not 47 ((not (readyLabel (used p) k), 48) ∷ []) (λ e. omega arith) (omega arith)))
-      (booking-not f (tileFor (used p) k) (following f) 47 W (λ e. omega arith) (omega arith))
+      (booking-not f (tileFor (used p) k) (numberAfter f) 47 W (λ e. omega arith) (omega arith))
 
   not-or : (b : Bool) → _≡_ {A = ℕ} (cond (not b) 47 0) (cond b 0 47)
   not-or true = refl
@@ -223,7 +223,7 @@ module _ (p : Plan) (f : Floor) (k : ℕ) (S : planSound p ≡ true) (W : wellFo
 
 pub stays-sound : SoundPromise
 stays-sound s S U w cs t =
-    let now = after s cs in
+    let now = stateAfter s cs in
     let R = list-fine s cs t (w, sound-good (s .floor .counters .last) (s .plan) S U) in
     let F = R .0 in
     let S′ = good-sound (now .floor .counters .last) (now .plan) (F .1) in

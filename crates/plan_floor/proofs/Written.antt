@@ -9,9 +9,9 @@ use Rattle.laws.specs.Define.{keep, refusal}
 use Rattle.plan.specs.declared.Entry.{Entry}
 use Rattle.plan.specs.declared.Plan.{Plan}
 use Rattle.plan.specs.Entries.{used, predecessors, changed, released, reported}
-use Rattle.plan.specs.Plans.{following, releaseAnswer, numbersIn, reportTests, reportAnswer}
-use Rattle.plan_floor.specs.Steps.{Step, call, offer, release, report, State, stepped, after, predecessorsOf}
-use Rattle.plan_floor.specs.Promises.{written, WrittenPromise}
+use Rattle.plan.specs.Plans.{numberAfter, releaseAnswer, numbersIn, reportTests, reportAnswer}
+use Rattle.plan_floor.specs.Steps.{Step, call, offer, release, report, State, stepped, stateAfter, predecessorsOf}
+use Rattle.plan_floor.specs.Promises.{asWritten, WrittenPromise}
 use Rattle.plan.proofs.Stages.{released-same, reported-same, used-changed}
 
 -- ---- what a change leaves of an entry
@@ -45,8 +45,8 @@ module _ {A : Type 0} (get : Plan → A) (same : (p : Plan) (g : Entry → Entry
   step-same s offer = refl
   step-same s (release k) = go (eqb (releaseAnswer (s .plan) (s .floor) k .refusal) 0)
     where
-      go : (b : Bool) → get (cond b (changed (s .plan) (released k (following (s .floor)))) (s .plan)) ≡ get (s .plan)
-      go true = same (s .plan) (released k (following (s .floor))) (released-plain k (following (s .floor)))
+      go : (b : Bool) → get (cond b (changed (s .plan) (released k (numberAfter (s .floor)))) (s .plan)) ≡ get (s .plan)
+      go true = same (s .plan) (released k (numberAfter (s .floor))) (released-plain k (numberAfter (s .floor)))
       go false = refl
   step-same s (report r) = go (eqb (refusal (reportTests (s .plan) r)) 0)
     where
@@ -54,8 +54,8 @@ module _ {A : Type 0} (get : Plan → A) (same : (p : Plan) (g : Entry → Entry
       go true = same (s .plan) (reported (numbersIn r)) (reported-plain (numbersIn r))
       go false = refl
 
-  pub list-same : (s : State) (cs : List Step) → get (after s cs .plan) ≡ get (s .plan)
-  unfolding after
+  pub list-same : (s : State) (cs : List Step) → get (stateAfter s cs .plan) ≡ get (s .plan)
+  unfolding stateAfter
   list-same s [] = refl
   list-same s (c ∷ cs) = list-same (stepped s c) cs ∙ step-same s c
 
@@ -64,9 +64,9 @@ map-same : {A B : Type 0} (f : A → B) (g : A → A) → ((x : A) → f (g x) �
 map-same f g h [] = refl
 map-same f g h (x ∷ l) = (λ i. h x i ∷ map-same f g h l i)
 
-same-used : (p : Plan) (g : Entry → Entry) → Plain g → map written (used (changed p g)) ≡ map written (used p)
-unfolding written
-same-used p g P = ap (map written) (used-changed p g) ∙ map-same written g (λ e i. P .label e i ∷ P .tile e i ∷ P .first e i ∷ P .second e i ∷ []) (used p)
+same-used : (p : Plan) (g : Entry → Entry) → Plain g → map asWritten (used (changed p g)) ≡ map asWritten (used p)
+unfolding asWritten
+same-used p g P = ap (map asWritten) (used-changed p g) ∙ map-same asWritten g (λ e i. P .label e i ∷ P .tile e i ∷ P .first e i ∷ P .second e i ∷ []) (used p)
 
 drop-changed : {A : Type 0} (n : ℕ) (g : A → A) (l : List A) → drop n (map g (take n l) ++ drop n l) ≡ drop n l
 drop-changed zero g l = refl
@@ -76,7 +76,7 @@ drop-changed (suc n) g (x ∷ l) = drop-changed n g l
 pub same-written : WrittenPromise
 same-written s cs = record {
   same-count = list-same (λ p. p .count) (λ p g P. refl) s cs;
-  same-used = list-same (λ p. map written (used p)) same-used s cs;
+  same-used = list-same (λ p. map asWritten (used p)) same-used s cs;
   same-past = list-same (λ p. drop (p .count) (p .entries)) (λ p g P. drop-changed (p .count) g (p .entries)) s cs;
 }
 
@@ -91,5 +91,5 @@ module _ (g : Entry → Entry) (P : Plain g) where
   same-of k [] = refl
   same-of k (e ∷ es) = (λ i. cond (eqb (P .label e i) k) (same-predecessors e i) [] ++ same-of k es i)
 
-pub list-predecessors : (s : State) (cs : List Step) (k : ℕ) → predecessorsOf (used (after s cs .plan)) k ≡ predecessorsOf (used (s .plan)) k
+pub list-predecessors : (s : State) (cs : List Step) (k : ℕ) → predecessorsOf (used (stateAfter s cs .plan)) k ≡ predecessorsOf (used (s .plan)) k
 list-predecessors s cs k = list-same (λ p. predecessorsOf (used p) k) (λ p g P. ap (λ (es : List Entry). predecessorsOf es k) (used-changed p g) ∙ same-of g P k (used p)) s cs

@@ -18,7 +18,7 @@ use Rattle.floor.specs.Demand3.{round, Quiet, roundsIn}
 use Rattle.plan.specs.declared.Plan.{Plan}
 use Rattle.plan.specs.Entries.{waits, wasDelivered, heldBy, used}
 use Rattle.plan.specs.Plans.{offerAnswer, releaseAnswer}
-use Rattle.plan_floor.specs.Steps.{Step, call, release, report, State, stepped, after, TypedStep, reportsOf, callsIn}
+use Rattle.plan_floor.specs.Steps.{Step, call, release, report, State, stepped, stateAfter, TypedStep, reportsOf, callsIn}
 
 -- how many labels wait
 unfoldable pub waitingIn : Plan → ℕ
@@ -49,16 +49,16 @@ releaseOffered s = stepped s (release (offerAnswer (s .plan) .label))
 -- cycles one after another, each beginning with the release of the offered label
 abbrev pub Cycles : State → List (List Step) → Type 0
 Cycles s [] = Unit {0}
-Cycles s (cs ∷ rest) = Cycle (releaseOffered s) cs × Cycles (after (releaseOffered s) cs) rest
+Cycles s (cs ∷ rest) = Cycle (releaseOffered s) cs × Cycles (stateAfter (releaseOffered s) cs) rest
 
 unfoldable pub afterCycles : State → List (List Step) → State
 afterCycles s [] = s
-afterCycles s (cs ∷ rest) = afterCycles (after (releaseOffered s) cs) rest
+afterCycles s (cs ∷ rest) = afterCycles (stateAfter (releaseOffered s) cs) rest
 
 -- the refusal of each cycle's release
 unfoldable pub refusalsIn : State → List (List Step) → List ℕ
 refusalsIn s [] = []
-refusalsIn s (cs ∷ rest) = releaseAnswer (s .plan) (s .floor) (offerAnswer (s .plan) .label) .refusal ∷ refusalsIn (after (releaseOffered s) cs) rest
+refusalsIn s (cs ∷ rest) = releaseAnswer (s .plan) (s .floor) (offerAnswer (s .plan) .label) .refusal ∷ refusalsIn (stateAfter (releaseOffered s) cs) rest
 
 -- s the state at first
 pub record Begins (s : State) : Type 0 where
@@ -89,7 +89,7 @@ handedRounds (suc n) s = let r = roundAnswer (s .floor) .report in call round �
 -- n cycles: the offered label, then as many rounds as the bound says
 unfoldable pub schedule : ℕ → State → List (List Step)
 schedule zero s = []
-schedule (suc n) s = let r = releaseOffered s in let cs = handedRounds (bound (r .floor .settings) 1) r in cs ∷ schedule n (after r cs)
+schedule (suc n) s = let r = releaseOffered s in let cs = handedRounds (bound (r .floor .settings) 1) r in cs ∷ schedule n (stateAfter r cs)
 
 abbrev pub SchedulePromise : Type 0
 SchedulePromise = (s : State) → Begins s → Ended s (schedule (waitingIn (s .plan)) s)

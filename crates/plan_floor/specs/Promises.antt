@@ -17,7 +17,7 @@ use Rattle.plan.specs.declared.Entry.{Entry}
 use Rattle.plan.specs.declared.Plan.{Plan}
 use Rattle.plan.specs.Entries.{waits, wasDelivered, heldBy, used, planSound, numbersUpto, planFits, ready, readyLabel, released, reported}
 use Rattle.plan.specs.Plans.{offerAnswer, releaseAnswer, reportAnswer}
-use Rattle.plan_floor.specs.Steps.{Step, State, after, allWaiting, TypedStep, eventsIn, BookedThenListed, predecessorsOf, bookingsIn, FromRounds, callsIn, bookedBy, reportedBy}
+use Rattle.plan_floor.specs.Steps.{Step, State, stateAfter, allWaiting, TypedStep, eventsIn, BookedThenListed, predecessorsOf, bookingsIn, FromRounds, callsIn, bookedBy, reportedBy}
 use Rattle.plan_floor.specs.Ending.{EndsPromise, SchedulePromise}
 
 -- ---- an offer, of a plan that is not refused
@@ -37,17 +37,17 @@ OfferPromise = (p : Plan) → offerAnswer p .refusal ≡ 0 → Offers p (offerAn
 
 -- ---- an entry
 -- what the crew wrote of an entry; the rest is its stage and its number
-unfoldable pub written : Entry → List ℕ
-written e = e .label ∷ e .tile ∷ e .first ∷ e .second ∷ []
+unfoldable pub asWritten : Entry → List ℕ
+asWritten e = e .label ∷ e .tile ∷ e .first ∷ e .second ∷ []
 
 -- a release "books a waiting label", k, under n: that label's entry alone changes
-pub record Books (k n : ℕ) (e x : Entry) : Type 0 where
+pub record BooksEntry (k n : ℕ) (e x : Entry) : Type 0 where
   pub booked : e .label ≡ k → heldBy x ≡ n ∷ []
   pub others-same : e .label ≢ k → x ≡ e
-  pub same-written : written x ≡ written e
+  pub same-written : asWritten x ≡ asWritten e
 
 abbrev pub BookPromise : Type 0
-BookPromise = (k n : ℕ) (e : Entry) → Books k n e (released k n e)
+BookPromise = (k n : ℕ) (e : Entry) → BooksEntry k n e (released k n e)
 
 -- a report "marks delivered exactly the booked labels whose numbers it lists", l; nothing else of an entry changes
 pub record Marks (l : List ℕ) (e x : Entry) : Type 0 where
@@ -72,20 +72,20 @@ RefusedPromise = (p : Plan) (f : Floor) → Refused p f
 -- from p to q only stages and numbers of used entries change
 pub record SameWritten (p q : Plan) : Type 0 where
   pub same-count : q .count ≡ p .count
-  pub same-used : map written (used q) ≡ map written (used p)
+  pub same-used : map asWritten (used q) ≡ map asWritten (used p)
   pub same-past : drop (q .count) (q .entries) ≡ drop (p .count) (p .entries)
 
 abbrev pub WrittenPromise : Type 0
-WrittenPromise = (s : State) (cs : List Step) → SameWritten (s .plan) (after s cs .plan)
+WrittenPromise = (s : State) (cs : List Step) → SameWritten (s .plan) (stateAfter s cs .plan)
 
 -- "If all began waiting and each call gets the plan the last one gave, no planned canister is booked before its predecessors were reported.": whatever reports were handed in, each predecessor, by the plan at first, was booked under a number that a report listed which was accepted afterwards
 abbrev pub HistoryPromise : Type 0
-HistoryPromise = (s : State) → allWaiting (s .plan) ≡ true → (cs : List Step) (k : ℕ) → releaseAnswer (after s cs .plan) (after s cs .floor) k .refusal ≡ 0
+HistoryPromise = (s : State) → allWaiting (s .plan) ≡ true → (cs : List Step) (k : ℕ) → releaseAnswer (stateAfter s cs .plan) (stateAfter s cs .floor) k .refusal ≡ 0
     → All (λ j. (n : ℕ) × BookedThenListed j n (eventsIn s cs)) (predecessorsOf (used (s .plan)) k)
 
 -- where each report is that of an earlier round of the list, the rounds reported that number; on a well-formed floor after its booking, since it is above every number booked before (`once`, `as-calls`)
 abbrev pub RoundsPromise : Type 0
-RoundsPromise = (s : State) → allWaiting (s .plan) ≡ true → (cs : List Step) → FromRounds s [] cs → (k : ℕ) → releaseAnswer (after s cs .plan) (after s cs .floor) k .refusal ≡ 0
+RoundsPromise = (s : State) → allWaiting (s .plan) ≡ true → (cs : List Step) → FromRounds s [] cs → (k : ℕ) → releaseAnswer (stateAfter s cs .plan) (stateAfter s cs .floor) k .refusal ≡ 0
     → All (λ j. (n : ℕ) × BookedThenListed j n (eventsIn s cs) × List·Memᴰ n (reportedAll (s .floor) (callsIn s cs))) (predecessorsOf (used (s .plan)) k)
 
 -- a sound plan stays sound, a half-delivered one too: p the plan at first, s the state now
@@ -101,7 +101,7 @@ pub record StaysSound (p : Plan) (s : State) : Type 0 where
   pub release-fits : planFits p ≡ true → (k : ℕ) → releaseAnswer (s .plan) (s .floor) k .refusal ≢ 47
 
 abbrev pub SoundPromise : Type 0
-SoundPromise = (s : State) → planSound (s .plan) ≡ true → numbersUpto (s .floor .counters .last) (s .plan) ≡ true → wellFormed (s .floor) ≡ true → (cs : List Step) → All TypedStep cs → StaysSound (s .plan) (after s cs)
+SoundPromise = (s : State) → planSound (s .plan) ≡ true → numbersUpto (s .floor .counters .last) (s .plan) ≡ true → wellFormed (s .floor) ≡ true → (cs : List Step) → All TypedStep cs → StaysSound (s .plan) (stateAfter s cs)
 
 -- a plan of up to 64 entries that all wait is such a one
 abbrev pub WaitingPromise : Type 0
@@ -109,7 +109,7 @@ WaitingPromise = (p : Plan) → allWaiting p ≡ true → p .count ≤ 64 → (l
 
 -- an accepted release is [1]'s booking in demand 3's lists, so that demand 3 covers plans: for every floor and plan
 pub record AsCalls (s : State) (cs : List Step) : Type 0 where
-  pub same-floor : floorAfter (s .floor) (callsIn s cs) ≡ after s cs .floor
+  pub same-floor : floorAfter (s .floor) (callsIn s cs) ≡ stateAfter s cs .floor
   pub same-booked : bookedIn (s .floor) (callsIn s cs) ≡ bookedBy s cs
   pub same-reported : (k : ℕ) → reportedIn (s .floor) (callsIn s cs) k ≡ reportedBy s cs k
   pub promises : wellFormed (s .floor) ≡ true → All TypedStep cs → Promises (s .floor) (callsIn s cs)
@@ -120,7 +120,7 @@ CallsPromise = (s : State) (cs : List Step) → AsCalls s cs
 -- each label is booked at most once, under one number; the plan keeps the number, and the label never waits again. The numbers rise
 pub record Once (s : State) (cs : List Step) : Type 0 where
   pub labels : Pairs (λ x y. x .0 ≢ y .0) (bookingsIn s cs)
-  pub kept : All (λ x. All (λ e. e .label ≡ x .0 → (e .number ≡ x .1) × (waits e ≡ false)) (used (after s cs .plan))) (bookingsIn s cs)
+  pub kept : All (λ x. All (λ e. e .label ≡ x .0 → (e .number ≡ x .1) × (waits e ≡ false)) (used (stateAfter s cs .plan))) (bookingsIn s cs)
   pub rising : wellFormed (s .floor) ≡ true → All TypedStep cs → Pairs (λ x y. x .1 < y .1) (bookingsIn s cs)
 
 abbrev pub OncePromise : Type 0
@@ -128,8 +128,8 @@ OncePromise = (s : State) (cs : List Step) → Once s cs
 
 -- the canister of a booked label, number n, is on the floor until a round reports it
 pub record OnFloorUntilReported (s : State) (cs : List Step) (n : ℕ) : Type 0 where
-  pub either : List·Memᴰ n (numbersOn (view (after s cs .floor))) ⊎ List·Memᴰ n (reportedAll (s .floor) (callsIn s cs))
-  pub not-both : List·Memᴰ n (numbersOn (view (after s cs .floor))) → ¬ (List·Memᴰ n (reportedAll (s .floor) (callsIn s cs)))
+  pub either : List·Memᴰ n (numbersOn (view (stateAfter s cs .floor))) ⊎ List·Memᴰ n (reportedAll (s .floor) (callsIn s cs))
+  pub not-both : List·Memᴰ n (numbersOn (view (stateAfter s cs .floor))) → ¬ (List·Memᴰ n (reportedAll (s .floor) (callsIn s cs)))
 
 abbrev pub CanisterPromise : Type 0
 CanisterPromise = (s : State) → wellFormed (s .floor) ≡ true → (cs : List Step) → All TypedStep cs → All (λ x. OnFloorUntilReported s cs (x .1)) (bookingsIn s cs)

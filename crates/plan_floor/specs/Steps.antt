@@ -11,7 +11,7 @@ use Rattle.floor.specs.Demand3.{Call, book, anywhere, stop, repair, round, keep
 use Rattle.plan.specs.declared.Entry.{Entry}
 use Rattle.plan.specs.declared.Plan.{Plan}
 use Rattle.plan.specs.Entries.{waits, used, predecessors}
-use Rattle.plan.specs.Plans.{releaseTests, following, tileFor, releaseAnswer, numbersIn, reportAnswer}
+use Rattle.plan.specs.Plans.{releaseTests, numberAfter, tileFor, releaseAnswer, numbersIn, reportAnswer}
 
 -- a call of demand 3's lists on the floor; an offer; a release of a label; a report handed to the plan
 pub data Step : Type 0 where
@@ -31,9 +31,9 @@ stepped s offer = s
 stepped s (release k) = let r = releaseAnswer (s .plan) (s .floor) k in record { plan = r .plan; floor = r .floor }
 stepped s (report r) = record { plan = reportAnswer (s .plan) r .plan; floor = s .floor }
 
-unfoldable pub after : State → List Step → State
-after s [] = s
-after s (c ∷ cs) = after (stepped s c) cs
+unfoldable pub stateAfter : State → List Step → State
+stateAfter s [] = s
+stateAfter s (c ∷ cs) = stateAfter (stepped s c) cs
 
 -- "all began waiting"
 unfoldable pub allWaiting : Plan → Bool
@@ -117,7 +117,7 @@ FromRounds s rs (c ∷ cs) = HandedFrom rs c × FromRounds (stepped s c) (report
 unfoldable pub callsOf : State → Step → List Call
 callsOf s (call c) = c ∷ []
 callsOf s offer = []
-callsOf s (release k) = cond (eqb (refusal (releaseTests (s .plan) (s .floor) k)) 0) (anywhere (tileFor (used (s .plan)) k) (following (s .floor)) ∷ []) []
+callsOf s (release k) = cond (eqb (refusal (releaseTests (s .plan) (s .floor) k)) 0) (anywhere (tileFor (used (s .plan)) k) (numberAfter (s .floor)) ∷ []) []
 callsOf s (report r) = []
 
 unfoldable pub callsIn : State → List Step → List Call

@@ -1,4 +1,4 @@
-use Rattle.plan_calls.proofs.Answers.{following-last, following-next}
+use Rattle.plan_calls.proofs.Answers.{number-after-last, number-after-next}
 use borrow.Author.Needs.{needs}
 use Rattle.plan_calls.proofs.number_after.Statement.{statement}
 use Rattle.plan_calls.proofs.number_after.Tie as tie
@@ -6,13 +6,13 @@ use Rattle.plan_calls.proofs.number_after.Reads as reads
 use Rattle.plan_calls.proofs.number_after.Lts as lts
 
 returns : tie.Need-returns
-returns c = following-last (c .before .before .args .floor) (c .if1 .taken)
+returns c = number-after-last (c .before .before .args .floor) (c .if1 .taken)
 
 add-result : tie.Need-add-result
 add-result c = search needs
 
 returns-2 : tie.Need-returns-2
-returns-2 c = following-next (c .before .before .args .floor) (search needs)
+returns-2 c = number-after-next (c .before .before .args .floor) (search needs)
 
 pub number-after-spec : {M : Type 1} → statement M
 number-after-spec = tie.close (tie.spec returns add-result returns-2)

@@ -2,7 +2,7 @@ use Prim.Native.Nat.{ℕ, zero, _-_}
 use native.Mathlib.Omega.{arith}
 use lib.ListN.{take, replicate, length-set, length-replicate}
 use Rattle.laws.proofs.Tables.{ended}
-use Rattle.plan.specs.Entries.{held}
+use Rattle.plan.specs.Entries.{bookedNumbers}
 use Rattle.plan_check.proofs.Sized.{entries-length}
 use Rattle.plan_check.proofs.Tables.{held-none, held-turn}
 use Rattle.plan_check.proofs.Loops.{Gathered}
@@ -72,7 +72,7 @@ returns : tie.Need-returns Inv-loop μ-loop
 returns c =
     let l = c .before .loop in
     let es = c .before .before .args .t1 .entries in
-    (omega arith, ended (λ (k : ℕ). held (take k es)) (omega arith) (l .inv .below) (l .inv .gathered))
+    (omega arith, ended (λ (k : ℕ). bookedNumbers (take k es)) (omega arith) (l .inv .below) (l .inv .gathered))
 
 pub booked-numbers-spec : {M : Type 1} → statement M
 booked-numbers-spec =
