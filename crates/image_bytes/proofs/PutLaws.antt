@@ -61,3 +61,13 @@ bytes-join (suc m) n q r h =
 
 pub bytes-split : (m n x : ℕ) → bytes (m + n) x ≡ bytes m (x % 256 ^ m) ++ bytes n (x / 256 ^ m)
 bytes-split m n x = ap (bytes (m + n)) (sym (div-add-mod' x (256 ^ m))) ∙ bytes-join m n (x / 256 ^ m) (x % 256 ^ m) (mod-lt x (one-le-pow m 256 (zero-lt-suc 255)))
+
+-- four writes in a row
+pub put-four : (l m k j i : List ℕ) (at p2 p3 p4 : ℕ) (ws xs ys zs : List ℕ) → at + length ws + length xs + length ys + length zs ≤ length l
+    → p2 ≡ at + length ws → p3 ≡ at + length ws + length xs → p4 ≡ at + length ws + length xs + length ys
+    → m ≡ put l at ws → k ≡ put m p2 xs → j ≡ put k p3 ys → i ≡ put j p4 zs → i ≡ put l at (ws ++ (xs ++ (ys ++ zs)))
+put-four l m k j i at p2 p3 p4 ws xs ys zs h e2 e3 e4 a b c d =
+    let n : length (ws ++ xs) ≡ length ws + length xs = length-append ws xs in
+    let p : k ≡ put l at (ws ++ xs) = put-two l m k at p2 ws xs (omega arith) e2 a b in
+    let q : i ≡ put l at ((ws ++ xs) ++ (ys ++ zs)) = put-three l k j i at p3 p4 (ws ++ xs) ys zs (rw n (omega arith)) (rw n (omega arith)) (rw n (omega arith)) p c d in
+    rw (append-assoc ws xs (ys ++ zs)) at q

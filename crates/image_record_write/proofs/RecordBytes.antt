@@ -12,7 +12,7 @@ use Rattle.image_bytes.proofs.ByteLaws.{bytes-length, row-length}
 use Rattle.laws.specs.Define.{tab}
 use Rattle.laws.proofs.Tables.{tab-length}
 use Rattle.image_bytes.specs.Put.{put}
-use Rattle.image_bytes.proofs.PutLaws.{put-two, put-three, bytes-one}
+use Rattle.image_bytes.proofs.PutLaws.{put-two, bytes-one}
 use Rattle.floor.specs.declared.Canister.{Canister}
 use Rattle.floor.specs.declared.Settings.{Settings}
 use Rattle.floor.specs.declared.Counters.{Counters}
@@ -80,16 +80,6 @@ counters-record h x = rw (counters-size h x) (simp append-assoc)
 pub canister-bytes : (c : Canister) → canisterBytes c ≡ bytes 4 (c .number) ++ (bytes 2 (c .a) ++ bytes 2 (c .b))
 unfolding bytesOf
 canister-bytes c = rw (append-nil (bytes 2 (c .b)))
-
--- four writes in a row
-pub put-four : (l m k j i : List ℕ) (at p2 p3 p4 : ℕ) (ws xs ys zs : List ℕ) → at + length ws + length xs + length ys + length zs ≤ length l
-    → p2 ≡ at + length ws → p3 ≡ at + length ws + length xs → p4 ≡ at + length ws + length xs + length ys
-    → m ≡ put l at ws → k ≡ put m p2 xs → j ≡ put k p3 ys → i ≡ put j p4 zs → i ≡ put l at (ws ++ (xs ++ (ys ++ zs)))
-put-four l m k j i at p2 p3 p4 ws xs ys zs h e2 e3 e4 a b c d =
-    let n : length (ws ++ xs) ≡ length ws + length xs = length-append ws xs in
-    let p : k ≡ put l at (ws ++ xs) = put-two l m k at p2 ws xs (omega arith) e2 a b in
-    let q : i ≡ put l at ((ws ++ xs) ++ (ys ++ zs)) = put-three l k j i at p3 p4 (ws ++ xs) ys zs (rw n (omega arith)) (rw n (omega arith)) (rw n (omega arith)) p c d in
-    rw (append-assoc ws xs (ys ++ zs)) at q
 
 -- ---- the canisters of a tile
 canisters-append : (l k : List Canister) → canistersBody (l ++ k) ≡ canistersBody l ++ canistersBody k

@@ -14,8 +14,7 @@ use Rattle.laws.specs.Define.{tab, join}
 use Rattle.laws.proofs.Tables.{tab-same}
 use Rattle.image_bytes.specs.Bytes.{bytes}
 use Rattle.image_bytes.specs.Put.{put}
-use Rattle.image_bytes.proofs.PutLaws.{put-one, put-two, put-three, bytes-one}
-use Rattle.image_record_write.proofs.RecordBytes.{put-four}
+use Rattle.image_bytes.proofs.PutLaws.{put-one, put-two, put-three, bytes-one, put-four}
 use Rattle.floor.specs.declared.Tile.{Tile}
 use Rattle.floor.specs.Model.{tileOf}
 use Rattle.floor.specs.Memory.{head}

@@ -1,8 +1,9 @@
 use mathlib.Core.List.{_++_}
 use native.Mathlib.Omega.{arith}
+use Rattle.image_bytes.proofs.PutLaws.{put-four}
 use Rattle.image_bytes.specs.Bytes.{bytes}
 use Rattle.image_bytes.proofs.ByteLaws.{bytes-length}
-use Rattle.image_record_write.proofs.RecordBytes.{pair-length, measures-length, put-four, three-length}
+use Rattle.image_record_write.proofs.RecordBytes.{pair-length, measures-length, three-length}
 use Rattle.image.specs.Image.{lowest}
 use Rattle.image_record_write.specs.Parts.{measuresBytes, headBytes}
 use borrow.Author.Needs.{needs}
