@@ -17,6 +17,7 @@ const DIFFERENT: u8 = 1;
 
 const UNKNOWN: u8 = 2;
 
+// A place, as an index.
 fn wide(x: u16) -> usize
     ensures { λ r. ⌜ r ≡ x ⌝ }
 {

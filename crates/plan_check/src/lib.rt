@@ -12,19 +12,21 @@ ghost use Rattle.plan.specs.Entries.{used, done, present, bookedNumbers, planSo
 use plan::Entry;
 use plan::Plan;
 
-// The stage of an entry: every byte but the two tested here is that of a booked one.
+// Whether an entry waits. Every stage byte but those of waiting and delivered is that of a booked one.
 pub fn waits(e: Entry) -> bool
     ensures { λ r. ⌜ r ≡ E.waits e ⌝ }
 {
     e.stage == plan::WAITING
 }
 
+// Whether an entry is delivered.
 fn was_delivered(e: Entry) -> bool
     ensures { λ r. ⌜ r ≡ E.wasDelivered e ⌝ }
 {
     e.stage == plan::DELIVERED
 }
 
+// Whether an entry is booked, and so holds a number.
 pub fn holds(e: Entry) -> bool
     ensures { λ r. ⌜ cond r (e .number ∷ []) [] ≡ E.heldBy e ⌝ }
 {
@@ -92,6 +94,7 @@ fn counted(m: usize, e: Entry) -> usize
     m
 }
 
+// The numbers that booked entries hold, in the order of the entries.
 pub fn booked_numbers(plan: Plan) -> Numbers
     requires { ⌜ plan .count ≤ 64 ⌝ }
     ensures { λ r. ⌜ (r .count ≤ 64) × (take (r .count) (r .items) ≡ bookedNumbers (used plan)) ⌝ }
@@ -146,6 +149,7 @@ pub struct Labels {
     pub differing: bool,
 }
 
+// One pass over the entries.
 fn labels_in(plan: Plan) -> Labels
     requires { ⌜ plan .count ≤ 64 ⌝ }
     ensures { λ r. ⌜ Upto 256 (present (used plan)) false (r .present) × (r .differing ≡ pairsOf (λ x y. not (eqb (x .label) (y .label))) (used plan)) ⌝ }

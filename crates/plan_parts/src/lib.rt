@@ -68,6 +68,7 @@ fn tile_if(e: Entry, label: u32, other: u32) -> u32
     other
 }
 
+// The tile of a label that is asked for, and whether it may be released.
 pub fn asked_for(plan: Plan, label: u32) -> Asked
     requires { ⌜ plan .count ≤ 64 ⌝ }
     ensures { λ r. ⌜ r ≡ record { tile = tileFor (used plan) label; ready = readyLabel (used plan) label } ⌝ }
@@ -171,6 +172,7 @@ fn with_listed(items: [u32; 16], m: usize, d: Delivery) -> [u32; 16]
     out
 }
 
+// The numbers that a report lists, those of the first hopper first.
 pub fn listed_numbers(given: Report) -> Listing
     requires { ⌜ anyOf (λ d. ltb 4 (d .count)) (given .deliveries) ≡ false ⌝ }
     ensures { λ r. ⌜ (r .count ≤ 16) × (take (r .count) (r .items) ≡ numbersIn given) ⌝ }

@@ -131,13 +131,14 @@ fn sound(t: Throughput) -> bool
     rates_in_order(t.last, t.least, t.greatest, t.closed)
 }
 
-// The lesser of two rates, and the greater.
+// The lesser of two rates.
 fn lesser(a: f64, b: f64) -> f64
     ensures { λ r. ⌜ r ≡ lower a b ⌝ }
 {
     if a < b { a } else { b }
 }
 
+// The greater of two rates.
 fn greater(a: f64, b: f64) -> f64
     ensures { λ r. ⌜ r ≡ higher a b ⌝ }
 {
