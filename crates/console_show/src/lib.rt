@@ -15,11 +15,13 @@ use floor::Layout;
 use floor::NORTH;
 use floor::SOUTH;
 use floor::Settings;
+use floor::Side;
 use floor::Tile;
 use floor::WEST;
 use floor::reason;
 
-fn side(code: u8) {
+fn side(k: Side) {
+    let code = k.code;
     match code {
         WEST => text(b"W"),
         SOUTH => text(b"S"),
@@ -131,9 +133,9 @@ fn tile(t: Tile) {
         text(b"running, distance ");
         distance(t.distance);
         text(b", arrow ");
-        side(t.next.code);
+        side(t.next);
         text(b", turn ");
-        side(t.token.code);
+        side(t.token);
         text(b", ");
     }
     amount(t.count as u64);

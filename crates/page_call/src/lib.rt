@@ -12,6 +12,7 @@ use floor::EAST;
 use floor::Floor;
 use floor::NORTH;
 use floor::SOUTH;
+use floor::Side;
 use floor::Tile;
 use floor::WEST;
 use floor::refusals;
@@ -50,9 +51,10 @@ fn put_two(s: &mut [u8], at: usize, n: u8)
 }
 
 // A side's letter.
-fn letter(k: u8) -> u8
-    ensures { λ r. ⌜ r ≡ P.letter k ⌝ }
+fn letter(side: Side) -> u8
+    ensures { λ r. ⌜ r ≡ P.letter (side .code) ⌝ }
 {
+    let k = side.code;
     match k {
         WEST => b'W',
         SOUTH => b'S',
@@ -83,7 +85,7 @@ fn put_cell(s: &mut [u8], at: usize, h: Tile)
     ensures { λ r. ⌜ now (s .exit) ≡ put (now (s .entry)) at (P.cell h) ⌝ }
 {
     put_two(s, at, h.count);
-    let arrow = letter(h.next.code);
+    let arrow = letter(h.next);
     put_three(s, at + 2, b' ', arrow, b' ');
     put_distance(s, at + 5, h);
     put_byte(s, at + 7, b'|');

@@ -29,10 +29,10 @@ pub struct Stood {
 }
 
 // The side that a tile shows: its next if it has canisters, else none.
-fn shown_next(count: u8, next: u8) -> u8
-    ensures { λ r. ⌜ r ≡ shownNext count next ⌝ }
+fn shown_next(count: u8, next: Side) -> u8
+    ensures { λ r. ⌜ r ≡ shownNext count (next .code) ⌝ }
 {
-    if 0 < count { next } else { 0 }
+    if 0 < count { next.code } else { 0 }
 }
 
 // What the tiles show; none at the number of no tile.
@@ -44,7 +44,7 @@ pub fn shown(s: Settings, tiles: [Tile; 64]) -> [u8; 65]
     let mut d = [0u8; 65];
     for t in 0usize..all {
         let tile = tiles[t];
-        d[t] = shown_next(tile.count, tile.next.code);
+        d[t] = shown_next(tile.count, tile.next);
     }
     d
 }

@@ -6,10 +6,10 @@ use Rattle.round_signal.proofs.shown_next.Reads as reads
 use Rattle.round_signal.proofs.shown_next.Lts as lts
 
 returns : tie.Need-returns
-returns c = let g = c .before .args in pick-yes g.next 0 (lt-ltb 0 g.count (c .if1 .taken))
+returns c = let g = c .before .args in pick-yes (g.next .code) 0 (lt-ltb 0 g.count (c .if1 .taken))
 
 returns-2 : tie.Need-returns-2
-returns-2 c = let g = c .before .args in pick-no g.next 0 (le-ltb 0 g.count (c .if1 .left))
+returns-2 c = let g = c .before .args in pick-no (g.next .code) 0 (le-ltb 0 g.count (c .if1 .left))
 
 pub shown-next-spec : {M : Type 1} → statement M
 shown-next-spec = tie.close (tie.spec returns returns-2)
