@@ -28,8 +28,9 @@ meets-requires c κs = search needs
 
 returns : tie.Need-returns
 returns c =
-    let S = c .before .before .before .before .before in
-    rw (c .before .before .before .name-ok .ensures, c .before .before .within .ensures, c .meets .ensures) (layout-code (S .args .s) (S .args .x) (c .before .minus .result) (S .pre) (c .before .minus .ensures))
+    let n = c .before .before .before in
+    let S = n .before .before in
+    rw (n .name-ok .ensures, c .before .before .within .ensures, c .meets .ensures) (layout-code (S .args .s) (S .args .x) (c .before .minus .result) (S .pre) (c .before .minus .ensures))
 
 pub layout-ok-spec : {M : Type 1} → statement M
 layout-ok-spec =

@@ -39,8 +39,10 @@ place-ok-requires c κs = search needs
 
 returns : tie.Need-returns Inv-loop μ-loop
 returns c =
-    let S = c .before .before .before .before .before in
-    let l = c .before .before .before .before .loop in
+    let i = c .before .before in
+    let o = i .before .before in
+    let S = o .before in
+    let l = o .loop in
     let on : l .j < 8 = omega arith in
     let e = place-tested (S .args .s) (S .args .t2) (7 - l .j) (8 - l .j) (l .above) (omega arith) (l .inv .named) in
     one-fails (placeTest (S .args .s) (S .args .t2)) (7 - l .j) (omega arith) (sym e ∙ sym (c .before .place-ok .ensures) ∙ not-true _ (c .if1 .taken))
@@ -53,8 +55,10 @@ loop-less c = search needs
 
 loop-again : tie.Need-loop-again Inv-loop μ-loop
 loop-again c =
-    let S = c .before .before .before .before .before in
-    let l = c .before .before .before .before .loop in
+    let i = c .before .before in
+    let o = i .before .before in
+    let S = o .before in
+    let l = o .loop in
     let on : l .j < 8 = omega arith in
     let e = place-tested (S .args .s) (S .args .t2) (7 - l .j) (8 - l .j) (l .above) (omega arith) (l .inv .named) in
     let next : 7 - l .j ≡ 8 - (l .j + 1) = omega arith in

@@ -16,7 +16,7 @@ layout-ok-requires c κs = search needs
 
 returns-2 : tie.Need-returns-2
 unfolding placeOk
-returns-2 c = rw (ne-eqb (c .before .before .before .before .args .x .name) 0 (c .before .before .if1 .left), c .before .layout-ok .ensures)
+returns-2 c = let i = c .before .before in rw (ne-eqb (i .before .before .args .x .name) 0 (i .if1 .left), c .before .layout-ok .ensures)
 
 pub place-ok-spec : {M : Type 1} → statement M
 place-ok-spec = tie.close (tie.spec returns layout-ok-requires returns-2)
