@@ -1,8 +1,8 @@
-use mathlib.Core.Path.{sym, _∙_}
+use mathlib.Core.Path.{_≡_, sym, _∙_}
+use mathlib.Core.Bool.{true}
 use native.Mathlib.Omega.{arith}
 use borrow.Author.Tests.{not-true, not-false}
-use Rattle.floor.specs.Memory.{view}
-use Rattle.floor.specs.Calls.{readTests}
+use Rattle.floor.specs.Well.{wellFormed}
 use Rattle.call_parts.proofs.Tests.{read-on}
 use Rattle.floor.proofs.Answers.{malformed, formed}
 use Rattle.calls.proofs.Answers.{read-refused, read-accepted}
@@ -24,43 +24,37 @@ unread-requires : tie.Need-unread-requires
 unread-requires c κs = search needs
 
 returns : tie.Need-returns
-returns c = let g = c .before .before .before .args in
+returns c =
     let w = sym (c .before .before .well-formed .ensures) ∙ not-true _ (c .before .if1 .taken) in
-    let r = c .unread in
-    read-refused g.floor g.tile 30 (r .result) (malformed g.floor (readTests (view g.floor) g.tile) w) (omega arith) (r .ensures)
+    read-refused _ _ 30 (c .unread .result) (malformed _ _ w) (omega arith) (c .unread .ensures)
+
+-- behind the first test the floor is well formed
+well : (c : tie.Else1) → wellFormed (c .before .before .args .floor) ≡ true
+well c = sym (c .before .well-formed .ensures) ∙ not-false _ (c .if1 .left)
 
 read-refusal-requires : tie.Need-read-refusal-requires
-read-refusal-requires c κs = sym (c .before .well-formed .ensures) ∙ not-false _ (c .if1 .left)
+read-refusal-requires c κs = well c
 
 unread-requires-2 : tie.Need-unread-requires-2
 unread-requires-2 c κs = search needs
 
 returns-2 : tie.Need-returns-2
-returns-2 c = let g = c .before .before .before .before .before .args in
-    let w = sym (c .before .before .before .before .well-formed .ensures) ∙ not-false _ (c .before .before .before .if1 .left) in
+returns-2 c =
     let n = c .before .before .read-refusal in
-    let r = c .unread2 in
-    read-refused g.floor g.tile (n .result) (r .result) (formed g.floor (readTests (view g.floor) g.tile) (n .result) w (n .ensures)) (c .before .if2 .taken) (r .ensures)
+    read-refused _ _ (n .result) (c .unread2 .result) (formed _ _ (n .result) (well (c .before .before .before)) (n .ensures)) (c .before .if2 .taken) (c .unread2 .ensures)
 
 tile-head-requires : tie.Need-tile-head-requires
-tile-head-requires c κs = let g = c .before .before .before .before .args in
-    let w = sym (c .before .before .before .well-formed .ensures) ∙ not-false _ (c .before .before .if1 .left) in
-    let n = c .before .read-refusal in
-    (w, read-on g.floor g.tile (sym (n .ensures) ∙ c .if2 .left))
+tile-head-requires c κs = (well (c .before .before), read-on _ _ (sym (c .before .read-refusal .ensures) ∙ c .if2 .left))
 
 tile-members-requires : tie.Need-tile-members-requires
-tile-members-requires c κs = let g = c .before .before .before .before .before .args in
-    let w = sym (c .before .before .before .before .well-formed .ensures) ∙ not-false _ (c .before .before .before .if1 .left) in
-    let n = c .before .before .read-refusal in
-    (w, read-on g.floor g.tile (sym (n .ensures) ∙ c .before .if2 .left))
+tile-members-requires c κs = (well (c .before .before .before), read-on _ _ (sym (c .before .before .read-refusal .ensures) ∙ c .before .if2 .left))
 
 returns-3 : tie.Need-returns-3
-returns-3 c = let g = c .before .before .before .before .before .before .args in
-    let w = sym (c .before .before .before .before .before .well-formed .ensures) ∙ not-false _ (c .before .before .before .before .if1 .left) in
-    let n = c .before .before .before .read-refusal in
-    let h = c .before .tile-head in
-    let i = c .tile-members in
-    read-accepted g.floor g.tile (h .result) (i .result) (formed g.floor (readTests (view g.floor) g.tile) (n .result) w (n .ensures) ∙ c .before .before .if2 .left) (h .ensures) (i .ensures)
+returns-3 c =
+    let h = c .before in
+    let n = h .before .before .read-refusal in
+    let w = well (h .before .before .before) in
+    read-accepted _ _ (h .tile-head .result) (c .tile-members .result) (formed _ _ (n .result) w (n .ensures) ∙ h .before .if2 .left) (h .tile-head .ensures) (c .tile-members .ensures)
 
 pub read-spec : {M : Type 1} → statement M
 read-spec =

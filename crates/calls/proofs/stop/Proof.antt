@@ -1,8 +1,8 @@
-use mathlib.Core.Path.{refl, sym, _∙_}
+use mathlib.Core.Path.{_≡_, refl, sym, _∙_}
+use mathlib.Core.Bool.{true}
 use borrow.Author.Tests.{not-true, not-false}
-use Rattle.floor.specs.Model.{tileOf, withTile}
-use Rattle.floor.specs.Memory.{view}
-use Rattle.floor.specs.Calls.{stopAnswer, stopTests, stopped}
+use Rattle.floor.specs.Well.{wellFormed}
+use Rattle.floor.specs.Calls.{stopAnswer}
 use Rattle.floor.proofs.Answers.{answer-malformed, answer-refused, answer-accepted}
 use borrow.Author.Needs.{needs}
 use Rattle.calls.proofs.stop.Statement.{statement}
@@ -18,33 +18,27 @@ well-formed-requires c κs = search needs
 
 returns : tie.Need-returns
 unfolding stopAnswer
-returns c = let g = c .before .before .args in
-    let w = sym (c .before .well-formed .ensures) ∙ not-true _ (c .if1 .taken) in
-    answer-malformed g.floor (stopTests (view g.floor) g.tile) (withTile (view g.floor) g.tile (stopped (tileOf (view g.floor) g.tile))) w
+returns c = answer-malformed _ _ _ (sym (c .before .well-formed .ensures) ∙ not-true _ (c .if1 .taken))
+
+-- behind the first test the floor is well formed
+well : (c : tie.Else1) → wellFormed (c .before .before .args .floor) ≡ true
+well c = sym (c .before .well-formed .ensures) ∙ not-false _ (c .if1 .left)
 
 stop-refusal-requires : tie.Need-stop-refusal-requires
-stop-refusal-requires c κs = sym (c .before .well-formed .ensures) ∙ not-false _ (c .if1 .left)
+stop-refusal-requires c κs = well c
 
 returns-2 : tie.Need-returns-2
 unfolding stopAnswer
-returns-2 c = let g = c .before .before .before .before .args in
-    let w = sym (c .before .before .before .well-formed .ensures) ∙ not-false _ (c .before .before .if1 .left) in
-    let n = c .before .stop-refusal in
-    answer-refused g.floor (stopTests (view g.floor) g.tile) (withTile (view g.floor) g.tile (stopped (tileOf (view g.floor) g.tile))) w (n .result) (n .ensures) (c .if2 .taken)
+returns-2 c = answer-refused _ _ _ (well (c .before .before)) (c .before .stop-refusal .result) (c .before .stop-refusal .ensures) (c .if2 .taken)
 
 stopped-floor-requires : tie.Need-stopped-floor-requires
-stopped-floor-requires c κs = let g = c .before .before .before .before .args in
-    let w = sym (c .before .before .before .well-formed .ensures) ∙ not-false _ (c .before .before .if1 .left) in
-    let n = c .before .stop-refusal in
-    (w, sym (n .ensures) ∙ c .if2 .left)
+stopped-floor-requires c κs = (well (c .before .before), sym (c .before .stop-refusal .ensures) ∙ c .if2 .left)
 
 returns-3 : tie.Need-returns-3
 unfolding stopAnswer
-returns-3 c = let g = c .before .before .before .before .before .args in
-    let w = sym (c .before .before .before .before .well-formed .ensures) ∙ not-false _ (c .before .before .before .if1 .left) in
+returns-3 c =
     let n = c .before .before .stop-refusal in
-    let a = c .stopped-floor in
-    answer-accepted g.floor (stopTests (view g.floor) g.tile) (withTile (view g.floor) g.tile (stopped (tileOf (view g.floor) g.tile))) w 0 (sym (c .before .if2 .left) ∙ n .ensures) refl (a .result) (a .ensures)
+    answer-accepted _ _ _ (well (c .before .before .before)) 0 (sym (c .before .if2 .left) ∙ n .ensures) refl (c .stopped-floor .result) (c .stopped-floor .ensures)
 
 pub stop-spec : {M : Type 1} → statement M
 stop-spec =
