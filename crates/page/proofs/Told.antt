@@ -47,22 +47,24 @@ put-front-is : (s t xs : List ℕ) (k : ℕ) → k ≡ length xs → t ≡ put s
 unfolding put
 put-front-is s t xs k e p = rw (p, e) (take-append-seam xs (drop (0 + length xs) s))
 
--- ---- what the code made of the answer r: the line of a refusal, or the page
-module _ (xs s t : List ℕ) (r : Answer) (e : r ≡ loadAnswer xs) where
-  pub tell-refused : (l : List ℕ) (k : ℕ) → r .refusal ≢ 0 → k ≤ length l → take k l ≡ refusedText (r .refusal) → t ≡ put s 0 (take k l) → take k t ≡ printed xs
+-- ---- what the code made of the answer r: the line of a refusal, or the page; t is the text s after it
+module _ (xs s t : List ℕ) (r : Answer) (e : r ≡ loadAnswer xs) (room : 528 ≤ length s) (kept : length t ≡ length s) where
+  pub tell-refused : (l : List ℕ) (k : ℕ) → r .refusal ≢ 0 → length l ≡ 11 → (k ≤ 11) × (take k l ≡ refusedText (r .refusal)) → t ≡ put s 0 (take k l)
+      → (k ≤ length t) × (take k t ≡ printed xs)
   unfolding printed
   tell-refused l k n h q p =
+      let few = q .0 in
       let d : eqb (loadAnswer xs .refusal) 0 ≡ false = rw e at (ne-eqb (r .refusal) 0 n) in
-      put-front-is s t (take k l) k (sym (length-take-le k l h)) p ∙ q ∙ rw (e, d)
+      (omega arith, put-front-is s t (take k l) k (sym (length-take-le k l (omega arith))) p ∙ q .1 ∙ rw (e, d))
 
-  pub tell-page : (w : Written) → r .refusal ≡ 0 → 528 ≤ length s → w ≡ pageAnswer (r .floor) (length s) → t ≡ paged (r .floor) s
-      → (w .length ≤ length s) × (take (w .length) t ≡ printed xs)
+  pub tell-page : (w : Written) → r .refusal ≡ 0 → (w ≡ pageAnswer (r .floor) (length s)) × (t ≡ paged (r .floor) s)
+      → (w .length ≤ length t) × (take (w .length) t ≡ printed xs)
   unfolding printed
-  tell-page w z room q p =
+  tell-page w z q =
       let f = r .floor in
       let well : wellFormed f ≡ true = rw e (loaded-well xs (ap (λ (a : Answer). a .refusal) (sym e) ∙ z)) in
       let h : length (page (view f)) ≤ length s = omega (arith, page-size f well, page-small f well) in
       let whole = page-whole f s well h in
-      let n : w .length ≡ length (page (view f)) = ap (λ (a : Written). a .length) (q ∙ sym (whole .0)) in
+      let n : w .length ≡ length (page (view f)) = ap (λ (a : Written). a .length) (q .0 ∙ sym (whole .0)) in
       let d : eqb (loadAnswer xs .refusal) 0 ≡ true = rw e at (eq-eqb (r .refusal) 0 z) in
-      (omega (arith, n, h), put-front-is s t (page (view f)) (w .length) n (p ∙ sym (whole .1)) ∙ rw (e, d))
+      (omega (arith, n, h), put-front-is s t (page (view f)) (w .length) n (q .1 ∙ sym (whole .1)) ∙ rw (e, d))

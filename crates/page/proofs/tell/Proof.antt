@@ -25,13 +25,17 @@ put-front-requires c κs = search needs
 same-length : tie.Need-same-length
 same-length c = search needs
 
+line-length : (c : tie.After-refused) → length (c .refused .result .bytes) ≡ 11
+line-length c = sym (length-map (c .refused .result .bytes) (u8-field .into)) ∙ c .refused .ok .1 .1 .0 .1 .0 .1
+
 returns : tie.Need-returns
 returns c =
-    let g = c .before .before .before .before .before .before .before .before .before .before .before .args in
-    let b = c .before .before .before .before .before .refused in
-    let f = c .before .before .put-front in
-    let k : length (b .result .bytes) ≡ 11 = sym (length-map (b .result .bytes) (u8-field .into)) ∙ b .ok .1 .1 .0 .1 .0 .1 in
-    (omega (arith, b .ensures .0, f .kept .0, c .before .before .before .before .before .before .before .before .before .before .before .pre), tell-refused (g.bytes .now) (g.text .now) (f .last .0) (c .before .before .before .before .before .before .before .before .load .result) (c .before .before .before .before .before .before .before .before .load .ensures) (b .result .bytes) (b .result .length) (c .before .before .before .before .before .before .if1 .taken) (omega (arith, k, b .ensures .0)) (b .ensures .1) (f .ensures))
+    let p = c .before .before in
+    let b = p .before .before .before in
+    let t = b .before in
+    let r = t .before .before in
+    let g = r .before .before .before in
+    tell-refused (g .args .bytes .now) (g .args .text .now) (p .put-front .last .0) (r .load .result) (r .load .ensures) (g .pre) (omega (arith, p .put-front .kept .0)) _ _ (t .if1 .taken) (line-length b) (b .refused .ensures) (p .put-front .ensures)
 
 page-requires : tie.Need-page-requires
 page-requires c κs = search needs
@@ -44,10 +48,11 @@ same-length-2 c = search needs
 
 returns-2 : tie.Need-returns-2
 returns-2 c =
-    let g = c .before .before .before .before .before .before .before .before .before .before .before .args in
-    let w = c .before .before .before .page in
-    let p = tell-page (g.bytes .now) (g.text .now) (w .last .1 .0) (c .before .before .before .before .before .before .before .before .load .result) (c .before .before .before .before .before .before .before .before .load .ensures) (w .result) (c .before .before .before .before .before .before .if1 .left) (c .before .before .before .before .before .before .before .before .before .before .before .pre) (w .ensures .0) (w .ensures .1) in
-    (omega (arith, p .0, w .kept), p .1)
+    let w = c .before .before .before in
+    let t = w .before .before .before in
+    let r = t .before .before in
+    let g = r .before .before .before in
+    tell-page (g .args .bytes .now) (g .args .text .now) (w .page .last .1 .0) (r .load .result) (r .load .ensures) (g .pre) (omega (arith, w .page .kept)) (w .page .result) (t .if1 .left) (w .page .ensures)
 
 pub tell-spec : {M : Type 1} → statement M
 tell-spec =
