@@ -112,33 +112,45 @@ unfolding numberOf hasSome numberAfter
 number-start [] h = absurd (omega arith)
 number-start (b ∷ s) h = refl
 
-module _ (s : List ℕ) (i n b : ℕ) (h : i < length s) (e : b ≡ getD s i 0) where
-  starts : drop i s ≡ b ∷ drop (i + 1) s
-  starts = rw e (from-place s i h)
-
-  pub number-turn : 48 ≤ b → b ≤ 57 → numberAfter n (drop i s) ≡ numberAfter (10 * n + (b - 48)) (drop (i + 1) s)
-  unfolding numberAfter onlyDigits valueAfter
-  number-turn lo hi = rw (starts, le-leb 48 b lo, le-leb b 57 hi)
-
-  pub number-low : b < 48 → numberAfter n (drop i s) ≡ Unreadable
-  unfolding numberAfter onlyDigits valueIf
-  number-low lo = rw (starts, lt-leb 48 b lo)
-
-  pub number-high : 57 < b → numberAfter n (drop i s) ≡ Unreadable
-  unfolding numberAfter onlyDigits valueIf
-  number-high hi = rw (starts, lt-leb b 57 hi, and-false (leb 48 b))
-
 value-grows : (n : ℕ) (s : List ℕ) → n ≤ valueAfter n s
 unfolding valueAfter
 value-grows n [] = omega arith
 value-grows n (b ∷ s) = omega (arith, value-grows (10 * n + (b - 48)) s)
 
-pub number-over : (n : ℕ) (s : List ℕ) → 4294967295 < n → numberAfter n s ≡ Unreadable
+over-is : (n : ℕ) (s : List ℕ) → 4294967295 < n → numberAfter n s ≡ Unreadable
 unfolding numberAfter valueIf
-number-over n s h =
+over-is n s h =
     let k : 4294967295 < valueAfter n s = omega (arith, value-grows n s) in
     rw (lt-leb (valueAfter n s) 4294967295 k, and-false (onlyDigits s))
 
-pub number-whole : (s : List ℕ) (i n : ℕ) → length s ≤ i → n ≤ 4294967295 → numberAfter n (drop i s) ≡ Value n
+-- n is the number of the digits before i, b the byte at i
+module _ (s : List ℕ) (i n b : ℕ) (value : numberOf s ≡ numberAfter n (drop i s)) (h : i < length s) (e : b ≡ getD s i 0) where
+  starts : drop i s ≡ b ∷ drop (i + 1) s
+  starts = rw e (from-place s i h)
+
+  pub number-turn : 48 ≤ b → b ≤ 57 → numberOf s ≡ numberAfter (10 * n + (b - 48)) (drop (i + 1) s)
+  unfolding numberAfter onlyDigits valueAfter
+  number-turn lo hi =
+      let one : numberAfter n (drop i s) ≡ numberAfter (10 * n + (b - 48)) (drop (i + 1) s) = rw (starts, le-leb 48 b lo, le-leb b 57 hi) in
+      value ∙ one
+
+  pub number-low : b < 48 → Unreadable ≡ numberOf s
+  unfolding numberAfter onlyDigits valueIf
+  number-low lo =
+      let one : numberAfter n (drop i s) ≡ Unreadable = rw (starts, lt-leb 48 b lo) in
+      sym (value ∙ one)
+
+  pub number-high : 57 < b → Unreadable ≡ numberOf s
+  unfolding numberAfter onlyDigits valueIf
+  number-high hi =
+      let one : numberAfter n (drop i s) ≡ Unreadable = rw (starts, lt-leb b 57 hi, and-false (leb 48 b)) in
+      sym (value ∙ one)
+
+  pub number-over : 48 ≤ b → b ≤ 57 → 4294967295 < 10 * n + (b - 48) → Unreadable ≡ numberOf s
+  number-over lo hi k = sym (number-turn lo hi ∙ over-is (10 * n + (b - 48)) (drop (i + 1) s) k)
+
+pub number-whole : (s : List ℕ) (i n : ℕ) → numberOf s ≡ numberAfter n (drop i s) → length s ≤ i → n ≤ 4294967295 → Value n ≡ numberOf s
 unfolding numberAfter onlyDigits valueAfter valueIf
-number-whole s i n h le = rw (from-end s i h, le-leb n 4294967295 le)
+number-whole s i n value h le =
+    let one : numberAfter n (drop i s) ≡ Value n = rw (from-end s i h, le-leb n 4294967295 le) in
+    sym (value ∙ one)

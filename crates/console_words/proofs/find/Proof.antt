@@ -1,8 +1,7 @@
-use mathlib.Core.Path.{_≡_}
-use Prim.Native.Nat.{ℕ, _-_, _≤_, _<_}
-use native.Mathlib.Omega.{arith}
-use lib.ListN.{length, getD}
+use Prim.Native.Nat.{_-_}
+use lib.ListN.{length}
 use Rattle.console_words.proofs.Text.{between-more}
+use Rattle.console_words.proofs.Loops.{NotFound}
 use borrow.Author.Needs.{needs}
 use Rattle.console_words.proofs.find.Statement.{statement}
 use Rattle.console_words.proofs.find.Tie as tie
@@ -10,7 +9,7 @@ use Rattle.console_words.proofs.find.Reads as reads
 use Rattle.console_words.proofs.find.Lts as lts
 
 abbrev Inv-loop : tie.InvT-loop
-Inv-loop s at b i₀ i = (at ≤ i) × (i ≤ length s) × ((k : ℕ) → at ≤ k → k < i → getD s k 0 ≡ b → ⊥)
+Inv-loop s at b i₀ i = NotFound s at b i
 
 abbrev μ-loop : tie.MeasureT-loop
 μ-loop s at b i₀ i = length s - i
@@ -31,7 +30,7 @@ loop-less : tie.Need-loop-less Inv-loop μ-loop
 loop-less c = search needs
 
 loop-again : tie.Need-loop-again Inv-loop μ-loop
-loop-again c = let l = c .before .before .before .loop in (omega arith, omega arith, between-more (c .before .before .before .before .args .s .now) _ _ _ (l .inv .2) (c .if1 .left))
+loop-again c = search (between-more, needs)
 
 returns-2 : tie.Need-returns-2 Inv-loop μ-loop
 returns-2 c = search needs

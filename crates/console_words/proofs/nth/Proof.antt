@@ -1,9 +1,6 @@
-use mathlib.Core.Path.{_≡_, refl}
-use Prim.Native.Nat.{_-_, _≤_}
 use native.Mathlib.Omega.{arith}
-use lib.ListN.{length, drop}
-use Rattle.console_words.specs.Text.{nthWord}
 use Rattle.console_words.proofs.Text.{nth-turn, nth-here}
+use Rattle.console_words.proofs.Loops.{WordsPassed}
 use borrow.Author.Needs.{needs}
 use Rattle.console_words.proofs.nth.Statement.{statement}
 use Rattle.console_words.proofs.nth.Tie as tie
@@ -13,7 +10,7 @@ use Rattle.console_words.proofs.skip_blanks.Reads as skip-blanks-reads
 use Rattle.console_words.proofs.word_end.Reads as word-end-reads
 
 abbrev Inv-loop : tie.InvT-loop
-Inv-loop s k at₀ left₀ at left = (at ≤ length s) × (nthWord left (drop at s) ≡ nthWord k s)
+Inv-loop s k at₀ left₀ at left = WordsPassed s k at left
 
 abbrev μ-loop : tie.MeasureT-loop
 μ-loop s k at₀ left₀ at left = left
@@ -34,7 +31,7 @@ loop-less : tie.Need-loop-less Inv-loop μ-loop
 loop-less c = search needs
 
 loop-again : tie.Need-loop-again Inv-loop μ-loop
-loop-again c = let s = c .before .before .before .before .before .args .s .now in let l = c .before .before .before .loop in let b = c .before .skip-blanks in let w = c .word-end in (w .ensures .1, nth-turn s (l .at) (b .result) (w .result) (l .left - 1) (l .left) _ (omega arith) refl (b .ensures .2) (w .ensures .2) (l .inv .1))
+loop-again c = search (nth-turn, needs)
 
 skip-blanks-requires-2 : tie.Need-skip-blanks-requires-2 Inv-loop μ-loop
 skip-blanks-requires-2 c κs = search needs
@@ -43,7 +40,11 @@ word-end-requires-2 : tie.Need-word-end-requires-2 Inv-loop μ-loop
 word-end-requires-2 c κs = search needs
 
 returns : tie.Need-returns Inv-loop μ-loop
-returns c = let s = c .before .before .before .before .before .args .s .now in let l = c .before .before .before .loop in let b = c .before .skip-blanks2 in let w = c .word-end2 in (w .ensures .0, w .ensures .1, nth-here s (l .at) (b .result) (l .left) _ _ (omega arith) (b .ensures .2) (w .ensures .3) (l .inv .1))
+returns c =
+    let l = c .before .before .before .loop in
+    let b = c .before .skip-blanks2 in
+    let w = c .word-end2 in
+    (w .ensures .0, w .ensures .1, nth-here _ (l .at) (b .result) (l .left) _ _ (omega arith) (b .ensures .2) (w .ensures .3) (l .inv .rest))
 
 pub nth-spec : {M : Type 1} → statement M
 nth-spec =

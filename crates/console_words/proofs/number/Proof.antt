@@ -1,7 +1,6 @@
-use mathlib.Core.Path.{sym, _∙_}
-use Prim.Native.Nat.{_+_, _*_, _-_}
+use Prim.Native.Nat.{_-_}
 use native.Mathlib.Omega.{arith}
-use lib.ListN.{length, drop}
+use lib.ListN.{length}
 use Rattle.console_words.proofs.Text.{number-none, number-start, number-turn, number-low, number-high, number-over, number-whole}
 use Rattle.console_words.proofs.Loops.{DigitsRead}
 use borrow.Author.Needs.{needs}
@@ -18,7 +17,7 @@ abbrev μ-loop : tie.MeasureT-loop
 μ-loop s n₀ i₀ n i = length s - i
 
 returns : tie.Need-returns Inv-loop μ-loop
-returns c = number-none (c .before .before .args .s .now) (c .if1 .taken)
+returns c = search (number-none, needs)
 
 loop-holds : tie.Need-loop-holds Inv-loop μ-loop
 loop-holds c = record {
@@ -34,18 +33,10 @@ wide-requires : tie.Need-wide-requires Inv-loop μ-loop
 wide-requires c κs = search needs
 
 returns-2 : tie.Need-returns-2 Inv-loop μ-loop
-returns-2 c =
-    let s = c .before .before .before .before .before .before .before .args .s .now in
-    let l = c .before .before .before .before .loop in
-    let w = c .before .wide in
-    sym (l .inv .value ∙ number-low s (l .i) (l .n) (w .result) (omega arith) (w .ensures) (c .if2 .taken))
+returns-2 c = search (number-low, needs)
 
 returns-3 : tie.Need-returns-3 Inv-loop μ-loop
-returns-3 c =
-    let s = c .before .before .before .before .before .before .before .before .args .s .now in
-    let l = c .before .before .before .before .before .loop in
-    let w = c .before .before .wide in
-    sym (l .inv .value ∙ number-high s (l .i) (l .n) (w .result) (omega arith) (w .ensures) (c .if3 .taken))
+returns-3 c = search (number-high, needs)
 
 mul-n : tie.Need-mul-n Inv-loop μ-loop
 mul-n c = search needs
@@ -54,11 +45,7 @@ add-n : tie.Need-add-n Inv-loop μ-loop
 add-n c = search needs
 
 returns-4 : tie.Need-returns-4 Inv-loop μ-loop
-returns-4 c =
-    let s = c .before .before .before .before .before .before .before .before .before .args .s .now in
-    let l = c .before .before .before .before .before .before .loop in
-    let w = c .before .before .before .wide in
-    sym (l .inv .value ∙ number-turn s (l .i) (l .n) (w .result) (omega arith) (w .ensures) (omega arith) (omega arith) ∙ number-over (10 * (l .n) + (w .result - 48)) (drop (l .i + 1) s) (c .if4 .taken))
+returns-4 c = search (number-over, needs)
 
 add-i : tie.Need-add-i Inv-loop μ-loop
 add-i c = search needs
@@ -67,24 +54,13 @@ loop-less : tie.Need-loop-less Inv-loop μ-loop
 loop-less c = search needs
 
 loop-again : tie.Need-loop-again Inv-loop μ-loop
-loop-again c =
-    let s = c .before .before .before .before .before .before .before .before .before .args .s .now in
-    let l = c .before .before .before .before .before .before .loop in
-    let w = c .before .before .before .wide in
-    record {
-      below = omega arith;
-      small = c .if4 .left;
-      value = l .inv .value ∙ number-turn s (l .i) (l .n) (w .result) (omega arith) (w .ensures) (omega arith) (omega arith);
-    }
+loop-again c = search (number-turn, needs)
 
 cast-t13 : tie.Need-cast-t13 Inv-loop μ-loop
 cast-t13 c = search needs
 
 returns-5 : tie.Need-returns-5 Inv-loop μ-loop
-returns-5 c =
-    let s = c .before .before .before .before .args .s .now in
-    let l = c .before .loop in
-    sym (l .inv .value ∙ number-whole s (l .i) (l .n) (omega arith) (omega arith))
+returns-5 c = search (number-whole, needs)
 
 pub number-spec : {M : Type 1} → statement M
 number-spec =

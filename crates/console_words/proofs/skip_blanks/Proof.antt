@@ -24,9 +24,8 @@ shared-slice-read-if1 c = search needs
 
 returns : tie.Need-returns Inv-loop μ-loop
 returns c =
-    let g = c .before .before .before .before .args in
     let l = c .before .before .before .loop in
-    (omega arith, omega arith, blanks-stop (g .s .now) (l .i) (omega arith) (c .if1 .taken) ∙ l .inv .rest)
+    (omega arith, omega arith, blanks-stop _ (l .i) (omega arith) (c .if1 .taken) ∙ l .inv .rest)
 
 add-i : tie.Need-add-i Inv-loop μ-loop
 add-i c = search needs
@@ -36,19 +35,17 @@ loop-less c = search needs
 
 loop-again : tie.Need-loop-again Inv-loop μ-loop
 loop-again c =
-    let g = c .before .before .before .before .args in
     let l = c .before .before .before .loop in
     record {
       begun = omega arith;
       below = omega arith;
-      rest = blanks-turn (g .s .now) (l .i) (omega arith) (c .if1 .left) ∙ l .inv .rest;
+      rest = blanks-turn _ (l .i) (omega arith) (c .if1 .left) ∙ l .inv .rest;
     }
 
 returns-2 : tie.Need-returns-2 Inv-loop μ-loop
 returns-2 c =
-    let g = c .before .before .args in
     let l = c .before .loop in
-    (omega arith, omega arith, blanks-end (g .s .now) (l .i) (c .loop-test .left) ∙ l .inv .rest)
+    (omega arith, omega arith, blanks-end _ (l .i) (c .loop-test .left) ∙ l .inv .rest)
 
 pub skip-blanks-spec : {M : Type 1} → statement M
 skip-blanks-spec =

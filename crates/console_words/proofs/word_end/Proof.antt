@@ -29,9 +29,8 @@ shared-slice-read-if1 c = search needs
 
 returns : tie.Need-returns Inv-loop μ-loop
 returns c =
-    let g = c .before .before .before .before .args in
     let l = c .before .before .before .loop in
-    (omega arith, omega arith, after-stop (g .s .now) (l .i) (omega arith) (c .if1 .taken) ∙ l .inv .rest, word-whole _ _ _ (l .inv .whole) (word-stop (g .s .now) (l .i) (omega arith) (c .if1 .taken)))
+    (omega arith, omega arith, after-stop _ (l .i) (omega arith) (c .if1 .taken) ∙ l .inv .rest, word-whole _ _ _ (l .inv .whole) (word-stop _ (l .i) (omega arith) (c .if1 .taken)))
 
 add-i : tie.Need-add-i Inv-loop μ-loop
 add-i c = search needs
@@ -41,20 +40,18 @@ loop-less c = search needs
 
 loop-again : tie.Need-loop-again Inv-loop μ-loop
 loop-again c =
-    let g = c .before .before .before .before .args in
     let l = c .before .before .before .loop in
     record {
       begun = omega arith;
       below = omega arith;
-      rest = after-turn (g .s .now) (l .i) (omega arith) (c .if1 .left) ∙ l .inv .rest;
-      whole = word-turn (g .s .now) (g .at) (l .i) (omega arith) (omega arith) (c .if1 .left) (l .inv .whole);
+      rest = after-turn _ (l .i) (omega arith) (c .if1 .left) ∙ l .inv .rest;
+      whole = word-turn _ _ (l .i) (omega arith) (omega arith) (c .if1 .left) (l .inv .whole);
     }
 
 returns-2 : tie.Need-returns-2 Inv-loop μ-loop
 returns-2 c =
-    let g = c .before .before .args in
     let l = c .before .loop in
-    (omega arith, omega arith, after-end (g .s .now) (l .i) (c .loop-test .left) ∙ l .inv .rest, word-whole _ _ _ (l .inv .whole) (word-end (g .s .now) (l .i) (c .loop-test .left)))
+    (omega arith, omega arith, after-end _ (l .i) (c .loop-test .left) ∙ l .inv .rest, word-whole _ _ _ (l .inv .whole) (word-end _ (l .i) (c .loop-test .left)))
 
 pub word-end-spec : {M : Type 1} → statement M
 word-end-spec =
