@@ -75,10 +75,13 @@ loop-less c = search needs
 
 loop-again : tie.Need-loop-again Inv-loop μ-loop
 loop-again c =
-    let l = c .before .before .before .before .before .before .loop in
-    let p = c .before .before .before .before .before .before .before .before .args .t1 in
+    let b = c .before in
+    let r = b .before .before in
+    let o = r .before .before .before in
+    let l = o .loop in
+    let p = o .before .before .args .t1 in
     let x = entryAt (p .entries) (l .k) in
-    let one = order-code (used p) x (c .waits .ensures) (l .inv .tabled (x .first) (omega arith)) (l .inv .tabled (x .second) (omega arith)) (c .before .both .ensures) in
+    let one = order-code (used p) x (c .waits .ensures) (l .inv .tabled (x .first) (omega arith)) (l .inv .tabled (x .second) (omega arith)) (b .both .ensures) in
     record {
       below = omega arith;
       few = l .inv .few;

@@ -66,8 +66,9 @@ loop2-less c = search needs
 loop2-again : tie.Need-loop2-again Inv-loop2 μ-loop2 Inv-loop μ-loop
 loop2-again c =
     let l = c .before .loop2 in
-    let o = c .before .before .before .loop in
-    let g = c .before .before .before .before .args in
+    let b = c .before .before .before in
+    let o = b .loop in
+    let g = b .before .args in
     record {
       below = omega arith;
       here = l .inv .here;
@@ -85,8 +86,9 @@ loop-less c = search needs
 loop-again : tie.Need-loop-again Inv-loop2 μ-loop2 Inv-loop μ-loop
 loop-again c =
     let l = c .before .loop2 in
-    let o = c .before .before .before .loop in
-    let g = c .before .before .before .before .args in
+    let b = c .before .before .before in
+    let o = b .loop in
+    let g = b .before .args in
     let e = ended (λ (i : ℕ). pairsOf (λ x y. not (eqb x y)) (take (o .j) g.t1) && allOf (λ x. not (eqb x (getD g.t1 (o .j) 0))) (take i g.t1)) (omega arith) (l .inv .below) (l .inv .apart) in
     record {
       below = omega arith;

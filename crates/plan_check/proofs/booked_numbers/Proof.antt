@@ -57,8 +57,7 @@ loop-less c = search needs
 loop-again : tie.Need-loop-again Inv-loop μ-loop
 loop-again c =
     let l = c .before .before .before .loop in
-    let es = c .before .before .before .before .args .t1 .entries in
-    let t = held-turn es (l .k) (l .m) (c .counted .result) (l .items) (omega arith) (omega arith) (c .counted .ensures) (l .inv .gathered) in
+    let t = held-turn _ (l .k) (l .m) (c .counted .result) (l .items) (omega arith) (omega arith) (c .counted .ensures) (l .inv .gathered) in
     record {
       below = omega arith;
       few = l .inv .few;

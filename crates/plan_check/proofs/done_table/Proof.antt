@@ -58,14 +58,14 @@ loop-less c = search needs
 
 loop-again : tie.Need-loop-again Inv-loop μ-loop
 loop-again c =
-    let l = c .before .before .before .before .loop in
-    let es = c .before .before .before .before .before .args .t1 .entries in
+    let b = c .before in
+    let l = b .before .before .before .loop in
     record {
       below = omega arith;
       few = l .inv .few;
       entries-length = l .inv .entries-length;
       table-length = simp length-set (l .inv .table-length);
-      tabled = done-turn es (l .k) (l .table) (omega arith) (l .inv .table-length) (omega arith) refl (c .was-delivered .ensures) (l .inv .tabled);
+      tabled = done-turn _ (l .k) (l .table) (omega arith) (l .inv .table-length) (omega arith) refl (c .was-delivered .ensures) (l .inv .tabled);
     }
 
 returns : tie.Need-returns Inv-loop μ-loop

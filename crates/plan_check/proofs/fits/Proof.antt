@@ -71,8 +71,10 @@ loop-less c = search needs
 
 loop-again : tie.Need-loop-again Inv-loop μ-loop
 loop-again c =
-    let l = c .before .before .before .before .before .loop in
-    let p = c .before .before .before .before .before .before .before .before .args .t1 in
+    let r = c .before .before in
+    let o = r .before .before .before in
+    let l = o .loop in
+    let p = o .before .before .before .args .t1 in
     let x = entryAt (p .entries) (l .k) in
     let one = fits-code (used p) x (l .inv .tabled (x .first) (omega arith)) (l .inv .tabled (x .second) (omega arith)) (c .entry-fits .ensures) in
     record {
@@ -87,10 +89,12 @@ loop-again c =
 returns : tie.Need-returns Inv-loop μ-loop
 unfolding planFits
 returns c =
-    let l = c .before .before .loop in
-    let p = c .before .before .before .before .before .args .t1 in
+    let o = c .before .before in
+    let l = o .loop in
+    let t = o .before .before in
+    let p = t .before .args .t1 in
     let e = ended (λ (k : ℕ). allOf (entryFits (used p)) (take k (p .entries))) (omega arith) (l .inv .below) (l .inv .tested) in
-    rw (e, c .before .before .before .before .labels-in .ensures .1)
+    rw (e, t .labels-in .ensures .1)
 
 pub fits-spec : {M : Type 1} → statement M
 fits-spec =

@@ -58,14 +58,13 @@ loop-less c = search needs
 loop-again : tie.Need-loop-again Inv-loop μ-loop
 loop-again c =
     let l = c .before .before .before .loop in
-    let es = c .before .before .before .before .args .t1 .entries in
     record {
       below = omega arith;
       few = l .inv .few;
       entries-length = l .inv .entries-length;
       table-length = simp length-set (l .inv .table-length);
-      tabled = present-turn es (l .k) (l .table) (omega arith) (l .inv .table-length) (omega arith) (l .inv .tabled);
-      differ = unlike-turn es (l .k) (l .table) (omega arith) (omega arith) (l .inv .tabled) refl (l .inv .differ);
+      tabled = present-turn _ (l .k) (l .table) (omega arith) (l .inv .table-length) (omega arith) (l .inv .tabled);
+      differ = unlike-turn _ (l .k) (l .table) (omega arith) (omega arith) (l .inv .tabled) refl (l .inv .differ);
     }
 
 returns : tie.Need-returns Inv-loop μ-loop

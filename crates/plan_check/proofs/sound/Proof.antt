@@ -25,8 +25,10 @@ all-differ-requires c κs = search needs
 returns-2 : tie.Need-returns-2
 unfolding planSound
 returns-2 c =
-    let m = c .before .before .booked-numbers in
-    rw (le-leb (c .before .before .before .before .before .before .args .plan .count) 64 (c .before .before .before .before .if1 .left), c .before .before .before .after-predecessors .ensures, c .all-differ .ensures, m .ensures .1)
+    let m = c .before .before in
+    let p = m .before in
+    let s = p .before in
+    rw (le-leb (s .before .before .args .plan .count) 64 (s .if1 .left), p .after-predecessors .ensures, c .all-differ .ensures, m .booked-numbers .ensures .1)
 
 pub sound-spec : {M : Type 1} → statement M
 sound-spec =
