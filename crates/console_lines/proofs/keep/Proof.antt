@@ -37,14 +37,18 @@ same-length c = search needs
 
 returns : tie.Need-returns
 returns c =
-    let g = c .before .before .before .before .before .before .before .before .before .before .args in
-    let k = c .before .before .before .before .before .before .kept-of in
-    let f = c .before .before .to-front in
+    let t = c .before .before in
+    let n = t .before .before in
+    let p = n .before .before in
+    let b = p .before .before in
+    let g = b .before .before .args in
+    let k = p .kept-of in
+    let f = t .to-front in
     let s = g .buf .now in
     let l : length (take (g .end - g .at) (drop (g .at) s)) ≡ g .end - g .at = simp (length-take, length-drop) (omega arith) in
     let h : k .result .from + (k .result .to - k .result .from) ≤ g .end - g .at = omega (arith, l, k .ensures .0, k .ensures .2) in
-    let p = part-of-part s (g .at) (g .end - g .at) (k .result .from) (k .result .to - k .result .from) h in
-    (omega (arith, k .ensures .1), omega (arith, h), rw (f .ensures) (rw p at (k .ensures .3)))
+    let q = part-of-part s (g .at) (g .end - g .at) (k .result .from) (k .result .to - k .result .from) h in
+    (omega (arith, k .ensures .1), omega (arith, h), rw (f .ensures) (rw q at (k .ensures .3)))
 
 pub keep-spec : {M : Type 1} → statement M
 keep-spec =

@@ -1,6 +1,4 @@
 use mathlib.Core.Path.{refl}
-use Prim.Native.Nat.{_-_}
-use lib.ListN.{length}
 use native.Mathlib.Omega.{arith}
 use Rattle.console_lines.proofs.Kept.{kept-whole, kept-word, kept-last}
 use borrow.Author.Needs.{needs}
@@ -11,7 +9,7 @@ use Rattle.console_lines.proofs.kept_of.Lts as lts
 use Rattle.console_words.proofs.skip_blanks.Reads as skip-blanks-reads
 
 returns : tie.Need-returns
-returns c = let s = c .before .before .args .line .now in (omega arith, omega arith, omega arith, kept-whole s (omega arith))
+returns c = (omega arith, omega arith, omega arith, kept-whole _ (omega arith))
 
 skip-blanks-requires : tie.Need-skip-blanks-requires
 skip-blanks-requires c κs = search needs
@@ -23,10 +21,14 @@ add-t7 : tie.Need-add-t7
 add-t7 c = search needs
 
 returns-2 : tie.Need-returns-2
-returns-2 c = let s = c .before .before .before .before .args .line .now in let b = c .before .skip-blanks in (omega arith, omega arith, omega arith, kept-word s (b .result) (b .ensures .2) (omega arith) (omega arith))
+returns-2 c =
+    let b = c .before .skip-blanks in
+    (omega arith, omega arith, omega arith, kept-word _ (b .result) (b .ensures .2) (omega arith) (omega arith))
 
 returns-3 : tie.Need-returns-3
-returns-3 c = let s = c .before .before .before .before .args .line .now in let b = c .before .skip-blanks in (omega arith, omega arith, omega arith, kept-last s (b .result) (b .ensures .2) (length s - 401) (omega arith) refl (omega arith))
+returns-3 c =
+    let b = c .before .skip-blanks in
+    (omega arith, omega arith, omega arith, kept-last _ (b .result) (b .ensures .2) _ (omega arith) refl (omega arith))
 
 pub kept-of-spec : {M : Type 1} → statement M
 kept-of-spec =

@@ -1,7 +1,8 @@
 use mathlib.Core.Path.{_≡_}
-use Prim.Native.Nat.{_-_, _≤_}
+use Prim.Native.Nat.{_-_}
 use native.Mathlib.Omega.{arith}
-use Rattle.console_lines.proofs.Kept.{Moved, moved-none, moved-one}
+use Rattle.console_lines.proofs.Kept.{moved-none, moved-one}
+use Rattle.console_lines.proofs.Loops.{FrontMoved}
 use borrow.Author.Needs.{needs}
 use Rattle.console_lines.proofs.to_front.Statement.{statement}
 use Rattle.console_lines.proofs.to_front.Tie as tie
@@ -9,13 +10,13 @@ use Rattle.console_lines.proofs.to_front.Reads as reads
 use Rattle.console_lines.proofs.to_front.Lts as lts
 
 abbrev Inv-loop : tie.InvT-loop
-Inv-loop buf₀ from n i₀ buf i = (i ≤ n) × Moved buf₀ from buf i
+Inv-loop buf₀ from n i₀ buf i = FrontMoved buf₀ from n buf i
 
 abbrev μ-loop : tie.MeasureT-loop
 μ-loop buf₀ from n i₀ buf i = n - i
 
 loop-holds : tie.Need-loop-holds Inv-loop μ-loop
-loop-holds c = (omega arith, moved-none (c .args .buf .now) (c .args .from))
+loop-holds c = record { below = omega arith; moved = moved-none _ _ }
 
 add-buf : tie.Need-add-buf Inv-loop μ-loop
 add-buf c = search needs
@@ -33,13 +34,18 @@ loop-less : tie.Need-loop-less Inv-loop μ-loop
 loop-less c = search needs
 
 loop-again : tie.Need-loop-again Inv-loop μ-loop
-loop-again c = let g = c .before .before .before .args in let l = c .before .before .loop in (omega arith, moved-one (g .buf .now) (g .from) (l .buf) (l .i) (omega (arith, l .inv .1 .long)) (l .inv .1))
+loop-again c =
+    let m = c .before .before .loop .inv .moved in
+    record { below = omega arith; moved = moved-one _ _ _ _ (omega (arith, m .long)) m }
 
 same-length : tie.Need-same-length Inv-loop μ-loop
 same-length c = search needs
 
 returns : tie.Need-returns Inv-loop μ-loop
-returns c = let g = c .before .before .args in let l = c .before .loop in let e : l .i ≡ g .n = omega arith in rw e at (l .inv .1 .front)
+returns c =
+    let l = c .before .loop in
+    let e : l .i ≡ c .before .before .args .n = omega arith in
+    rw e at (l .inv .moved .front)
 
 pub to-front-spec : {M : Type 1} → statement M
 to-front-spec =
