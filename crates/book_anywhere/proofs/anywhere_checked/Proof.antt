@@ -38,7 +38,7 @@ abbrev μ-loop2 : tie.MeasureT-loop2
 -- ---- where the sixteen places are read
 module _ (s : tie.After-loop Inv-loop μ-loop Inv-loop2 μ-loop2) where
   abbrev start : tie.Start Inv-loop μ-loop Inv-loop2 μ-loop2
-  start = s .before .before .before .before .before .before
+  start = let t = s .before .before .before in t .before .before .before
 
   abbrev floor : Floor
   floor = start .args .floor
@@ -65,7 +65,10 @@ element-copy-out-old : tie.Need-element-copy-out-old Inv-loop μ-loop Inv-loop2 
 element-copy-out-old c = let s = c .before .before .before in omega (arith, tiles-length (s .args .floor) _ (s .good .0))
 
 loop-holds : tie.Need-loop-holds Inv-loop μ-loop Inv-loop2 μ-loop2
-loop-holds c = let s = c .before .before .before .before in read-none (s .args .floor) (s .args .tile) zeroCanister (sym (s .pre) ∙ c .before .before .before .if1 .taken)
+loop-holds c =
+    let i = c .before .before .before in
+    let s = i .before in
+    read-none (s .args .floor) (s .args .tile) zeroCanister (sym (s .pre) ∙ i .if1 .taken)
 
 mul-items : tie.Need-mul-items Inv-loop μ-loop Inv-loop2 μ-loop2
 mul-items c = search needs
@@ -103,7 +106,10 @@ insert-requires : tie.Need-insert-requires Inv-loop μ-loop Inv-loop2 μ-loop2
 insert-requires c κs = book-ready (own (c .before .before .before)) _ (accepted (c .before))
 
 loop2-holds : tie.Need-loop2-holds Inv-loop μ-loop Inv-loop2 μ-loop2
-loop2-holds c = let m = c .before .insert in put-none _ _ (m .result .items) (own (c .before .before .before .before .before) .well) (items-length (m .result) _ (m .ok))
+loop2-holds c =
+    let m = c .before .insert in
+    let t = c .before .before in
+    put-none _ _ (m .result .items) (own (t .before .before .before) .well) (items-length (m .result) _ (m .ok))
 
 mul-changed : tie.Need-mul-changed Inv-loop μ-loop Inv-loop2 μ-loop2
 mul-changed c = search needs
@@ -142,13 +148,18 @@ element-set-from-changed-2 : tie.Need-element-set-from-changed-2 Inv-loop μ-loo
 element-set-from-changed-2 c = search needs
 
 with-booking-requires : tie.Need-with-booking-requires Inv-loop μ-loop Inv-loop2 μ-loop2
-with-booking-requires c κs = let s = c .before .before .before .before .before .before in book-fits _ _ _ (accepted s) (own (s .before .before) .well)
+with-booking-requires c κs =
+    let z = c .before .before .before in
+    let s = z .before .before .before in
+    book-fits _ _ _ (accepted s) (own (s .before .before) .well)
 
 returns : tie.Need-returns Inv-loop μ-loop Inv-loop2 μ-loop2
 returns c =
-    let l = c .before .before .before .loop2 in
-    let m = c .before .before .before .before .before .insert in
-    let s = c .before .before .before .before .before .before .before in
+    let z = c .before .before .before in
+    let l = z .loop2 in
+    let more = z .before .before in
+    let m = more .insert in
+    let s = more .before .before in
     let g = start (s .before .before) .args in
     let n = s .before .find in
     let p = own (s .before .before) in

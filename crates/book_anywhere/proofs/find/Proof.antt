@@ -22,25 +22,34 @@ cast-find-place : tie.Need-cast-find-place
 cast-find-place c = search needs
 
 find-place-requires : tie.Need-find-place-requires
-find-place-requires c κs = let g = c .before .before .before .before .args in
-    let n = c .before .before .before .book-refusal in
-    let p = c .before .before .before .before .pre in
-    (p .3 (near-on-floor g.s g.last g.tile g.number g.running (take (g.own .count) (g.own .items)) (n .result) (n .ensures) (c .before .before .if1 .left)), p .1, p .2)
+find-place-requires c κs =
+    let i = c .before .before in
+    let S = i .before .before in
+    let g = S .args in
+    let n = i .before .book-refusal in
+    let p = S .pre in
+    (p .3 (near-on-floor g.s g.last g.tile g.number g.running (take (g.own .count) (g.own .items)) (n .result) (n .ensures) (i .if1 .left)), p .1, p .2)
 
 sub-if2 : tie.Need-sub-if2
 sub-if2 c = search needs
 
 returns-2 : tie.Need-returns-2
-returns-2 c = let g = c .before .before .before .before .before .before .before .before .args in
-    let n = c .before .before .before .before .before .before .before .book-refusal in
-    let b = c .before .before .before .find-place .ensures .0 in
-    (none-number g.s g.last g.tile g.number g.running (take (g.own .count) (g.own .items)) (n .result) (n .ensures) (c .before .before .before .before .before .before .if1 .left) (omega (arith, b, c .if2 .taken)), λ h. absurd (omega arith))
+returns-2 c =
+    let f = c .before .before .before in
+    let i = f .before .before .before in
+    let g = i .before .before .args in
+    let n = i .before .book-refusal in
+    let b = f .find-place .ensures .0 in
+    (none-number g.s g.last g.tile g.number g.running (take (g.own .count) (g.own .items)) (n .result) (n .ensures) (i .if1 .left) (omega (arith, b, c .if2 .taken)), λ h. absurd (omega arith))
 
 returns-3 : tie.Need-returns-3
-returns-3 c = let g = c .before .before .before .before .before .before .before .before .args in
-    let n = c .before .before .before .before .before .before .before .book-refusal in
-    let r = c .before .before .before .find-place .ensures in
-    (found-number g.s g.last g.tile g.number g.running (take (g.own .count) (g.own .items)) (n .result) (n .ensures) (c .before .before .before .before .before .before .if1 .left) (omega (arith, r .0, c .if2 .left)), λ _ i. at g.number (r .1 (c .if2 .left) i) (r .0 i))
+returns-3 c =
+    let f = c .before .before .before in
+    let i = f .before .before .before in
+    let g = i .before .before .args in
+    let n = i .before .book-refusal in
+    let r = f .find-place .ensures in
+    (found-number g.s g.last g.tile g.number g.running (take (g.own .count) (g.own .items)) (n .result) (n .ensures) (i .if1 .left) (omega (arith, r .0, c .if2 .left)), λ _ i. at g.number (r .1 (c .if2 .left) i) (r .0 i))
 
 pub find-spec : {M : Type 1} → statement M
 find-spec =
