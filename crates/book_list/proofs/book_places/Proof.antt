@@ -66,8 +66,10 @@ loop-less c = search needs
 
 loop-again : tie.Need-loop-again Inv-loop μ-loop
 loop-again c =
-    let l = c .before .before .before .before .before .loop in
-    let g = c .before .before .before .before .before .before .before .args in
+    let p = c .before .before .before in
+    let o = p .before .before in
+    let l = o .loop in
+    let g = o .before .before .args in
     let r = c .before .before .book-entry in
     let small : l .i < length (g.list) = omega arith in
     let e : r .result ≡ entryOf (floorUpto (l .i) g.floor g.list) (getD (listUpto (l .i) g.floor g.list) (l .i) zeroBooking) =
@@ -87,9 +89,10 @@ answer-of-requires c κs = search needs
 returns : tie.Need-returns Inv-loop μ-loop
 unfolding placesAnswer
 returns c =
-    let l = c .before .before .loop in
-    let g = c .before .before .before .before .args in
-    let b = c .before .before .before .begin-list in
+    let o = c .before .before in
+    let l = o .loop in
+    let g = o .before .before .args in
+    let b = o .before .begin-list in
     let z : l .i ≡ b .result .entries = omega arith in
     let k : l .i ≡ entriesOf g.n = z ∙ ap (λ (x : Begun). x .entries) (b .ensures) in
     let pf : l .now ≡ floorSingly g.floor (take (entriesOf g.n) g.list) = l .inv .floored ∙ ap (λ (j : ℕ). floorUpto j g.floor g.list) k ∙ upto-floor (entriesOf g.n) g.floor g.list in
