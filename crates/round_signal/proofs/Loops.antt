@@ -1,4 +1,4 @@
--- What holds at the heads of Signal's loops: over the tiles; a tile's sixteen places copied; over the tiles again, why each stood.
+-- What holds at the heads of Signal's loops: over the tiles; a tile's sixteen places copied; over the tiles again, why each stood; what each shows.
 -- The first two are loops of `run_round`, so that their turns are laws here.
 use mathlib.Core.Path.{_≡_, refl, sym, ap, _∙_, subst, fun-ext}
 use mathlib.Core.List.{List}
@@ -60,6 +60,13 @@ pub record Reasoned (s : Settings) (tiles : List Tile) (all : ℕ) (turns lacks 
   pub slight : (u : ℕ) → getD lacks u 0 < 2 ^ 16
   pub stood : Filled 64 (M.reasonBy s tiles (λ u. getD turns u 0) (λ u. getD lacks u 0)) 0 i reasons
   pub lacking : Filled 64 (M.lackBy s tiles (λ u. getD turns u 0) (λ u. getD lacks u 0)) 0 i missing
+
+pub record Shown (tiles : List Tile) (all : ℕ) (d : List ℕ) (t : ℕ) : Type 0 where
+  pub below : t ≤ all
+  pub few : all ≤ 64
+  pub tiles-length : length tiles ≡ 64
+  pub shows-length : length d ≡ 65
+  pub shown : Upto 65 (within t (M.shownIn tiles) 0) 0 d
 
 -- ---- the places of tile t
 module _ {tiles : List Tile} {canisters : List Canister} {t : ℕ} {items : List Canister} {k : ℕ} (p : Copied tiles canisters t items k) where

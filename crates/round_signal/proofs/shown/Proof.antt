@@ -1,12 +1,12 @@
-use Prim.Native.Nat.{ℕ, _≤_, _-_}
+use Prim.Native.Nat.{ℕ, _-_}
 use mathlib.Core.Path.{_≡_, refl, ap, _∙_}
 use native.Mathlib.Omega.{arith}
-use lib.ListN.{length, length-set}
-use Rattle.laws.specs.Filled.{Upto}
+use lib.ListN.{length-set}
 use Rattle.floor.specs.Settings.{total}
 use Rattle.round_route.specs.Routed.{within}
 use Rattle.round_route.proofs.Passes.{within-none, within-turn}
 use Rattle.round_signal.specs.Signalling.{shownIn}
+use Rattle.round_signal.proofs.Loops.{Shown}
 use borrow.Author.Needs.{needs}
 use Rattle.round_signal.proofs.shown.Statement.{statement}
 use Rattle.round_signal.proofs.shown.Tie as tie
@@ -16,7 +16,7 @@ use Rattle.floor.proofs.Settings.tile_count.Reads as tile-count-reads
 use Rattle.round_signal.proofs.shown_next.Reads as shown-next-reads
 
 abbrev Inv-loop : tie.InvT-loop
-Inv-loop tiles all d₀ t₀ d t = (t ≤ all) × (all ≤ 64) × (length tiles ≡ 64) × (length d ≡ 65) × Upto 65 (within t (shownIn tiles) 0) 0 d
+Inv-loop tiles all d₀ t₀ d t = Shown tiles all d t
 
 abbrev μ-loop : tie.MeasureT-loop
 μ-loop tiles all d₀ t₀ d t = all - t
@@ -25,7 +25,15 @@ tile-count-requires : tie.Need-tile-count-requires Inv-loop μ-loop
 tile-count-requires c κs = tt
 
 loop-holds : tie.Need-loop-holds Inv-loop μ-loop
-loop-holds c = let s = c .before in (omega arith, rw (c .tile-count .ensures) (s .pre), s .good .1 .0 .1 .0 .1, refl, within-none (shownIn (s .args .t2)) 0 65)
+loop-holds c =
+    let s = c .before in
+    record {
+      below = omega arith;
+      few = rw (c .tile-count .ensures) (s .pre);
+      tiles-length = s .good .1 .0 .1 .0 .1;
+      shows-length = refl;
+      shown = within-none (shownIn (s .args .t2)) 0 65;
+    }
 
 mul-tile : tie.Need-mul-tile Inv-loop μ-loop
 mul-tile c = search needs
@@ -50,14 +58,20 @@ loop-again c =
     let p = c .before .before .before in
     let l = p .loop in
     let g = p .before .before .args in
-    (omega arith, l .inv .1, l .inv .2, simp length-set (l .inv .3), within-turn (shownIn g.t2) 0 (l .d) 65 (l .t) (c .shown-next .result) (omega arith) (c .shown-next .ensures) (l .inv .4))
+    record {
+      below = omega arith;
+      few = l .inv .few;
+      tiles-length = l .inv .tiles-length;
+      shows-length = simp length-set (l .inv .shows-length);
+      shown = within-turn (shownIn g.t2) 0 (l .d) 65 (l .t) (c .shown-next .result) (omega arith) (c .shown-next .ensures) (l .inv .shown);
+    }
 
 returns : tie.Need-returns Inv-loop μ-loop
 returns c =
     let l = c .before .loop in
     let g = c .before .before .before .args in
     let e : l .t ≡ total g.s = omega arith in
-    λ i h. l .inv .4 i h ∙ ap (λ (n : ℕ). within n (shownIn g.t2) 0 i) e
+    λ i h. l .inv .shown i h ∙ ap (λ (n : ℕ). within n (shownIn g.t2) 0 i) e
 
 pub shown-spec : {M : Type 1} → statement M
 shown-spec =
