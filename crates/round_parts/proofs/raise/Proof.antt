@@ -1,14 +1,14 @@
 use mathlib.Core.Path.{_≡_, refl, ap}
-use Prim.Native.Nat.{_≤_, _-_, _+_}
+use Prim.Native.Nat.{_-_, _+_}
 use native.Mathlib.Omega.{arith}
-use lib.ListN.{length, getD, length-set}
+use lib.ListN.{getD, length-set}
 use Rattle.laws.proofs.Lists.{get-same}
-use Rattle.laws.specs.Filled.{Upto}
 use Rattle.laws.proofs.Tables.{upto-turn, filled}
 use Rattle.floor.specs.declared.Delivery.{Delivery}
 use Rattle.floor.specs.Move.{withDelivered}
 use Rattle.floor.specs.Calls.{noDelivery}
 use Rattle.round_parts.proofs.Delivered.{beyond}
+use Rattle.round_parts.proofs.Loops.{Raised}
 use Rattle.floor.proofs.Sized.{delivered-length}
 use borrow.Author.Needs.{needs}
 use Rattle.round_parts.proofs.raise.Statement.{statement}
@@ -17,13 +17,22 @@ use Rattle.round_parts.proofs.raise.Reads as reads
 use Rattle.round_parts.proofs.raise.Lts as lts
 
 abbrev Inv-loop : tie.InvT-loop
-Inv-loop c d old sums₀ k₀ sums k = (k ≤ 4) × (length d ≡ 4) × (length old ≡ 4) × (length sums ≡ 4) × (old ≡ c .delivered) × Upto k (λ j. getD (c .delivered) j 0 + getD d j noDelivery .count) 0 sums
+Inv-loop c d old sums₀ k₀ sums k = Raised c d old sums k
 
 abbrev μ-loop : tie.MeasureT-loop
 μ-loop c d old sums₀ k₀ sums k = 4 - k
 
 loop-holds : tie.Need-loop-holds Inv-loop μ-loop
-loop-holds c = (omega arith, c .before .good .1 .0 .1 .0 .1, delivered-length (c .before .args .c) _ (c .before .good .0), refl, refl, λ i h. absurd (omega arith))
+loop-holds c =
+    let s = c .before in
+    record {
+      below = omega arith;
+      deliveries-length = s .good .1 .0 .1 .0 .1;
+      old-length = delivered-length (s .args .c) _ (s .good .0);
+      sums-length = refl;
+      counters = refl;
+      raised = λ i h. absurd (omega arith);
+    }
 
 mul-one : tie.Need-mul-one Inv-loop μ-loop
 mul-one c = search needs
@@ -64,13 +73,21 @@ loop-again c =
     let o = c .before .before .before in
     let l = o .loop in
     let g = o .before .before .args in
-    (omega arith, l .inv .1, l .inv .2, simp length-set (l .inv .3), refl, upto-turn (l .k) (λ j. getD (g .c .delivered) j 0 + getD (g .t2) j noDelivery .count) 0 (l .sums) _ (omega arith) (l .inv .5) (ap (λ (x : Delivery). getD (g .c .delivered) (l .k) 0 + x .count) (get-same (g .t2) (l .k) beyond noDelivery (omega arith))))
+    record {
+      below = omega arith;
+      deliveries-length = l .inv .deliveries-length;
+      old-length = l .inv .old-length;
+      sums-length = simp length-set (l .inv .sums-length);
+      counters = refl;
+      raised = upto-turn (l .k) (λ j. getD (g .c .delivered) j 0 + getD (g .t2) j noDelivery .count) 0 (l .sums) _ (omega arith) (l .inv .raised)
+          (ap (λ (x : Delivery). getD (g .c .delivered) (l .k) 0 + x .count) (get-same (g .t2) (l .k) beyond noDelivery (omega arith)));
+    }
 
 returns : tie.Need-returns Inv-loop μ-loop
 returns c =
     let l = c .before .loop in
     let g = c .before .before .before .args in
-    ap (withDelivered (g .c)) (filled 4 (λ j. getD (g .c .delivered) j 0 + getD (g .t2) j noDelivery .count) 0 (l .sums) (l .inv .3) (λ i h. l .inv .5 i (omega arith)))
+    ap (withDelivered (g .c)) (filled 4 (λ j. getD (g .c .delivered) j 0 + getD (g .t2) j noDelivery .count) 0 (l .sums) (l .inv .sums-length) (λ i h. l .inv .raised i (omega arith)))
 
 pub raise-spec : {M : Type 1} → statement M
 raise-spec =
