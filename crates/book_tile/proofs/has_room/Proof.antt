@@ -1,13 +1,14 @@
-use mathlib.Core.Path.{_≡_, sym}
-use Prim.Native.Nat.{ℕ, _-_, _≤_}
+use mathlib.Core.Path.{sym}
+use Prim.Native.Nat.{ℕ, _-_}
 use native.Mathlib.Omega.{arith}
-use lib.ListN.{length, take}
+use lib.ListN.{take}
 use Rattle.laws.specs.Define.{allOf}
 use Rattle.laws.proofs.Tables.{all-zero, all-step, ended}
 use Rattle.floor.specs.Settings.{spacing}
 use Rattle.floor.specs.Memory.{zeroCanister}
 use Rattle.floor.specs.Well.{apart}
 use borrow.Author.Needs.{needs}
+use Rattle.book_tile.proofs.Loops.{Apart}
 use Rattle.book_tile.proofs.has_room.Statement.{statement}
 use Rattle.book_tile.proofs.has_room.Tie as tie
 use Rattle.book_tile.proofs.has_room.Reads as reads
@@ -15,13 +16,15 @@ use Rattle.book_tile.proofs.has_room.Lts as lts
 use Rattle.check_places.proofs.stands_apart.Reads as stands-apart-reads
 
 abbrev Inv-loop : tie.InvT-loop
-Inv-loop s c n items ok₀ k₀ ok k = (k ≤ n) × (n ≤ 16) × (length items ≡ 16) × (ok ≡ allOf (apart (spacing s) c) (take k items))
+Inv-loop s c n items ok₀ k₀ ok k = Apart s c n items ok k
 
 abbrev μ-loop : tie.MeasureT-loop
 μ-loop s c n items ok₀ k₀ ok k = n - k
 
 loop-holds : tie.Need-loop-holds Inv-loop μ-loop
-loop-holds c = let g = c .args in (omega arith, c .pre, c .good .1 .1 .0 .1 .0 .1, sym (all-zero (apart (spacing g.s) g.c) g.t3))
+loop-holds c =
+    let g = c .args in
+    record { below = omega arith; few = c .pre; items-length = c .good .1 .1 .0 .1 .0 .1; tested = sym (all-zero (apart (spacing g.s) g.c) g.t3) }
 
 mul-stands-apart : tie.Need-mul-stands-apart Inv-loop μ-loop
 mul-stands-apart c = search needs
@@ -39,14 +42,22 @@ loop-less : tie.Need-loop-less Inv-loop μ-loop
 loop-less c = search needs
 
 loop-again : tie.Need-loop-again Inv-loop μ-loop
-loop-again c = let l = c .before .before .before .loop in
-    let g = c .before .before .before .before .args in
-    (omega arith, l .inv .1, l .inv .2, all-step (apart (spacing g.s) g.c) g.t3 (l .k) zeroCanister (omega arith) (l .inv .3) (c .stands-apart .ensures))
+loop-again c =
+    let o = c .before .before .before in
+    let l = o .loop in
+    let g = o .before .args in
+    record {
+      below = omega arith;
+      few = l .inv .few;
+      items-length = l .inv .items-length;
+      tested = all-step (apart (spacing g.s) g.c) g.t3 (l .k) zeroCanister (omega arith) (l .inv .tested) (c .stands-apart .ensures);
+    }
 
 returns : tie.Need-returns Inv-loop μ-loop
-returns c = let l = c .before .loop in
+returns c =
+    let l = c .before .loop in
     let g = c .before .before .args in
-    ended (λ (k : ℕ). allOf (apart (spacing g.s) g.c) (take k g.t3)) (omega arith) (l .inv .0) (l .inv .3)
+    ended (λ (k : ℕ). allOf (apart (spacing g.s) g.c) (take k g.t3)) (omega arith) (l .inv .below) (l .inv .tested)
 
 pub has-room-spec : {M : Type 1} → statement M
 has-room-spec =
