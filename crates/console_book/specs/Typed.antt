@@ -16,7 +16,7 @@ use Rattle.console_list.specs.Entries.{noEntries, withEntry}
 use Rattle.console_session.specs.declared.Session.{Session}
 use Rattle.console_session.specs.Sessions.{withFloor, withEntries, afterCall}
 
--- the canister that four numbers name after its tile; an a or b above 65,535 is 65,535, which is refused as it is
+-- the canister that four numbers name after its tile; an a or b above 65,535 is 65,535, which 7 refuses too
 abbrev pub canisterTyped : Numbers → Canister
 canisterTyped n = record { number = getD (n .at) 1 0; a = min (getD (n .at) 2 0) 65535; b = min (getD (n .at) 3 0) 65535 }
 

@@ -5,15 +5,13 @@ use lib.ListN.{length, length-map}
 use mir.Val.{Val}
 use denote.Laws.{Is}
 use denote.Struct.Declared.{row}
-use denote.Struct.Field.{u8-field, u32-field}
+use denote.Struct.Field.{u32-field}
 use Rattle.floor.specs.declared.Floor.{Floor}
 use Rattle.floor.specs.declared.Counters.{Counters}
 use Rattle.floor.specs.declared.Members.{Members}
-use Rattle.floor.specs.declared.Name.{Name}
 use Rattle.floor.proofs.Floor.{the-type}
 use Rattle.floor.proofs.Counters.{the-type as counters-type}
 use Rattle.floor.proofs.Members.{the-type as members-type}
-use Rattle.floor.proofs.Name.{the-type as name-type}
 use Rattle.floor.proofs.Tile.{the-field as tile-field}
 use Rattle.floor.proofs.Canister.{the-field as canister-field}
 use Rattle.floor.proofs.Layout.{the-field as layout-field}
@@ -32,6 +30,3 @@ items-length m vs p = sym (length-map (m .items) (canister-field .into)) ∙ p .
 
 pub delivered-length : (c : Counters) (vs : List Val) → Is (row counters-type) c vs → length (c .delivered) ≡ 4
 delivered-length c vs p = sym (length-map (c .delivered) (u32-field .into)) ∙ p .1 .1 .1 .1 .0 .1 .0 .1
-
-pub letters-length : (x : Name) (vs : List Val) → Is (row name-type) x vs → length (x .letters) ≡ 8
-letters-length x vs p = sym (length-map (x .letters) (u8-field .into)) ∙ p .1 .1 .0 .1 .0 .1

@@ -43,7 +43,7 @@ pub record FloorImage (f : Floor) : Type 0 where
   -- demand 2: "Images read back to the floor written"; from a buffer too
   pub loads : loadAnswer (encode (view f)) ≡ record { refusal = 0; floor = f }
   pub from-buffer : (buffer : List ℕ) → length (encode (view f)) ≤ length buffer → loadAnswer (take (writeAnswer f (length buffer) .length) (written f buffer)) ≡ record { refusal = 0; floor = f }
-  -- "The longest image is 8,908 bytes."
+  -- "The longest image is 8,908 bytes.": none is longer; that one is so long is `longest-reached` in crates/cases
   pub most : length (encode (view f)) ≤ 8908
   -- "9. Image ends within a record or with its end record missing, or has bytes after its end record."
   pub prefixes : (n : ℕ) → 0 < n → n < length (encode (view f)) → loadAnswer (take n (encode (view f))) ≡ record { refusal = 9; floor = zeroFloor }
@@ -75,4 +75,5 @@ pub record ImagePromises : Type 0 where
   -- "Writing never yields an empty image"
   pub never-empty : (m : Model) → 0 < length (encode m)
   pub written-some : (f : Floor) (n : ℕ) → writeAnswer f n .refusal ≡ 0 → 0 < writeAnswer f n .length
+  -- "the one accepted image that doesn't come back"; that no other is so is LoadedBytes.only-empty
   pub blank-lost : encode (view (loadAnswer [] .floor)) ≢ []

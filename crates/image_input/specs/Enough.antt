@@ -10,6 +10,6 @@ use Rattle.image.specs.Image.{loadAnswer}
 abbrev pub enough : ℕ
 enough = 74591
 
--- no byte after these changes the answer; the whole type of the theorem `loaded-front`
+-- no byte after the first 74,591 changes the answer; the whole type of the theorem `loaded-front`
 abbrev pub LoadedFront : Type 0
 LoadedFront = (xs : List ℕ) → Bytes xs → loadAnswer (take enough xs) ≡ loadAnswer xs

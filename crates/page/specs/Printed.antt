@@ -1,4 +1,4 @@
--- What the program prints for the bytes of its input. Definitions only.
+-- What the program prints for the bytes of its input.
 use mathlib.Core.Path.{_≡_}
 use mathlib.Core.Bool.{cond}
 use mathlib.Core.List.{List, [], _∷_, _++_}

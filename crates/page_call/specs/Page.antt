@@ -1,4 +1,4 @@
--- The page of a floor, and what writing it answers. Definitions only.
+-- The page of a floor, and what writing it answers.
 use mathlib.Core.Path.{_≡_}
 use mathlib.Core.Bool.{cond, not}
 use mathlib.Core.List.{List, [], _∷_, _++_}

@@ -30,7 +30,7 @@ pub struct Takings {
 }
 
 impl Takings {
-    // None was found yet.
+    // No hopper was found yet, and nothing came.
     pub const ZERO: Takings = Takings {
         deliveries: [Delivery::ZERO; 4],
         found: 0,

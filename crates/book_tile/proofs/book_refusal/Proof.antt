@@ -1,8 +1,3 @@
-use mathlib.Core.Path.{_≡_, sym, _∙_}
-use Prim.Native.Nat.{_%_, _<_, _≤_}
-use native.Mathlib.Omega.{arith}
-use lib.ListN.{take}
-use borrow.Author.Tests.{not-true, not-false, leb-true, leb-false}
 use Rattle.book_tile.proofs.Tests.{count-few, book-4, book-5, book-6, book-7, book-31, book-33, book-34, book-0}
 use borrow.Author.Needs.{needs}
 use Rattle.book_tile.proofs.book_refusal.Statement.{statement}

@@ -1,4 +1,3 @@
-use native.Mathlib.Omega.{arith}
 use Rattle.floor.specs.Well.{apart}
 use borrow.Author.Needs.{needs}
 use Rattle.check_places.proofs.stands_apart.Statement.{statement}
