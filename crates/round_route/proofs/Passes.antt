@@ -9,7 +9,6 @@ use lib.Dec.{leb, ltb}
 use lib.ListN.{length, getD, set, replicate, length-set, getD-replicate}
 use lib.Seq.{getD-set-same, getD-set-other}
 use borrow.Author.Tests.{ltb-true, lt-ltb, le-ltb}
-use Rattle.laws.specs.Filled.{Upto}
 use Rattle.laws.proofs.Tables.{upto-turn, rest-turn, tab-off}
 use Rattle.floor.specs.declared.Settings.{Settings}
 use Rattle.floor.specs.declared.Tile.{Tile}
@@ -35,28 +34,31 @@ neighbour-le s (suc (suc (suc zero))) t h = cond-le (ltb (t % s .rows + 1) (s .r
 neighbour-le s (suc (suc (suc (suc zero)))) t h = cond-le (ltb (t + s .rows) (total s)) (t + s .rows) (total s) (total s) (λ e. omega (arith, ltb-true (t + s .rows) (total s) e)) (omega arith)
 neighbour-le s (suc (suc (suc (suc (suc k))))) t h = omega arith
 
--- ---- a loop that writes what each tile shows, z standing elsewhere
-pub within-none : (g : ℕ → ℕ) (z n : ℕ) → Upto n (within 0 g z) 0 (replicate n z)
-unfolding within
-within-none g z n i h = getD-replicate n i z 0 h ∙ rw (le-ltb i 0 (omega arith))
+-- ---- a loop that writes what each tile shows, y standing elsewhere: x beyond the array's end, read as numbers by `read`
+module _ {A : Type 0} (read : A → ℕ) (x : A) where
+  pub within-none : (g : ℕ → ℕ) (y : A) (n : ℕ) (i : ℕ) → i < n → read (getD (replicate n y) i x) ≡ within 0 g (read y) i
+  unfolding within
+  within-none g y n i h = ap read (getD-replicate n i y x h) ∙ rw (le-ltb i 0 (omega arith))
 
-pub within-turn : (g : ℕ → ℕ) (z : ℕ) (d : List ℕ) (n t v : ℕ) → t < length d → v ≡ g t → Upto n (within t g z) 0 d → Upto n (within (t + 1) g z) 0 (set d t v)
-unfolding within
-within-turn g z d n t v h q p i k = go (ℕ-discrete i t)
-  where
-    same : Dec (i < t) → (i ≡ t → ⊥) → ltb i t ≡ ltb i (t + 1)
-    same (yes l) m = rw (lt-ltb i t l, lt-ltb i (t + 1) (omega arith))
-    same (no l) m = rw (le-ltb i t (omega arith), le-ltb i (t + 1) (omega (arith, m)))
+  pub within-turn : (g : ℕ → ℕ) (z : ℕ) (d : List A) (n t : ℕ) (v : A) → t < length d → read v ≡ g t → ((i : ℕ) → i < n → read (getD d i x) ≡ within t g z i)
+      → (i : ℕ) → i < n → read (getD (set d t v) i x) ≡ within (t + 1) g z i
+  unfolding within
+  within-turn g z d n t v h q p i k = go (ℕ-discrete i t)
+    where
+      same : Dec (i < t) → (i ≡ t → ⊥) → ltb i t ≡ ltb i (t + 1)
+      same (yes l) m = rw (lt-ltb i t l, lt-ltb i (t + 1) (omega arith))
+      same (no l) m = rw (le-ltb i t (omega arith), le-ltb i (t + 1) (omega (arith, m)))
 
-    go : Dec (i ≡ t) → getD (set d t v) i 0 ≡ cond (ltb i (t + 1)) (g i) z
-    go (yes e) = rw (e, getD-set-same d t v 0 h, lt-ltb t (t + 1) (omega arith)) q
-    go (no e) = rw (getD-set-other d t i v 0 e) (p i k ∙ ap (λ (b : Bool). cond b (g i) z) (same (decLe (suc i) t) e))
+      go : Dec (i ≡ t) → read (getD (set d t v) i x) ≡ cond (ltb i (t + 1)) (g i) z
+      go (yes e) = rw (e, getD-set-same d t v x h, lt-ltb t (t + 1) (omega arith)) q
+      go (no e) = rw (getD-set-other d t i v x e) (p i k ∙ ap (λ (b : Bool). cond b (g i) z) (same (decLe (suc i) t) e))
 
--- what the neighbour on side k shows, and that it is read within the array
-pub shows-near : (s : Settings) (g : ℕ → ℕ) (z : ℕ) (d : List ℕ) (k t : ℕ) {u : ℕ} → t < total s → total s ≤ 64 → Upto 65 (within (total s) g z) 0 d → u ≡ neighbour s k t
-    → getD d u 0 ≡ within (total s) g z (neighbour s k t)
-shows-near s g z d k t h few p e = rw e (p (neighbour s k t) (omega (arith, neighbour-le s k t h)))
+  -- what the neighbour on side k shows
+  pub shows-near : (s : Settings) (g : ℕ → ℕ) (z : ℕ) (d : List A) (k t : ℕ) {u : ℕ} → t < total s → total s ≤ 64 → ((i : ℕ) → i < 65 → read (getD d i x) ≡ within (total s) g z i) → u ≡ neighbour s k t
+      → read (getD d u x) ≡ within (total s) g z (neighbour s k t)
+  shows-near s g z d k t h few p e = rw e (p (neighbour s k t) (omega (arith, neighbour-le s k t h)))
 
+-- what is read there stands within the array
 pub near-read : (s : Settings) (k t : ℕ) {u : ℕ} → t < total s → total s ≤ 64 → u ≡ neighbour s k t → u < 65
 near-read s k t h few e = omega (arith, e, neighbour-le s k t h)
 

@@ -61,7 +61,7 @@ module _ (s : Settings) (t : ℕ) (h : Tile) (w so n e : ℕ) (x : Bool) (p : x 
   tile-still q = rw (sym p, q)
 
   pub tile-on : (x || not (eqb (h .running) 1)) ≡ false → (near : Heading) (d k : ℕ) → near ≡ kept (h .next .code) w so n e → record { distance = d; side = k } ≡ onward (total s) near
-      → _≡_ {A = Tile} (record { running = h .running; distance = d; next = record { code = k }; token = h .token; count = h .count }) (routedTile s t h w so n e)
+      → headed h (record { distance = d; side = k }) ≡ routedTile s t h w so n e
   unfolding routedTile headingOf isHopper
   tile-on q near d k e o = rw (sym p, q, sym e) (ap (headed h) o)
 
@@ -82,7 +82,7 @@ module _ (s : Settings) (t all : ℕ) (a : all ≡ total s) (h : t < all) where
         v ∙ rw (near 1 p, near 2 q, near 3 o, near 4 i)
       where
         near : (k : ℕ) {x : ℕ} → x ≡ neighbour s k t → getD d x 0 ≡ within (total s) (distanceIn ts) 255 (neighbour s k t)
-        near k e = shows-near s (distanceIn ts) 255 d k t tile-in few u e
+        near k e = shows-near (λ n. n) 0 s (distanceIn ts) 255 d k t tile-in few u e
 
 pub routed-turn : (s : Settings) (ts out : List Tile) (t : ℕ) (r : Tile) → t < 64 → Redone t (routedAt s ts) ts out → r ≡ routedAt s ts t → Redone (t + 1) (routedAt s ts) ts (set out t r)
 routed-turn s ts = redone-turn (routedAt s ts) ts

@@ -4,6 +4,7 @@ use mathlib.Core.List.{List}
 use lib.ListN.{getD, take}
 use Rattle.floor.specs.declared.Canister.{Canister}
 use Rattle.floor.specs.declared.Settings.{Settings}
+use Rattle.floor.specs.declared.Side.{Side}
 use Rattle.floor.specs.declared.Tile.{Tile}
 use Rattle.floor.specs.Settings.{total}
 use Rattle.floor.specs.Grid.{around}
@@ -35,6 +36,13 @@ grantAt s ts cs t = signalAt s ts cs t .grant
 
 unfoldable pub turnAt : Settings → List Tile → List Canister → ℕ → ℕ
 turnAt s ts cs t = signalAt s ts cs t .turn
+
+-- as a side
+abbrev pub side : ℕ → Side
+side k = record { code = k }
+
+abbrev pub turnSide : Settings → List Tile → List Canister → ℕ → Side
+turnSide s ts cs t = side (turnAt s ts cs t)
 
 unfoldable pub lackAt : Settings → List Tile → List Canister → ℕ → ℕ
 lackAt s ts cs t = signalAt s ts cs t .missing

@@ -1,20 +1,34 @@
 -- Signal in memory: what the tiles show, a tile with its new token, and why each tile stood.
+use mathlib.Core.Path.{_≡_}
 use mathlib.Core.Bool.{true, cond, not}
 use mathlib.Core.List.{List, [], _∷_}
-use Prim.Native.Nat.{ℕ}
+use Prim.Native.Nat.{ℕ, _<_}
 use lib.Dec.{ltb, eqb}
 use lib.ListN.{getD}
 use Rattle.laws.specs.Define.{refusal}
 use Rattle.floor.specs.declared.Settings.{Settings}
+use Rattle.floor.specs.declared.Side.{Side}
 use Rattle.floor.specs.declared.Tile.{Tile}
 use Rattle.floor.specs.Sides.{opposite}
 use Rattle.floor.specs.Grid.{neighbour}
 use Rattle.floor.specs.Memory.{zeroTile}
 use Rattle.floor.specs.Signal.{shownNext}
+use Rattle.round_route.specs.Routed.{within}
+
+abbrev pub noSide : Side
+noSide = record { code = 0 }
+
+-- the side at place u of an array, none beyond its end
+abbrev pub sideIn : List Side → ℕ → ℕ
+sideIn l u = getD l u noSide .code
 
 -- the side that a tile shows its neighbours
 abbrev pub shownIn : List Tile → ℕ → ℕ
 shownIn ts u = shownNext (getD ts u zeroTile .count) (getD ts u zeroTile .next .code)
+
+-- an array of what the first n tiles show; none at the others and at the number of no tile
+abbrev pub ShownUpto : List Tile → ℕ → List Side → Type 0
+ShownUpto ts n l = (u : ℕ) → u < 65 → sideIn l u ≡ within n (shownIn ts) 0 u
 
 unfoldable pub tokened : Tile → ℕ → Tile
 tokened h k = record { running = h .running; distance = h .distance; next = h .next; token = record { code = k }; count = h .count }

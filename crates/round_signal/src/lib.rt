@@ -6,13 +6,12 @@ ghost use mathlib.Core.Bool.{cond};
 ghost use lib.Dec.{eqb};
 ghost use lib.ListN.{getD, take};
 ghost use Prim.Native.Nat.{ℕ, _^_, _≤_, _<_};
-ghost use Rattle.laws.specs.Filled.{Upto, Filled};
+ghost use Rattle.laws.specs.Filled.{Filled};
 ghost use Rattle.floor.specs.Settings.{total, Ranged};
 ghost use Rattle.floor.specs.Grid.{around};
 ghost use Rattle.floor.specs.Signal.{shownNext};
-ghost use Rattle.round_route.specs.Routed.{within};
 ghost use Rattle.round_grants.specs.TileSignal.{given, signalFrom};
-ghost use Rattle.round_signal.specs.Signalling.{shownIn, tokened, ownReason, aheadReason, reasonBy, lackBy};
+ghost use Rattle.round_signal.specs.Signalling.{sideIn, ShownUpto, tokened, ownReason, aheadReason, reasonBy, lackBy};
 use floor::Canister;
 use floor::Members;
 use floor::Settings;
@@ -29,19 +28,22 @@ pub struct Stood {
 }
 
 // The side that a tile shows: its next if it has canisters, else none.
-fn shown_next(count: u8, next: Side) -> u8
-    ensures { λ r. ⌜ r ≡ shownNext count (next .code) ⌝ }
+fn shown_next(count: u8, next: Side) -> Side
+    ensures { λ r. ⌜ r .code ≡ shownNext count (next .code) ⌝ }
 {
-    if 0 < count { next.code } else { 0 }
+    if 0 < count {
+        return next;
+    }
+    Side::NONE
 }
 
 // What the tiles show; none at the number of no tile.
-pub fn shown(s: Settings, tiles: [Tile; 64]) -> [u8; 65]
+pub fn shown(s: Settings, tiles: [Tile; 64]) -> [Side; 65]
     requires { ⌜ total s ≤ 64 ⌝ }
-    ensures { λ r. ⌜ Upto 65 (within (total s) (shownIn tiles) 0) 0 r ⌝ }
+    ensures { λ r. ⌜ ShownUpto tiles (total s) r ⌝ }
 {
     let all = s.tile_count();
-    let mut d = [0u8; 65];
+    let mut d = [Side::NONE; 65];
     for t in 0usize..all {
         let tile = tiles[t];
         d[t] = shown_next(tile.count, tile.next);
@@ -107,9 +109,15 @@ fn beside(why: u8, lack: u32) -> u16
 }
 
 // Tile t's signal, from its sixteen places and what all tiles show.
-pub fn signal_at(s: Settings, t: usize, tile: Tile, items: [Canister; 16], show: [u8; 65]) -> Signal
+pub fn signal_at(
+    s: Settings,
+    t: usize,
+    tile: Tile,
+    items: [Canister; 16],
+    show: [Side; 65],
+) -> Signal
     requires { ⌜ Ranged s × (t < total s) × (tile .token .code ≤ 4) × (tile .count ≤ 16) ⌝ }
-    ensures { λ r. ⌜ given r ≡ around s (λ u. getD show u 0) t (signalFrom s (tile .running) (tile .token .code) (take (tile .count) items)) ⌝ }
+    ensures { λ r. ⌜ given r ≡ around s (sideIn show) t (signalFrom s (tile .running) (tile .token .code) (take (tile .count) items)) ⌝ }
 {
     let token = tile.token;
     let members = Members {
@@ -120,23 +128,14 @@ pub fn signal_at(s: Settings, t: usize, tile: Tile, items: [Canister; 16], show:
     let south = show[Side::SOUTH.neighbour(s, t)];
     let north = show[Side::NORTH.neighbour(s, t)];
     let east = show[Side::EAST.neighbour(s, t)];
-    signal_tile(
-        s,
-        tile.running,
-        token,
-        members,
-        Side { code: west },
-        Side { code: south },
-        Side { code: north },
-        Side { code: east },
-    )
+    signal_tile(s, tile.running, token, members, west, south, north, east)
 }
 
 // Why each tile stood: it tells by itself, or by the tile ahead of it, from that one's turn before it passed on and the
 // millimetres missing there; at the number of no tile both are none.
-pub fn reason_pass(s: Settings, tiles: [Tile; 64], turns: [u8; 65], lacks: [u32; 65]) -> Stood
+pub fn reason_pass(s: Settings, tiles: [Tile; 64], turns: [Side; 65], lacks: [u32; 65]) -> Stood
     requires { ⌜ Ranged s × ((u : ℕ) → getD lacks u 0 < 2 ^ 16) ⌝ }
-    ensures { λ r. ⌜ Filled 64 (reasonBy s tiles (λ u. getD turns u 0) (λ u. getD lacks u 0)) 0 (total s) (r .reasons) × Filled 64 (lackBy s tiles (λ u. getD turns u 0) (λ u. getD lacks u 0)) 0 (total s) (r .missing) ⌝ }
+    ensures { λ r. ⌜ Filled 64 (reasonBy s tiles (sideIn turns) (λ u. getD lacks u 0)) 0 (total s) (r .reasons) × Filled 64 (lackBy s tiles (sideIn turns) (λ u. getD lacks u 0)) 0 (total s) (r .missing) ⌝ }
 {
     let all = s.tile_count();
     let mut reasons = [0u8; 64];
@@ -153,7 +152,7 @@ pub fn reason_pass(s: Settings, tiles: [Tile; 64], turns: [u8; 65], lacks: [u32;
             let ahead = next.neighbour(s, i);
             let lack = lacks[ahead];
             let turn = turns[ahead];
-            let why = ahead_reason(next, Side { code: turn }, lack);
+            let why = ahead_reason(next, turn, lack);
             reasons[i] = why;
             missing[i] = beside(why, lack);
             i += 1;

@@ -30,7 +30,7 @@ loop-holds c =
       few = rw (c .tile-count .ensures) (s .pre);
       tiles-length = s .good .1 .0 .1 .0 .1;
       distances-length = refl;
-      filled = within-none (distanceIn (s .args .t2)) 255 65;
+      filled = within-none (λ n. n) 0 (distanceIn (s .args .t2)) 255 65;
     }
 
 mul-tile : tie.Need-mul-tile Inv-loop μ-loop
@@ -56,7 +56,7 @@ loop-again c =
       few = l .inv .few;
       tiles-length = l .inv .tiles-length;
       distances-length = simp length-set (l .inv .distances-length);
-      filled = within-turn _ 255 (l .d) 65 (l .t) _ (omega arith) refl (l .inv .filled);
+      filled = within-turn (λ n. n) 0 _ 255 (l .d) 65 (l .t) _ (omega arith) refl (l .inv .filled);
     }
 
 returns : tie.Need-returns Inv-loop μ-loop

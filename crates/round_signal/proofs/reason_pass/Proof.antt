@@ -56,8 +56,8 @@ loop-holds c =
       turns-length = s .good .1 .1 .0 .1 .0 .1;
       lacks-length = s .good .1 .1 .1 .0 .1 .0 .1;
       slight = s .pre .1;
-      stood = filled-none 64 (M.reasonBy g.s g.t2 (λ u. getD g.t3 u 0) (λ u. getD g.t4 u 0)) 0;
-      lacking = filled-none 64 (M.lackBy g.s g.t2 (λ u. getD g.t3 u 0) (λ u. getD g.t4 u 0)) 0;
+      stood = filled-none 64 (M.reasonBy g.s g.t2 (M.sideIn g.t3) (λ u. getD g.t4 u 0)) 0;
+      lacking = filled-none 64 (M.lackBy g.s g.t2 (M.sideIn g.t3) (λ u. getD g.t4 u 0)) 0;
     }
 
 mul-tile : tie.Need-mul-tile Inv-loop μ-loop
@@ -86,7 +86,7 @@ loop-again c =
     let o = at-tile (c .before) in
     let l = o .loop in
     let g = o .before .before .args in
-    let turn : ℕ → ℕ = λ u. getD g.t3 u 0 in
+    let turn : ℕ → ℕ = M.sideIn g.t3 in
     let lack : ℕ → ℕ = λ u. getD g.t4 u 0 in
     let here : l .i < 64 = omega (arith, l .inv .ranged .2) in
     let q = c .before .own-reason in record {
@@ -111,9 +111,9 @@ mul-lack c = omega (arith, ahead c)
 array-read-lack : tie.Need-array-read-lack Inv-loop μ-loop
 array-read-lack c = ahead c
 
-array-read-turn :
-    tie.Need-array-read-turn Inv-loop μ-loop
-array-read-turn c = ahead c
+array-copy-out-turn :
+    tie.Need-array-copy-out-turn Inv-loop μ-loop
+array-copy-out-turn c = ahead c
 
 ahead-reason-requires :
     tie.Need-ahead-reason-requires Inv-loop μ-loop
@@ -124,7 +124,7 @@ array-write-reasons-2 :
 array-write-reasons-2 c = search needs
 
 beside-requires : tie.Need-beside-requires Inv-loop μ-loop
-beside-requires c κs = at-tile (goes-on (c .before)) .loop .inv .slight (c .before .neighbour .result)
+beside-requires c κs = let n = c .before .before in at-tile (goes-on n) .loop .inv .slight (n .neighbour .result)
 
 mul-missing : tie.Need-mul-missing Inv-loop μ-loop
 mul-missing c = search needs
@@ -141,11 +141,11 @@ loop-less-2 c = search needs
 
 loop-again-2 : tie.Need-loop-again-2 Inv-loop μ-loop
 loop-again-2 c =
-    let n = c .before .before in
+    let n = c .before .before .before in
     let o = at-tile (goes-on n) in
     let l = o .loop in
     let g = o .before .before .args in
-    let turn : ℕ → ℕ = λ u. getD g.t3 u 0 in
+    let turn : ℕ → ℕ = M.sideIn g.t3 in
     let lack : ℕ → ℕ = λ u. getD g.t4 u 0 in
     let here : l .i < 64 = omega (arith, l .inv .ranged .2) in
     let q = goes-on n .own-reason in
@@ -170,8 +170,8 @@ returns c =
     let l = c .before .loop in
     let g = c .before .before .before .args in
     let e : l .i ≡ total g.s = omega (arith, l .inv .below, l .inv .whole) in (
-      filled-all 64 (M.reasonBy g.s g.t2 (λ u. getD g.t3 u 0) (λ u. getD g.t4 u 0)) 0 (l .i) (total g.s) (l .reasons) e (l .inv .stood),
-      filled-all 64 (M.lackBy g.s g.t2 (λ u. getD g.t3 u 0) (λ u. getD g.t4 u 0)) 0 (l .i) (total g.s) (l .missing) e (l .inv .lacking),
+      filled-all 64 (M.reasonBy g.s g.t2 (M.sideIn g.t3) (λ u. getD g.t4 u 0)) 0 (l .i) (total g.s) (l .reasons) e (l .inv .stood),
+      filled-all 64 (M.lackBy g.s g.t2 (M.sideIn g.t3) (λ u. getD g.t4 u 0)) 0 (l .i) (total g.s) (l .missing) e (l .inv .lacking),
     )
 
 pub reason-pass-spec : {M : Type 1} → statement M
@@ -192,7 +192,7 @@ reason-pass-spec =
     neighbour-requires
     mul-lack
     array-read-lack
-    array-read-turn
+    array-copy-out-turn
     ahead-reason-requires
     array-write-reasons-2
     beside-requires

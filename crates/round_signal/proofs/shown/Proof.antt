@@ -5,7 +5,7 @@ use lib.ListN.{length-set}
 use Rattle.floor.specs.Settings.{total}
 use Rattle.round_route.specs.Routed.{within}
 use Rattle.round_route.proofs.Passes.{within-none, within-turn}
-use Rattle.round_signal.specs.Signalling.{shownIn}
+use Rattle.round_signal.specs.Signalling.{noSide, shownIn}
 use Rattle.round_signal.proofs.Loops.{Shown}
 use borrow.Author.Needs.{needs}
 use Rattle.round_signal.proofs.shown.Statement.{statement}
@@ -32,7 +32,7 @@ loop-holds c =
       few = rw (c .tile-count .ensures) (s .pre);
       tiles-length = s .good .1 .0 .1 .0 .1;
       shows-length = refl;
-      shown = within-none (shownIn (s .args .t2)) 0 65;
+      shown = within-none (λ x. x .code) noSide (shownIn (s .args .t2)) noSide 65;
     }
 
 mul-tile : tie.Need-mul-tile Inv-loop μ-loop
@@ -44,8 +44,8 @@ array-copy-out-tile c = search needs
 shown-next-requires : tie.Need-shown-next-requires Inv-loop μ-loop
 shown-next-requires c κs = search needs
 
-array-write-d : tie.Need-array-write-d Inv-loop μ-loop
-array-write-d c = search needs
+array-set-from-d : tie.Need-array-set-from-d Inv-loop μ-loop
+array-set-from-d c = search needs
 
 add-t : tie.Need-add-t Inv-loop μ-loop
 add-t c = search needs
@@ -63,7 +63,7 @@ loop-again c =
       few = l .inv .few;
       tiles-length = l .inv .tiles-length;
       shows-length = simp length-set (l .inv .shows-length);
-      shown = within-turn (shownIn g.t2) 0 (l .d) 65 (l .t) (c .shown-next .result) (omega arith) (c .shown-next .ensures) (l .inv .shown);
+      shown = within-turn (λ x. x .code) noSide (shownIn g.t2) 0 (l .d) 65 (l .t) (c .shown-next .result) (omega arith) (c .shown-next .ensures) (l .inv .shown);
     }
 
 returns : tie.Need-returns Inv-loop μ-loop
@@ -84,7 +84,7 @@ shown-spec =
     mul-tile
     array-copy-out-tile
     shown-next-requires
-    array-write-d
+    array-set-from-d
     add-t
     loop-less
     loop-again

@@ -11,46 +11,48 @@ use Rattle.round_grants.proofs.signal_tile.Reads as signal-tile-reads
 neighbour-requires : tie.Need-neighbour-requires
 neighbour-requires c κs = search needs
 
-array-read-west : tie.Need-array-read-west
-array-read-west c = search (near-read, needs)
+array-copy-out-west : tie.Need-array-copy-out-west
+array-copy-out-west c = search (near-read, needs)
 
 neighbour-requires-2 : tie.Need-neighbour-requires-2
 neighbour-requires-2 c κs = search needs
 
-array-read-south : tie.Need-array-read-south
-array-read-south c = search (near-read, needs)
+array-copy-out-south : tie.Need-array-copy-out-south
+array-copy-out-south c = search (near-read, needs)
 
 neighbour-requires-3 : tie.Need-neighbour-requires-3
 neighbour-requires-3 c κs = search needs
 
-array-read-north : tie.Need-array-read-north
-array-read-north c = search (near-read, needs)
+array-copy-out-north : tie.Need-array-copy-out-north
+array-copy-out-north c = search (near-read, needs)
 
 neighbour-requires-4 : tie.Need-neighbour-requires-4
 neighbour-requires-4 c κs = search needs
 
-array-read-east : tie.Need-array-read-east
-array-read-east c = search (near-read, needs)
+array-copy-out-east : tie.Need-array-copy-out-east
+array-copy-out-east c = search (near-read, needs)
 
 signal-tile-requires : tie.Need-signal-tile-requires
 signal-tile-requires c κs = search needs
 
 returns : tie.Need-returns
 returns c =
-    let south = c .before .before .before in
-    c .signal-tile .ensures ∙ rw (south .before .neighbour .ensures, south .neighbour2 .ensures, c .before .before .neighbour3 .ensures, c .before .neighbour4 .ensures)
+    let east = c .before .before in
+    let north = east .before .before in
+    let south = north .before .before in
+    c .signal-tile .ensures ∙ rw (south .before .before .neighbour .ensures, south .neighbour2 .ensures, north .neighbour3 .ensures, east .neighbour4 .ensures)
 
 pub signal-at-spec : {M : Type 1} → statement M
 signal-at-spec =
     tie.close
     (tie.spec
     neighbour-requires
-    array-read-west
+    array-copy-out-west
     neighbour-requires-2
-    array-read-south
+    array-copy-out-south
     neighbour-requires-3
-    array-read-north
+    array-copy-out-north
     neighbour-requires-4
-    array-read-east
+    array-copy-out-east
     signal-tile-requires
     returns)
