@@ -13,13 +13,14 @@ use Rattle.floor.proofs.Sound.{Measured}
 use Rattle.floor.proofs.Pack.{well-sound}
 use Rattle.image.specs.Image.{oneTile, hopperCount, settingsBody, countersBody, layoutsBytes, encode, restIn, tilesIn, isLayout, layoutsIn, afterLayouts, modelIn, laidFault, fault, loadAnswer}
 use Rattle.image.specs.Promises.{imageWithout, faultWithout, settingsBefore, countersBefore, imageBefore}
+use Rattle.image.proofs.Records.{encode-records, fault-records}
 use Rattle.image.proofs.Hoppers.{byte-again, not-several, one-counted}
 use Rattle.image.proofs.Promises.{written-loads}
 
 -- ---- without layouts
 pub same-without : (m : Model) → m .layouts ≡ [] → encode m ≡ imageWithout m
-unfolding encode imageWithout layoutsBytes
-same-without m e = rw e
+unfolding imageWithout layoutsBytes
+same-without m e = encode-records m ∙ rw e
 
 pub image-without : (f : Floor) → wellFormed f ≡ true → view f .layouts ≡ []
     → (encode (view f) ≡ imageWithout (view f)) × (loadAnswer (imageWithout (view f)) ≡ record { refusal = 0; floor = f })
@@ -30,8 +31,8 @@ image-without f w none =
 -- any bytes without such a record: what refuses them is as before, and what is read has no layouts
 pub read-without : (xs : List ℕ) → isLayout (restIn (restIn xs)) ≡ false
     → (fault xs ≡ faultWithout xs) × ((modelIn xs .tiles ≡ tilesIn (total (modelIn xs .settings)) (restIn (restIn xs))) × (modelIn xs .layouts ≡ []))
-unfolding fault faultWithout modelIn laidFault afterLayouts layoutsIn
-read-without xs e = (rw e, (rw e, rw e))
+unfolding faultWithout modelIn laidFault afterLayouts layoutsIn
+read-without xs e = (fault-records xs ∙ rw e, (rw e, rw e))
 
 -- ---- with one hopper
 module _ (m : Model) (M : Measured (m .settings)) (h : ℕ) (one : m .settings .hoppers ≡ oneTile h) (none : m .layouts ≡ []) where

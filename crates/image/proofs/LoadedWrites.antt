@@ -6,7 +6,7 @@ use mathlib.Core.List.{List, [], _++_, append-nil}
 use Prim.Native.Nat.{ℕ, zero, suc, _+_, _*_, _≤_}
 use native.Mathlib.Omega.{arith}
 use lib.Dec.{ltb, eqb}
-use borrow.Author.Tests.{ltb-false, lt-ltb, eqb-true}
+use borrow.Author.Tests.{not-false, ltb-false, lt-ltb, eqb-true}
 use lib.ListN.{length, take, drop, length-drop, drop-of-length-le}
 use lib.Seq.{take-add}
 use Rattle.laws.specs.Define.{tab}
@@ -17,7 +17,7 @@ use Rattle.floor.proofs.Sound.{Measured}
 use Rattle.image.specs.Image.{lowest, hopperCount, several, byteWrong, settingsWidths, settingsValues, countersWidths, countersValues, tileWidths, tileValues, canisterWidths, canisterValues, recordOf, settingsBody, countersBody, canistersBody, tileBody, tilesBytes, encode, lengthIn, bodyIn, restIn, settingsIn, countersIn, canisterIn, canistersIn, tileIn, tilesIn, afterLayouts, modelIn, settingsFaults, countersFaults, tileFaults, endFaults, ownFaults, recordFault, endFault, tilesFault, laidFault, fault}
 use Rattle.image.proofs.Hoppers.{no-hoppers, spliced-none, byte-again, not-several}
 use Rattle.image.proofs.Sizes.{fours}
-use Rattle.image.proofs.Records.{orElse-none, not-off, equal, cut, Whole, whole, again}
+use Rattle.image.proofs.Records.{orElse-none, encode-records, fault-records, equal, cut, Whole, whole, again}
 use Rattle.image.proofs.Layouts.{laid-again}
 
 -- ---- the values that were read, written again
@@ -108,7 +108,7 @@ settings-good xs w =
     let o2 = test-none (not (eqb (field (settingsWidths (eqb n 28)) 3 b) 0)) 11 _ (omega arith) (o1 .1) in
     let o3 = test-none (byteWrong n b) 11 _ (omega arith) (o2 .1) in
     let o4 = spliced-none (settingsIn n b) (eqb n 28 && ltb (hopperCount (settingsIn n b)) 2) (o3 .1) in
-    record { long = either (or-case (eqb n 20) (eqb n 28) (not-off _ (o1 .0))); zero-byte = equal _ 0 (o2 .0); byte = o3 .0; two = o4 .0; measured = o4 .1 }
+    record { long = either (or-case (eqb n 20) (eqb n 28) (not-false _ (o1 .0))); zero-byte = equal _ 0 (o2 .0); byte = o3 .0; two = o4 .0; measured = o4 .1 }
   where
     either : (eqb (lengthIn xs) 20 ≡ true) ⊎ (eqb (lengthIn xs) 28 ≡ true) → (lengthIn xs ≡ 20) ⊎ (lengthIn xs ≡ 28)
     either (inl e) = inl (eqb-true (lengthIn xs) 20 e)
@@ -175,10 +175,10 @@ tiles-again (suc n) t xs p h =
     rw (tiles-again n (suc t) (restIn xs) (bytes-drop (4 + lengthIn xs) xs p) (o .1)) (tile-again t xs p (o .0))
 
 pub written-again : (xs : List ℕ) → Bytes xs → fault xs ≡ 0 → encode (modelIn xs) ≡ xs
-unfolding fault modelIn encode
+unfolding modelIn
 written-again xs p h =
     let s = settingsIn (lengthIn xs) (bodyIn xs) in
-    let o = orElse-none (recordFault 1 0 xs) _ h in
+    let o = orElse-none (recordFault 1 0 xs) _ (sym (fault-records xs) ∙ h) in
     let q = orElse-none (recordFault 2 (hopperCount s) (restIn xs)) _ (o .1) in
     let ys : List ℕ = restIn xs in
     let py : Bytes ys = bytes-drop (4 + lengthIn xs) xs p in
@@ -191,4 +191,4 @@ written-again xs p h =
     counters-again (hopperCount s) (bodyIn ys) (G .measured .hoppers-few) (bytes-drop 4 ys py) (rw length-drop (omega (arith, v .enough))) ∙ ap (λ (n : ℕ). take n (bodyIn ys)) (sym n2) in
     let v5 = orElse-none (laidFault 8 (restIn ys)) _ (q .1) in
     let L = laid-again 8 (restIn ys) (bytes-drop (4 + lengthIn ys) ys py) (v5 .0) in
-    rw (b1, b2, tiles-again _ 0 (afterLayouts 8 (restIn ys)) (L .are-bytes) (v5 .1), L .written, again 2 (hopperCount s) ys py v) (again 1 0 xs p w)
+    encode-records (modelIn xs) ∙ rw (b1, b2, tiles-again _ 0 (afterLayouts 8 (restIn ys)) (L .are-bytes) (v5 .1), L .written, again 2 (hopperCount s) ys py v) (again 1 0 xs p w)

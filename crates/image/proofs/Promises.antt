@@ -25,8 +25,8 @@ use Rattle.floor.proofs.Well.{sound-fact}
 use Rattle.floor.proofs.Pack.{well-sound}
 use Rattle.floor.proofs.Capacity.{well-pack}
 use Rattle.floor.proofs.First.{fresh-well, pack-view-well}
-use Rattle.image.specs.Image.{encode, lengthIn, modelIn, recordFault, fault, answerBy, allNamed, recordsRefusal, recordsAnswer, imageRefusal, imageAnswer, standard, loadAnswer, writeRefusal, writeAnswer, written}
-use Rattle.image.proofs.Records.{orElse-none, not-off}
+use Rattle.image.specs.Image.{encode, lengthIn, modelIn, recordFault, frontFault, fault, answerBy, allNamed, recordsRefusal, recordsAnswer, imageRefusal, imageAnswer, standard, loadAnswer, writeRefusal, writeAnswer, written}
+use Rattle.image.proofs.Records.{orElse-none}
 use Rattle.image.proofs.Sizes.{encode-size}
 use Rattle.image.proofs.LoadedWrites.{written-again}
 use Rattle.image.proofs.WrittenLoads.{Fits, leftover, fault-append, no-fault, read-back, fault-cut}
@@ -38,7 +38,7 @@ pub load-none : (xs : List ℕ) → imageRefusal xs ≡ 0 → (fault xs ≡ 0) �
 unfolding imageRefusal
 load-none xs h =
     let o = orElse-none (fault xs) _ h in
-    (o .0, not-off (sound (modelIn xs)) (test-none (not (sound (modelIn xs))) 12 [] (omega arith) (o .1) .0))
+    (o .0, not-false (sound (modelIn xs)) (test-none (not (sound (modelIn xs))) 12 [] (omega arith) (o .1) .0))
 
 load-sound : (xs : List ℕ) → fault xs ≡ 0 → sound (modelIn xs) ≡ true → imageRefusal xs ≡ 0
 unfolding imageRefusal refusal
@@ -98,7 +98,7 @@ written-some f n e = rw e (never-empty (view f))
 
 -- "One byte is still 9": one, two or three, whatever they are
 pub few-refused : (xs : List ℕ) → 0 < length xs → length xs < 4 → loadAnswer xs ≡ record { refusal = 9; floor = zeroFloor }
-unfolding fault recordFault refusal
+unfolding fault frontFault recordFault refusal
 few-refused xs z h =
     let e : ltb (length xs) (4 + lengthIn xs) ≡ true = lt-ltb (length xs) (4 + lengthIn xs) (omega arith) in
     load-some xs z ∙ load-refused xs 9 (rw e) (omega arith)
@@ -175,7 +175,7 @@ records-none : (xs : List ℕ) → recordsRefusal xs ≡ 0 → (fault xs ≡ 0) 
 unfolding recordsRefusal
 records-none xs h =
     let o = orElse-none (fault xs) _ h in
-    (o .0, not-off (allNamed (modelIn xs)) (test-none (not (allNamed (modelIn xs))) 12 [] (omega arith) (o .1) .0))
+    (o .0, not-false (allNamed (modelIn xs)) (test-none (not (allNamed (modelIn xs))) 12 [] (omega arith) (o .1) .0))
 
 records-load : (xs : List ℕ) → recordsRefusal xs ≢ 0 → recordsRefusal xs ≡ imageRefusal xs
 unfolding recordsRefusal imageRefusal refusal

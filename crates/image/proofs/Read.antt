@@ -1,5 +1,5 @@
 -- What holds of the floor that is read from an image without a fault, before 12 is asked.
-use mathlib.Core.Path.{_≡_, refl, ap}
+use mathlib.Core.Path.{_≡_, refl, sym, ap, _∙_}
 use mathlib.Core.Logic.{_≢_}
 use mathlib.Core.Bool.{true}
 use mathlib.Core.List.{List}
@@ -20,7 +20,7 @@ use Rattle.floor.proofs.Sound.{Measured}
 use Rattle.floor.proofs.Rows.{Placed, sound-named}
 use Rattle.floor.proofs.Pack.{view-pack, fits-pack}
 use Rattle.image.specs.Image.{hopperCount, tileWidths, lengthIn, bodyIn, restIn, settingsIn, tileIn, tilesIn, afterLayouts, modelIn, recordFault, tilesFault, laidFault, fault, allNamed}
-use Rattle.image.proofs.Records.{orElse-none, whole}
+use Rattle.image.proofs.Records.{orElse-none, fault-records, whole}
 use Rattle.image.proofs.Layouts.{laid-few}
 use Rattle.image.proofs.LoadedWrites.{canisters-length, tile-good, settings-good}
 
@@ -49,9 +49,8 @@ tiles-small (suc n) t xs h (suc k) = tiles-small n (suc t) (restIn xs) (orElse-n
 -- ---- the whole
 module _ (xs : List ℕ) (z : fault xs ≡ 0) where
   parts : (recordFault 1 0 xs ≡ 0) × ((recordFault 2 (hopperCount (settingsIn (lengthIn xs) (bodyIn xs))) (restIn xs) ≡ 0) × ((laidFault 8 (restIn (restIn xs)) ≡ 0) × (tilesFault (total (settingsIn (lengthIn xs) (bodyIn xs))) 0 (afterLayouts 8 (restIn (restIn xs))) ≡ 0)))
-  unfolding fault
   parts =
-      let o = orElse-none (recordFault 1 0 xs) _ z in
+      let o = orElse-none (recordFault 1 0 xs) _ (sym (fault-records xs) ∙ z) in
       let p = orElse-none (recordFault 2 (hopperCount (settingsIn (lengthIn xs) (bodyIn xs))) (restIn xs)) _ (o .1) in
       (o .0, (p .0, orElse-none (laidFault 8 (restIn (restIn xs))) _ (p .1)))
 

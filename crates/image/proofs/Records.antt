@@ -1,19 +1,22 @@
--- One record: what is read of it after it was written, and what is written of it after it was read.
+-- One record: what is read of it after it was written, and what is written of it after it was read. An image is its records one after another.
 use mathlib.Core.Path.{_≡_, refl, sym, ap, _∙_}
-use mathlib.Core.Bool.{Bool, true, false, cond, not, true≢false}
+use mathlib.Core.Logic.{_⊎_, inl, inr}
+use mathlib.Core.Bool.{Bool, true, false, cond, not}
 use mathlib.Core.List.{List, [], _∷_, _++_, append-assoc}
 use Prim.Native.Nat.{ℕ, zero, suc, _+_, _-_, _≤_, _<_}
 use native.Mathlib.Omega.{arith}
 use native.Mathlib.Decide.{decLe}
 use lib.Dec.{ltb, eqb}
-use borrow.Author.Tests.{ltb-false, eqb-true, eqb-false, lt-ltb, le-ltb, eq-eqb}
+use borrow.Author.Tests.{not-false, ltb-false, eqb-true, eqb-false, lt-ltb, le-ltb, eq-eqb}
 use lib.ListN.{length, take, drop, length-append, length-drop, take-append-drop}
 use lib.Seq.{drop-at, drop-drop, length-take-le, take-append-add}
 use Rattle.laws.specs.Define.{refusal}
-use Rattle.laws.proofs.Tests.{test-none}
+use Rattle.laws.proofs.Tests.{test-none, by-test}
 use Rattle.image_bytes.specs.Bytes.{le, bytes, Bytes}
 use Rattle.image_bytes.proofs.ByteLaws.{bytes-length, le-bytes, bytes-le, bytes-drop}
-use Rattle.image.specs.Image.{recordOf, lengthIn, kindIn, bodyIn, restIn, ownFaults, recordFault, orElse}
+use Rattle.floor.specs.Settings.{total}
+use Rattle.floor.specs.Model.{Model}
+use Rattle.image.specs.Image.{hopperCount, recordOf, settingsBody, countersBody, layoutsBytes, tilesBytes, frontBytes, encode, lengthIn, kindIn, bodyIn, restIn, settingsIn, afterLayouts, ownFaults, recordFault, orElse, tilesFault, laidFault, frontFault, fault}
 
 -- ---- tests and their numbers
 pub orElse-none : (k n : ℕ) → orElse k n ≡ 0 → (k ≡ 0) × (n ≡ 0)
@@ -23,13 +26,32 @@ orElse-none k n h = go (eqb k 0) refl h
     go true e h = (eqb-true k 0 e, h)
     go false e h = absurd (eqb-false k 0 e h)
 
-pub not-off : (b : Bool) → not b ≡ false → b ≡ true
-not-off true h = refl
-not-off false h = absurd (true≢false h)
+orElse-assoc : (a b c : ℕ) → orElse (orElse a b) c ≡ orElse a (orElse b c)
+orElse-assoc a b c = go (by-test (eqb a 0))
+  where
+    go : (eqb a 0 ≡ true) ⊎ (eqb a 0 ≡ false) → orElse (orElse a b) c ≡ orElse a (orElse b c)
+    go (inl e) = rw e
+    go (inr e) = rw (e, e)
+
+-- ---- an image record by record
+pub encode-records : (m : Model) → encode m ≡ recordOf 1 (settingsBody (m .settings)) ++ (recordOf 2 (countersBody (hopperCount (m .settings)) (m .counters)) ++ (layoutsBytes (m .layouts) ++ tilesBytes 0 (m .tiles)))
+unfolding encode frontBytes
+encode-records m = simp append-assoc
+
+pub fault-records : (xs : List ℕ) → let s = settingsIn (lengthIn xs) (bodyIn xs) in let ys = restIn (restIn xs) in
+    fault xs ≡ orElse (recordFault 1 0 xs) (orElse (recordFault 2 (hopperCount s) (restIn xs)) (orElse (laidFault 8 ys) (tilesFault (total s) 0 (afterLayouts 8 ys))))
+unfolding fault frontFault
+fault-records xs =
+    let s = settingsIn (lengthIn xs) (bodyIn xs) in
+    let a = recordFault 1 0 xs in
+    let b = recordFault 2 (hopperCount s) (restIn xs) in
+    let c = laidFault 8 (restIn (restIn xs)) in
+    let t = tilesFault (total s) 0 (afterLayouts 8 (restIn (restIn xs))) in
+    orElse-assoc a (orElse b c) t ∙ ap (λ (k : ℕ). orElse a k) (orElse-assoc b c t)
 
 -- a test for equality that is not met
 pub equal : (m n : ℕ) → not (eqb m n) ≡ false → m ≡ n
-equal m n h = eqb-true m n (not-off (eqb m n) h)
+equal m n h = eqb-true m n (not-false (eqb m n) h)
 
 -- ---- read after written
 pub record-length : (k : ℕ) (b : List ℕ) → length (recordOf k b) ≡ 4 + length b

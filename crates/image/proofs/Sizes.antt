@@ -20,7 +20,23 @@ use Rattle.floor.specs.Settings.{total, hoppersOf}
 use Rattle.floor.specs.Layouts.{letters}
 use Rattle.floor.specs.Model.{TileState, Model, noTile}
 use Rattle.image.specs.Image.{settingsWidths, lowest, hopperCount, several, countersWidths, countersValues, tileWidths, tileValues, canisterWidths, canisterValues, settingsBody, countersBody, canistersBody, tileBody, layoutBody, layoutsBytes, tilesBytes, encode}
-use Rattle.image.proofs.Records.{record-length}
+use Rattle.image.proofs.Records.{encode-records, record-length}
+
+-- ---- lengths in bytes: a record's length and kind; a tile's record before its canisters; a canister; a layout's record; record 2 where there are h hoppers
+abbrev pub ahead : ℕ
+ahead = 4
+
+abbrev pub tileFront : ℕ
+tileFront = 10
+
+abbrev pub canisterLength : ℕ
+canisterLength = 8
+
+abbrev pub layoutLength : ℕ
+layoutLength = 20
+
+abbrev pub countersLength : ℕ → ℕ
+countersLength h = ahead + (8 + 4 * h)
 
 pub settings-size : (s : Settings) → length (settingsBody s) ≡ cond (several s) 28 20
 unfolding settingsBody
@@ -74,10 +90,9 @@ layouts-size [] = refl
 layouts-size (x ∷ l) = rw (length-append, record-length 5 (layoutBody x), layout-size x, layouts-size l) (omega arith)
 
 pub encode-size : (m : Model) → length (encode m) ≡ 20 + cond (several (m .settings)) 28 20 + 4 * hopperCount (m .settings) + 20 * length (m .layouts) + sum (map tileSize (m .tiles))
-unfolding encode
 encode-size m =
     let h = hopperCount (m .settings) in
-    rw (length-append, record-length 1 (settingsBody (m .settings)), settings-size (m .settings), length-append, record-length 2 (countersBody h (m .counters)), counters-size h (m .counters), length-append, layouts-size (m .layouts), tiles-size 0 (m .tiles))
+    rw (encode-records m, length-append, record-length 1 (settingsBody (m .settings)), settings-size (m .settings), length-append, record-length 2 (countersBody h (m .counters)), counters-size h (m .counters), length-append, layouts-size (m .layouts), tiles-size 0 (m .tiles))
     (omega arith)
 
 -- ---- at most 16 canisters on each tile, none on those of a set

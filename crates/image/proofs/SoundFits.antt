@@ -13,7 +13,7 @@ use Rattle.laws.specs.Define.{tab}
 use Rattle.laws.specs.Every.{All}
 use Rattle.laws.proofs.Tests.{and-left, and-right}
 use Rattle.laws.proofs.Lists.{all-imp, all-both, all-unmap, cat-all, all-each}
-use Rattle.image_bytes.specs.Bytes.{Fit}
+use Rattle.image_bytes.proofs.ByteLaws.{Fit}
 use Rattle.floor.specs.Settings.{total, isHopper, settingsPass, settingsRefusal}
 use Rattle.floor.specs.Layouts.{nameOk, layoutOk}
 use Rattle.floor.specs.Model.{Model, noTile, tileOf, membersOf, numbers, numbersOn}

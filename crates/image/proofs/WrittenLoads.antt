@@ -13,17 +13,17 @@ use Rattle.laws.specs.Define.{tab, refusal}
 use Rattle.laws.proofs.Tables.{tab-at, tab-off, filled}
 use Rattle.laws.specs.Every.{All}
 use Rattle.laws.proofs.Tests.{and-no}
-use Rattle.image_bytes.specs.Bytes.{fieldsOf, bytesOf, field, Fit}
-use Rattle.image_bytes.proofs.ByteLaws.{row-length, fields-bytes}
+use Rattle.image_bytes.specs.Bytes.{fieldsOf, bytesOf, field}
+use Rattle.image_bytes.proofs.ByteLaws.{Fit, row-length, fields-bytes}
 use Rattle.floor.specs.declared.Canister.{Canister}
 use Rattle.floor.specs.declared.Settings.{Settings}
 use Rattle.floor.specs.declared.Counters.{Counters}
 use Rattle.floor.specs.Settings.{total, settingsRefusal}
-use Rattle.floor.specs.Model.{TileState, Model}
+use Rattle.floor.specs.Model.{TileState, Model, withTiles, withLayouts}
 use Rattle.floor.specs.Move.{withDelivered}
 use Rattle.image.specs.Image.{lowest, oneTile, hopperCount, several, byteWrong, lengthIn, settingsWidths, settingsValues, countersWidths, countersValues, tileWidths, tileValues, canisterWidths, canisterValues, recordOf, settingsBody, countersBody, canistersBody, tileBody, layoutsBytes, tilesBytes, encode, kindIn, bodyIn, restIn, isLayout, layoutsIn, afterLayouts, settingsIn, countersIn, canisterIn, canistersIn, tileIn, tilesIn, modelIn, settingsFaults, countersFaults, tileFaults, endFaults, ownFaults, recordFault, orElse, endFault, tilesFault, fault}
 use Rattle.image.proofs.Hoppers.{none-spliced}
-use Rattle.image.proofs.Records.{record-length, length-in, kind-in, body-in, rest-in, fault-in, kind-take, cut-off, cut-after}
+use Rattle.image.proofs.Records.{encode-records, fault-records, record-length, length-in, kind-in, body-in, rest-in, fault-in, kind-take, cut-off, cut-after}
 use Rattle.image.proofs.Sizes.{settings-size, counters-size, canister-size, tile-size}
 use Rattle.image.proofs.Layouts.{LayoutFits, LaidBack, laid-back, bothFault, laid-cut}
 
@@ -278,8 +278,7 @@ module _ (m : Model) (g : Fits m) (ys : List ℕ) where
   fault-1 = rw (fault-in 1 (settingsBody (m .settings)) ys short-1 (omega arith)) own-1
 
   fault-first : fault (recordOf 1 (settingsBody (m .settings)) ++ ys) ≡ orElse (recordFault 2 (hopperCount (m .settings)) ys) (bothFault 8 (total (m .settings)) (restIn ys))
-  unfolding fault
-  fault-first = rw (fault-1, rest-1, long-1, inner-1, settings-read)
+  fault-first = rw (fault-records (recordOf 1 (settingsBody (m .settings)) ++ ys), fault-1, rest-1, long-1, inner-1, settings-read)
 
   model-first : modelIn (recordOf 1 (settingsBody (m .settings)) ++ ys) ≡ record { settings = m .settings; counters = countersIn (hopperCount (m .settings)) (bodyIn ys); tiles = tilesIn (total (m .settings)) (afterLayouts 8 (restIn ys)); layouts = layoutsIn 8 (restIn ys) }
   unfolding modelIn
@@ -306,13 +305,12 @@ module _ (m : Model) (g : Fits m) (ys : List ℕ) where
   fault-second : fault (recordOf 1 (settingsBody (m .settings)) ++ (recordOf 2 (countersBody (hopperCount (m .settings)) (m .counters)) ++ ys)) ≡ bothFault 8 (total (m .settings)) ys
   fault-second = fault-first m g (recordOf 2 (countersBody (hopperCount (m .settings)) (m .counters)) ++ ys) ∙ rw (fault-2 m g ys, rest-2 m g ys)
 
-  model-second : modelIn (recordOf 1 (settingsBody (m .settings)) ++ (recordOf 2 (countersBody (hopperCount (m .settings)) (m .counters)) ++ ys)) ≡ record { settings = m .settings; counters = m .counters; tiles = tilesIn (total (m .settings)) (afterLayouts 8 ys); layouts = layoutsIn 8 ys }
+  model-second : modelIn (recordOf 1 (settingsBody (m .settings)) ++ (recordOf 2 (countersBody (hopperCount (m .settings)) (m .counters)) ++ ys)) ≡ withLayouts (withTiles m (tilesIn (total (m .settings)) (afterLayouts 8 ys))) (layoutsIn 8 ys)
   model-second = model-first m g (recordOf 2 (countersBody (hopperCount (m .settings)) (m .counters)) ++ ys) ∙ rw (inner-2 m g ys, counters-read m g ys, rest-2 m g ys)
 
 module _ (m : Model) (g : Fits m) where
   encode-append : (ys : List ℕ) → encode m ++ ys ≡ recordOf 1 (settingsBody (m .settings)) ++ (recordOf 2 (countersBody (hopperCount (m .settings)) (m .counters)) ++ (layoutsBytes (m .layouts) ++ (tilesBytes 0 (m .tiles) ++ ys)))
-  unfolding encode
-  encode-append ys = simp append-assoc
+  encode-append ys = ap (λ (xs : List ℕ). xs ++ ys) (encode-records m) ∙ simp append-assoc
 
   tiles-read : (ys : List ℕ) → (tilesFault (total (m .settings)) 0 (tilesBytes 0 (m .tiles) ++ ys) ≡ leftover ys) × (tilesIn (total (m .settings)) (tilesBytes 0 (m .tiles) ++ ys) ≡ m .tiles)
   tiles-read ys = rw (← g .many) (tiles-back 0 (m .tiles) ys (g .each) (omega (arith, g .few)))
@@ -343,16 +341,14 @@ module _ (m : Model) (g : Fits m) where
   later = layoutsBytes (m .layouts) ++ tilesBytes 0 (m .tiles)
 
   cut-first : (n : ℕ) (ys : List ℕ) → n < 4 + length first → fault (take n (recordOf 1 first ++ ys)) ≡ 9
-  unfolding fault
-  cut-first n ys h = rw (cut-off 1 0 n first ys (omega (arith, size-short m)) h)
+  cut-first n ys h = rw (fault-records (take n (recordOf 1 first ++ ys)), cut-off 1 0 n first ys (omega (arith, size-short m)) h)
 
   cut-second : (n : ℕ) (ys : List ℕ) → n < 4 + length second → recordFault 2 (hopperCount (m .settings)) (take n (recordOf 2 second ++ ys)) ≡ 9
   cut-second n ys h = cut-off 2 (hopperCount (m .settings)) n second ys (omega (arith, counters-size (hopperCount (m .settings)) (m .counters), g .hoppers-few)) h
 
   -- a proper prefix is 9
   pub fault-cut : (n : ℕ) → n < length (encode m) → fault (take n (encode m)) ≡ 9
-  unfolding encode
-  fault-cut n h = go (decLe (4 + length first) n) (decLe (4 + length second) (n - (4 + length first)))
+  fault-cut n h = rw (encode-records m) (go (decLe (4 + length first) n) (decLe (4 + length second) (n - (4 + length first))))
     where
       tiles : (j : ℕ) → j < length (tilesBytes 0 (m .tiles)) → tilesFault (total (m .settings)) 0 (take j (tilesBytes 0 (m .tiles))) ≡ 9
       tiles j k = rw (← g .many) (tiles-cut 0 j (m .tiles) (g .each) (omega (arith, g .few)) k)
@@ -368,7 +364,7 @@ module _ (m : Model) (g : Fits m) where
       go (yes p) (yes q) =
           let e : length (recordOf 1 first ++ (recordOf 2 second ++ later)) ≡ 4 + length first + (4 + length second + length (later)) =
           rw (length-append, record-length 1 first, length-append, record-length 2 second) in
-          let k : n - (4 + length first) - (4 + length second) < length (later) = omega arith in
+          let k : n - (4 + length first) - (4 + length second) < length (later) = omega (arith, ap (λ (xs : List ℕ). length xs) (encode-records m)) in
           rw (
             cut-after 1 n first (recordOf 2 second ++ later) p,
             cut-after 2 (n - (4 + length first)) second (later) q,

@@ -100,10 +100,13 @@ unfoldable pub tilesBytes : ℕ → List TileState → List ℕ
 tilesBytes t [] = recordOf 4 []
 tilesBytes t (x ∷ l) = recordOf 3 (tileBody t x) ++ tilesBytes (suc t) l
 
+-- the front of an image: the records of kinds 1, 2 and 5
+unfoldable pub frontBytes : Settings → Counters → List Layout → List ℕ
+frontBytes s c l = recordOf 1 (settingsBody s) ++ (recordOf 2 (countersBody (hopperCount s) c) ++ layoutsBytes l)
+
+-- the image of a floor
 unfoldable pub encode : Model → List ℕ
-encode m =
-    recordOf 1 (settingsBody (m .settings))
-    ++ (recordOf 2 (countersBody (hopperCount (m .settings)) (m .counters)) ++ (layoutsBytes (m .layouts) ++ tilesBytes 0 (m .tiles)))
+encode m = frontBytes (m .settings) (m .counters) (m .layouts) ++ tilesBytes 0 (m .tiles)
 
 -- ---- reading: the record at the front of the bytes that are left, and what is left after it
 abbrev pub lengthIn : List ℕ → ℕ
@@ -228,14 +231,19 @@ unfoldable pub laidFault : ℕ → List ℕ → ℕ
 laidFault zero xs = 0
 laidFault (suc n) xs = let r = orElse (recordFault 5 0 xs) (laidFault n (restIn xs)) in cond (isLayout xs) r 0
 
+-- of the front
+unfoldable pub frontFault : List ℕ → ℕ
+frontFault xs =
+    let s = settingsIn (lengthIn xs) (bodyIn xs) in
+    orElse (recordFault 1 0 xs)
+    (orElse (recordFault 2 (hopperCount s) (restIn xs))
+    (laidFault 8 (restIn (restIn xs))))
+
+-- of a whole image: the front, then the tiles and the end
 unfoldable pub fault : List ℕ → ℕ
 fault xs =
     let s = settingsIn (lengthIn xs) (bodyIn xs) in
-    let ys = restIn (restIn xs) in
-    orElse (recordFault 1 0 xs)
-    (orElse (recordFault 2 (hopperCount s) (restIn xs))
-    (orElse (laidFault 8 ys)
-    (tilesFault (total s) 0 (afterLayouts 8 ys))))
+    orElse (frontFault xs) (tilesFault (total s) 0 (afterLayouts 8 (restIn (restIn xs))))
 
 -- the number n, and a floor where it is 0: "A refused load … gives the all-zero floor"
 unfoldable pub answerBy : ℕ → Model → Answer

@@ -7,7 +7,7 @@ use native.Mathlib.Nat.{div-add-mod', div-lt-iff-lt-mul}
 use lib.ListN.{length, take, drop, length-append, length-drop}
 use lib.Seq.{drop-at, take-add}
 use lib.Arith.{digits-div, digits-mod}
-use Rattle.image_bytes.specs.Bytes.{le, bytes, fieldsOf, bytesOf, width, Fit, Bytes}
+use Rattle.image_bytes.specs.Bytes.{le, bytes, fieldsOf, bytesOf, width, Bytes}
 
 -- ---- one number
 pub bytes-length : (n x : ℕ) → length (bytes n x) ≡ n
@@ -42,6 +42,13 @@ unfolding bytesOf
 row-length [] vs h = refl
 row-length (w ∷ ws) [] h = absurd (omega arith)
 row-length (w ∷ ws) (v ∷ vs) h = rw (length-append, bytes-length w v, row-length ws vs (omega arith))
+
+-- each value fits its width
+abbrev pub Fit : List ℕ → List ℕ → Type 0
+Fit [] [] = Unit {0}
+Fit [] (v ∷ vs) = ⊥
+Fit (w ∷ ws) [] = ⊥
+Fit (w ∷ ws) (v ∷ vs) = (v < 256 ^ w) × Fit ws vs
 
 -- the fields of what was written are the values
 pub fields-bytes : (ws vs ys : List ℕ) → Fit ws vs → fieldsOf ws (bytesOf ws vs ++ ys) ≡ vs

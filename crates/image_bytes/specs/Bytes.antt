@@ -1,6 +1,6 @@
 -- Numbers as little-endian bytes, and rows of fields of given widths.
 use mathlib.Core.List.{List, [], _∷_, _++_}
-use Prim.Native.Nat.{ℕ, zero, suc, _+_, _*_, _/_, _%_, _^_, _<_}
+use Prim.Native.Nat.{ℕ, zero, suc, _+_, _*_, _/_, _%_, _<_}
 use lib.ListN.{drop, getD}
 
 -- the number that the first n bytes hold, the low byte first; a byte that isn't there counts as 0
@@ -32,13 +32,6 @@ field ws k b = getD (fieldsOf ws b) k 0
 abbrev pub width : List ℕ → ℕ
 width [] = 0
 width (w ∷ ws) = w + width ws
-
--- each value fits its width
-abbrev pub Fit : List ℕ → List ℕ → Type 0
-Fit [] [] = Unit {0}
-Fit [] (v ∷ vs) = ⊥
-Fit (w ∷ ws) [] = ⊥
-Fit (w ∷ ws) (v ∷ vs) = (v < 256 ^ w) × Fit ws vs
 
 -- every number of the list is a byte
 abbrev pub Bytes : List ℕ → Type 0

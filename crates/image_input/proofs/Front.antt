@@ -18,12 +18,12 @@ use Rattle.floor.specs.declared.Settings.{Settings}
 use Rattle.floor.specs.Settings.{total}
 use Rattle.floor.specs.Memory.{zeroFloor}
 use Rattle.image.specs.Image.{settingsWidths, tileWidths, hopperCount, lengthIn, kindIn, bodyIn, restIn, settingsIn, isLayout, afterLayouts, byteWrong, settingsFaults, tileFaults, ownFaults, recordFault, orElse, endFault, tilesFault, laidFault, fault, answerBy, imageRefusal, imageAnswer, loadAnswer}
-use Rattle.image.proofs.Records.{whole, kind-take, le-take}
+use Rattle.image.proofs.Records.{fault-records, whole, kind-take, le-take}
 use Rattle.image.proofs.Layouts.{layout-good, bothFault}
 use Rattle.image.proofs.LoadedWrites.{tile-good, end-good, counters-good, settings-good}
 use Rattle.image.proofs.Read.{first-measured}
 use Rattle.image.proofs.Promises.{load-some}
-use Rattle.image_input.specs.Enough.{LoadedFront}
+use Rattle.image_input.specs.Enough.{enough, LoadedFront}
 
 -- ---- the front of a list
 drop-front : (k n : ℕ) (xs : List ℕ) → drop k (take n xs) ≡ take (n - k) (drop k xs)
@@ -178,31 +178,30 @@ counters-front h c n xs b few room long =
     (λ z. laid-front 8 c (n - (4 + lengthIn xs)) (restIn xs) (bytes-drop (4 + lengthIn xs) xs b) (omega (arith, counters-good h xs (whole 2 h xs z))) (rest-long n xs b (omega arith) long))
 
 -- ---- all records
-module _ (xs : List ℕ) (b : Bytes xs) (long : 74591 < length xs) where
+module _ (xs : List ℕ) (b : Bytes xs) (long : enough < length xs) where
   abbrev settings : List ℕ → Settings
   settings ys = settingsIn (lengthIn ys) (bodyIn ys)
 
-  same-settings : settings (take 74591 xs) ≡ settings xs
-  same-settings = rw (length-front 74591 xs b (omega arith) long, body-front 74591 xs b (omega arith) long) (settings-front (lengthIn xs) (74591 - 4) (bodyIn xs) (omega arith))
+  same-settings : settings (take enough xs) ≡ settings xs
+  same-settings = rw (length-front enough xs b (omega arith) long, body-front enough xs b (omega arith) long) (settings-front (lengthIn xs) (enough - 4) (bodyIn xs) (omega arith))
 
-  decided : Decided (λ ys. orElse (recordFault 1 0 ys) (orElse (recordFault 2 (hopperCount (settings xs)) (restIn ys)) (bothFault 8 (total (settings xs)) (restIn (restIn ys))))) 74591 xs
+  decided : Decided (λ ys. orElse (recordFault 1 0 ys) (orElse (recordFault 2 (hopperCount (settings xs)) (restIn ys)) (bothFault 8 (total (settings xs)) (restIn (restIn ys))))) enough xs
   decided =
-      after 1 0 (λ ys. orElse (recordFault 2 (hopperCount (settings xs)) ys) (bothFault 8 (total (settings xs)) (restIn ys))) 74591 xs b (omega arith) long
-      (λ z. counters-front (hopperCount (settings xs)) (total (settings xs)) (74591 - (4 + lengthIn xs)) (restIn xs) (bytes-drop (4 + lengthIn xs) xs b) (first-measured xs z .hoppers-few) (small z) (rest-long 74591 xs b (omega arith) long))
+      after 1 0 (λ ys. orElse (recordFault 2 (hopperCount (settings xs)) ys) (bothFault 8 (total (settings xs)) (restIn ys))) enough xs b (omega arith) long
+      (λ z. counters-front (hopperCount (settings xs)) (total (settings xs)) (enough - (4 + lengthIn xs)) (restIn xs) (bytes-drop (4 + lengthIn xs) xs b) (first-measured xs z .hoppers-few) (small z) (rest-long enough xs b (omega arith) long))
     where
-      small : recordFault 1 0 xs ≡ 0 → 28 + (160 + (138 * total (settings xs) + 65539)) ≤ 74591 - (4 + lengthIn xs)
+      small : recordFault 1 0 xs ≡ 0 → 28 + (160 + (138 * total (settings xs) + 65539)) ≤ enough - (4 + lengthIn xs)
       small z = go (settings-good xs (whole 1 0 xs z) .long)
         where
           few : total (settings xs) ≤ 64
           few = first-measured xs z .few
 
-          go : (lengthIn xs ≡ 20) ⊎ (lengthIn xs ≡ 28) → 28 + (160 + (138 * total (settings xs) + 65539)) ≤ 74591 - (4 + lengthIn xs)
+          go : (lengthIn xs ≡ 20) ⊎ (lengthIn xs ≡ 28) → 28 + (160 + (138 * total (settings xs) + 65539)) ≤ enough - (4 + lengthIn xs)
           go (inl e) = omega (arith, e, few)
           go (inr e) = omega (arith, e, few)
 
-  fault-front : (fault (take 74591 xs) ≡ fault xs) × (fault xs ≢ 0)
-  unfolding fault
-  fault-front = (rw same-settings (decided .0), decided .1)
+  fault-front : (fault (take enough xs) ≡ fault xs) × (fault xs ≢ 0)
+  fault-front = (rw (fault-records (take enough xs), fault-records xs, same-settings) (decided .0), λ z. decided .1 (sym (fault-records xs) ∙ z))
 
 -- a fault gives its number and the all-zero floor
 refused : (xs : List ℕ) → fault xs ≢ 0 → imageAnswer xs ≡ record { refusal = fault xs; floor = zeroFloor }
@@ -211,13 +210,13 @@ refused xs n = let e : eqb (fault xs) 0 ≡ false = ne-eqb (fault xs) 0 n in rw 
 
 -- for every input, however long
 pub loaded-front : LoadedFront
-loaded-front xs b = go (decLe (length xs) 74591)
+loaded-front xs b = go (decLe (length xs) enough)
   where
-    go : Dec (length xs ≤ 74591) → loadAnswer (take 74591 xs) ≡ loadAnswer xs
-    go (yes short) = ap loadAnswer (take-all 74591 xs short)
+    go : Dec (length xs ≤ enough) → loadAnswer (take enough xs) ≡ loadAnswer xs
+    go (yes short) = ap loadAnswer (take-all enough xs short)
     go (no n) =
-        let long : 74591 < length xs = omega arith in
+        let long : enough < length xs = omega arith in
         let f = fault-front xs b long in
-        let l : length (take 74591 xs) ≡ 74591 = length-take-le 74591 xs (omega arith) in
-        let here : imageAnswer (take 74591 xs) ≡ record { refusal = fault xs; floor = zeroFloor } = refused (take 74591 xs) (λ z. f .1 (sym (f .0) ∙ z)) ∙ rw (f .0) in
-        load-some (take 74591 xs) (omega (arith, l)) ∙ here ∙ sym (refused xs (f .1)) ∙ sym (load-some xs (omega arith))
+        let l : length (take enough xs) ≡ enough = length-take-le enough xs (omega arith) in
+        let here : imageAnswer (take enough xs) ≡ record { refusal = fault xs; floor = zeroFloor } = refused (take enough xs) (λ z. f .1 (sym (f .0) ∙ z)) ∙ rw (f .0) in
+        load-some (take enough xs) (omega (arith, l)) ∙ here ∙ sym (refused xs (f .1)) ∙ sym (load-some xs (omega arith))

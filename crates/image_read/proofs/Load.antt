@@ -1,17 +1,16 @@
 -- The parts joined: the canisters are those of the floor that was read, and each return of read_front and read_image is what the definitions say.
 use mathlib.Core.Path.{_≡_, refl, sym, ap, _∙_}
-use mathlib.Core.Logic.{_⊎_, inl, inr, _≢_}
+use mathlib.Core.Logic.{_⊎_, _≢_}
 use mathlib.Core.Bool.{Bool, true, false, cond, _&&_}
 use mathlib.Core.List.{List, _∷_}
 use Prim.Native.Nat.{ℕ, zero, suc, _+_, _-_, _*_, _/_, _%_, _≤_, _<_}
 use native.Mathlib.Omega.{arith}
 use native.Mathlib.Decide.{decLe}
-use lib.Dec.{ltb, eqb}
+use lib.Dec.{ltb}
 use borrow.Author.Tests.{lt-ltb, le-ltb, ne-eqb}
 use lib.ListN.{length, take, drop, getD, length-drop, List·getD-eq-default}
 use lib.Seq.{drop-drop, getD-take, length-take-le}
 use Rattle.laws.specs.Define.{tab, allOf, bitsBelow, refusal}
-use Rattle.laws.proofs.Tests.{by-test}
 use Rattle.laws.proofs.SetBits.{bits-within}
 use Rattle.laws.proofs.Tables.{tab-length, tab-at, tab-same, filled}
 use Rattle.image_bytes.specs.Bytes.{le, field}
@@ -22,8 +21,9 @@ use Rattle.floor.specs.Settings.{total, hoppersOf}
 use Rattle.floor.specs.Model.{TileState}
 use Rattle.floor.specs.Memory.{zeroCanister, zeroLayout, zeroFloor, unused, head, rows, layoutPlaces, build, pack}
 use Rattle.floor.proofs.Rows.{rows-filled}
-use Rattle.image.specs.Image.{hopperCount, tileWidths, lengthIn, bodyIn, restIn, settingsIn, countersIn, canisterIn, canistersIn, tileIn, tilesIn, layoutIn, layoutsIn, afterLayouts, modelIn, recordFault, orElse, tilesFault, laidFault, fault, answerBy, allNamed, recordsRefusal, recordsAnswer}
+use Rattle.image.specs.Image.{hopperCount, tileWidths, lengthIn, bodyIn, restIn, settingsIn, countersIn, canisterIn, canistersIn, tileIn, tilesIn, layoutIn, layoutsIn, afterLayouts, modelIn, recordFault, orElse, tilesFault, laidFault, frontFault, fault, answerBy, allNamed, recordsRefusal, recordsAnswer}
 use Rattle.image.proofs.Records.{whole}
+use Rattle.image.proofs.Sizes.{ahead, layoutLength}
 use Rattle.image.proofs.LoadedWrites.{canisters-length, settings-good, counters-good}
 use Rattle.image_record_read.proofs.Refusals.{room-20}
 use Rattle.image.proofs.Read.{first-measured}
@@ -34,7 +34,7 @@ use Rattle.image_record_read.proofs.Values.{layout-some}
 use Rattle.image_record_read.proofs.Walk.{rest-at, record-room, tiles-at, tiles-off}
 use Rattle.image_read.specs.Arrays.{canisterAt, canisterFrom}
 use Rattle.image_read.specs.declared.Front.{Front}
-use Rattle.image_read.specs.Front.{frontFault, FrontRead}
+use Rattle.image_read.specs.Front.{FrontRead}
 
 -- ---- the canisters, by their place
 canisters-at : (n j : ℕ) (b : List ℕ) → j < n → getD (canistersIn n b) j zeroCanister ≡ canisterIn (drop (8 * j) b)
@@ -86,13 +86,6 @@ module _ (s xs starts : List ℕ) (n : ℕ) (f : Starts s xs starts n) where
   canisters-are = rows-filled shown (tab 1024 (canisterFrom s starts n)) (tab-length 1024 (canisterFrom s starts n)) (λ i k. tab-at 1024 (canisterFrom s starts n) i zeroCanister k ∙ place-is (i / 16) (i % 16))
 
 -- ---- the records in order
-or-assoc : (a b c : ℕ) → orElse (orElse a b) c ≡ orElse a (orElse b c)
-or-assoc a b c = go (by-test (eqb a 0))
-  where
-    go : (eqb a 0 ≡ true) ⊎ (eqb a 0 ≡ false) → orElse (orElse a b) c ≡ orElse a (orElse b c)
-    go (inl e) = rw e
-    go (inr e) = rw (e, e)
-
 module _ (xs : List ℕ) where
   abbrev settings : Settings
   settings = settingsIn (lengthIn xs) (bodyIn xs)
@@ -111,13 +104,8 @@ module _ (xs : List ℕ) where
 
   -- the front, then the tiles
   fault-front : fault xs ≡ orElse (frontFault xs) (tilesFault (total settings) 0 (afterLayouts 8 (restIn (restIn xs))))
-  unfolding fault frontFault
-  fault-front =
-      let a = recordFault 1 0 xs in
-      let b = recordFault 2 (hopperCount settings) (restIn xs) in
-      let c = laidFault 8 (restIn (restIn xs)) in
-      let t = tilesFault (total settings) 0 (afterLayouts 8 (restIn (restIn xs))) in
-      sym (or-assoc a (orElse b c) t ∙ ap (λ (k : ℕ). orElse a k) (or-assoc b c t))
+  unfolding fault
+  fault-front = refl
 
   answer-refused : (k : ℕ) → fault xs ≡ k → k ≢ 0 → record { refusal = k; floor = zeroFloor } ≡ recordsAnswer xs
   unfolding recordsAnswer recordsRefusal answerBy
@@ -173,7 +161,7 @@ module _ (s : List ℕ) (from n : ℕ) (ls : List Layout) (L : Laying s from n l
   ys = drop from s
 
   abbrev each : ℕ → Layout
-  each k = layoutIn (drop (from + 4 + 20 * k) s)
+  each k = layoutIn (drop (from + ahead + layoutLength * k) s)
 
   layouts-are : tab 8 (layoutFrom s from n) ≡ layoutPlaces 8 (layoutsIn 8 ys)
   unfolding layoutFrom
@@ -241,20 +229,20 @@ module _ {x : List ℕ} {a : Found} {u h : ℕ} {b : Found} (S : SecondRead x a 
   second-long = rw length-drop at (second-ok h (drop (4 + u) x) (S .sound) .enough)
 
   module _ (w : ℕ) (n : w ≡ le 2 (drop (4 + u) x)) where
-    rest-2 : drop (4 + u + 4 + w) x ≡ restIn (restIn x)
+    rest-2 : drop (ahead + u + ahead + w) x ≡ restIn (restIn x)
     rest-2 = sym (rest-at x (4 + u) w n) ∙ ap (λ (l : List ℕ). restIn l) (rest-1 (S .first))
 
-    pub third-begins : 4 + u + 4 + w ≤ length x
+    pub third-begins : ahead + u + ahead + w ≤ length x
     third-begins = omega (arith, n, record-room x (4 + u) 2 h (second-begins (S .first)) (S .sound))
 
-    pub front-is : (k : ℕ) → k ≡ laidFault 8 (drop (4 + u + 4 + w) x) → k ≡ frontFault x
+    pub front-is : (k : ℕ) → k ≡ laidFault 8 (drop (ahead + u + ahead + w) x) → k ≡ frontFault x
     front-is k e = e ∙ ap (laidFault 8) rest-2 ∙ sym (front-3 x (S .first .sound) (sym (second-is (S .first)) ∙ S .sound))
 
-    pub front-read : (m : ℕ) (ls : List Layout) → Laying x (4 + u + 4 + w) m ls
-        → FrontRead x record { settings = a .settings; counters = b .counters; layouts = ls; count = m; next = 4 + u + 4 + w + 20 * m; fault = 0 }
+    pub front-read : (m : ℕ) (ls : List Layout) → Laying x (ahead + u + ahead + w) m ls
+        → FrontRead x record { settings = a .settings; counters = b .counters; layouts = ls; count = m; next = ahead + u + ahead + w + layoutLength * m; fault = 0 }
     unfolding modelIn
     front-read m ls L =
-        let from = 4 + u + 4 + w in
+        let from = ahead + u + ahead + w in
         let st = S .first .holds .settings refl in
         record {
           settings = st;

@@ -1,19 +1,12 @@
--- The front of an image, the records of kinds 1, 2 and 5: what refuses it, and what is kept of it.
+-- The front of an image, the records of kinds 1, 2 and 5: what is kept of it.
 use mathlib.Core.Path.{_≡_}
 use mathlib.Core.List.{List}
 use Prim.Native.Nat.{ℕ, _≤_}
 use lib.ListN.{length, take, drop}
 use Rattle.floor.specs.Settings.{total}
 use Rattle.floor.specs.Memory.{layoutPlaces}
-use Rattle.image.specs.Image.{hopperCount, lengthIn, bodyIn, restIn, settingsIn, afterLayouts, modelIn, recordFault, orElse, laidFault}
+use Rattle.image.specs.Image.{restIn, afterLayouts, modelIn}
 use Rattle.image_read.specs.declared.Front.{Front}
-
-unfoldable pub frontFault : List ℕ → ℕ
-frontFault xs =
-    let s = settingsIn (lengthIn xs) (bodyIn xs) in
-    orElse (recordFault 1 0 xs)
-    (orElse (recordFault 2 (hopperCount s) (restIn xs))
-    (laidFault 8 (restIn (restIn xs))))
 
 -- r is the front of the floor that xs hold; the tiles' records begin at its `next`
 pub record FrontRead (xs : List ℕ) (r : Front) : Type 0 where

@@ -11,6 +11,7 @@ use Rattle.floor.specs.declared.Layout.{Layout}
 use Rattle.floor.specs.declared.Tile.{Tile}
 use Rattle.floor.specs.Layouts.{nameNumber}
 use Rattle.image.specs.Image.{tilesFault, recordFault, isLayout, laidFault}
+use Rattle.image.proofs.Sizes.{layoutLength}
 use Rattle.image_record_read.specs.Scan.{Starts, after, Holds, Laying}
 use Rattle.image_record_read.specs.declared.Found.{Found}
 use Rattle.image_record_read.proofs.Walk.{Tiled, Passed, Laid, after-more, laid-turn, passed-off, passed-on, passed-room, passed-stop, record-room, rest-at, start-at, starts-more, tiled-turn, tiles-on, tiles-stop}
@@ -25,7 +26,7 @@ pub record NameRead (s : List ℕ) (at n k : ℕ) : Type 0 where
 
 pub record LayoutsScanned (s : List ℕ) (from : ℕ) (layouts : List Layout) (at n : ℕ) : Type 0 where
   pub below : n ≤ 8
-  pub reached : at ≡ from + 20 * n
+  pub reached : at ≡ from + layoutLength * n
   pub passed : Passed s from n
   pub laid : Laid s from n layouts
 
@@ -49,14 +50,14 @@ pub record CountersRead (s : List ℕ) (at h n : ℕ) (delivered : List ℕ) (k 
 
 -- a turn over the layouts: none stands there; one that is refused; one more
 module _ {s : List ℕ} {from : ℕ} {layouts : List Layout} {at n : ℕ} (h : LayoutsScanned s from layouts at n) (b : Bool) (e : b ≡ isLayout (drop at s)) where
-  here : isLayout (drop (from + 20 * n) s) ≡ b
+  here : isLayout (drop (from + layoutLength * n) s) ≡ b
   here = ap (λ (k : ℕ). isLayout (drop k s)) (sym (h .reached)) ∙ sym e
 
   pub layouts-off : not b ≡ true → (0 ≡ laidFault 8 (drop from s)) × (_≡_ {A = ℕ} 0 0 → Laying s from n layouts)
   layouts-off q = let r = passed-off s from n (h .passed) layouts (h .laid) (h .below) (here ∙ not-true b q) in (sym (r .0), λ z. r .1)
 
   module _ (q : not b ≡ false) (l : n < 8) (r : Found) (f : r .fault ≡ recordFault 5 0 (drop at s)) where
-    fault-here : r .fault ≡ recordFault 5 0 (drop (from + 20 * n) s)
+    fault-here : r .fault ≡ recordFault 5 0 (drop (from + layoutLength * n) s)
     fault-here = f ∙ ap (λ (k : ℕ). recordFault 5 0 (drop k s)) (h .reached)
 
     pub layout-stop : r .fault ≢ 0 → r .fault ≡ laidFault 8 (drop from s)

@@ -20,6 +20,7 @@ use Rattle.floor.specs.declared.Tile.{Tile}
 use Rattle.floor.specs.Memory.{zeroTile, zeroLayout, unused, head}
 use Rattle.image.specs.Image.{tileWidths, lengthIn, bodyIn, restIn, tileIn, tilesIn, layoutIn, isLayout, layoutsIn, afterLayouts, recordFault, endFault, tilesFault, laidFault}
 use Rattle.image.proofs.Records.{whole}
+use Rattle.image.proofs.Sizes.{ahead, layoutLength}
 use Rattle.image.proofs.LoadedWrites.{tile-good}
 use Rattle.image.proofs.Layouts.{layout-good}
 use Rattle.image.proofs.Read.{tiles-length}
@@ -127,7 +128,7 @@ module _ (c : ℕ) (xs : List ℕ) where
 -- ---- the layouts that were read
 module _ (s : List ℕ) (from : ℕ) where
   abbrev pub layoutAt : ℕ → Layout
-  layoutAt k = layoutIn (drop (from + 4 + 20 * k) s)
+  layoutAt k = layoutIn (drop (from + ahead + layoutLength * k) s)
 
   abbrev pub Laid : ℕ → List Layout → Type 0
   Laid n out = Filled 8 layoutAt zeroLayout n out
@@ -139,21 +140,21 @@ module _ (s : List ℕ) (from : ℕ) where
       go i (yes a) = p .1 i a ∙ layout-some s from n i a
       go i (no a) = p .2 i (omega arith) ∙ layout-none s from n i (omega arith)
 
-  pub laid-turn : (n at : ℕ) (out : List Layout) (v : Layout) → n < 8 → at ≡ from + 20 * n → v ≡ layoutIn (bodyIn (drop at s)) → Laid n out → Laid (n + 1) (set out n v)
+  pub laid-turn : (n at : ℕ) (out : List Layout) (v : Layout) → n < 8 → at ≡ from + layoutLength * n → v ≡ layoutIn (bodyIn (drop at s)) → Laid n out → Laid (n + 1) (set out n v)
   laid-turn n at out v h e q p =
-      let k : at + 4 ≡ from + 4 + 20 * n = omega arith in
+      let k : at + 4 ≡ from + ahead + layoutLength * n = omega arith in
       filled-turn 8 layoutAt zeroLayout n out v h (q ∙ ap (λ (l : List ℕ). layoutIn l) (drop-drop 4 at s ∙ ap (λ (j : ℕ). drop j s) k)) p
 
 -- ---- the layouts: n were passed, and the next one would stand at from + 20 × n
 pub record Passed (s : List ℕ) (from n : ℕ) : Type 0 where
-  pub room : from + 20 * n ≤ length s
-  pub faults : laidFault (8 - n) (drop (from + 20 * n) s) ≡ laidFault 8 (drop from s)
-  pub values : layoutsIn 8 (drop from s) ≡ tab n (λ k. layoutIn (drop (from + 4 + 20 * k) s)) ++ layoutsIn (8 - n) (drop (from + 20 * n) s)
-  pub rest : afterLayouts (8 - n) (drop (from + 20 * n) s) ≡ afterLayouts 8 (drop from s)
+  pub room : from + layoutLength * n ≤ length s
+  pub faults : laidFault (8 - n) (drop (from + layoutLength * n) s) ≡ laidFault 8 (drop from s)
+  pub values : layoutsIn 8 (drop from s) ≡ tab n (λ k. layoutIn (drop (from + ahead + layoutLength * k) s)) ++ layoutsIn (8 - n) (drop (from + layoutLength * n) s)
+  pub rest : afterLayouts (8 - n) (drop (from + layoutLength * n) s) ≡ afterLayouts 8 (drop from s)
 
 pub passed-none : (s : List ℕ) (from : ℕ) → from ≤ length s → Passed s from 0
 unfolding tab
-passed-none s from h = let e : from + 20 * 0 ≡ from = omega arith in record { room = omega arith; faults = rw e; values = rw e; rest = rw e }
+passed-none s from h = let e : from + layoutLength * 0 ≡ from = omega arith in record { room = omega arith; faults = rw e; values = rw e; rest = rw e }
 
 tab-last : {A : Type 0} (n : ℕ) (g : ℕ → A) → tab (suc n) g ≡ tab n g ++ (g n ∷ [])
 unfolding tab
@@ -194,7 +195,7 @@ ends-zero xs = record { faults = refl; values = refl; rest = refl }
 
 module _ (s : List ℕ) (from n : ℕ) (P : Passed s from n) where
   abbrev here : List ℕ
-  here = drop (from + 20 * n) s
+  here = drop (from + layoutLength * n) s
 
   pub passed-stop : n < 8 → isLayout here ≡ true → recordFault 5 0 here ≢ 0 → recordFault 5 0 here ≡ laidFault 8 (drop from s)
   passed-stop h e z = sym (faults-stop (8 - (n + 1)) here e z) ∙ ap (λ (k : ℕ). laidFault k here) (sym (less 8 n h)) ∙ P .faults
@@ -202,7 +203,7 @@ module _ (s : List ℕ) (from n : ℕ) (P : Passed s from n) where
   passed-end : (out : List Layout) → Laid s from n out → n ≤ 8 → Ends (8 - n) here → (laidFault 8 (drop from s) ≡ 0) × Laying s from n out
   passed-end out p h E = (
     sym (P .faults) ∙ E .faults,
-    record { few = h; room = P .room; values = P .values ∙ rw (E .values) (append-nil (tab n (λ k. layoutIn (drop (from + 4 + 20 * k) s)))); rest = sym (P .rest) ∙ E .rest; places = laid-all s from n out p },
+    record { few = h; room = P .room; values = P .values ∙ rw (E .values) (append-nil (tab n (λ k. layoutIn (drop (from + ahead + layoutLength * k) s)))); rest = sym (P .rest) ∙ E .rest; places = laid-all s from n out p },
   )
 
   pub passed-off : (out : List Layout) → Laid s from n out → n ≤ 8 → isLayout here ≡ false → (laidFault 8 (drop from s) ≡ 0) × Laying s from n out
@@ -211,25 +212,25 @@ module _ (s : List ℕ) (from n : ℕ) (P : Passed s from n) where
   pub passed-all : (out : List Layout) → Laid s from n out → n ≡ 8 → (laidFault 8 (drop from s) ≡ 0) × Laying s from n out
   passed-all out p h = let z : 8 - n ≡ 0 = omega arith in passed-end out p (omega arith) (rw z (ends-zero here))
 
-  pub passed-room : recordFault 5 0 here ≡ 0 → from + 20 * n + 20 ≤ length s
+  pub passed-room : recordFault 5 0 here ≡ 0 → from + layoutLength * n + layoutLength ≤ length s
   passed-room z =
       let w = whole 5 0 here z in
-      let m = record-room s (from + 20 * n) 5 0 (P .room) z in
+      let m = record-room s (from + layoutLength * n) 5 0 (P .room) z in
       omega (arith, layout-good here w, m)
 
   pub passed-on : n < 8 → isLayout here ≡ true → recordFault 5 0 here ≡ 0 → Passed s from (n + 1)
   passed-on h e z =
-      let next : from + 20 * (n + 1) ≡ from + 20 * n + 4 + 16 = omega arith in
-      let r : restIn here ≡ drop (from + 20 * (n + 1)) s = rest-at s (from + 20 * n) 16 (sym (layout-good here (whole 5 0 here z))) ∙ ap (λ (k : ℕ). drop k s) (sym next) in
-      let k : from + 20 * n + 4 ≡ from + 4 + 20 * n = omega arith in
-      let b : bodyIn here ≡ drop (from + 4 + 20 * n) s = drop-drop 4 (from + 20 * n) s ∙ ap (λ (j : ℕ). drop j s) k in
+      let next : from + layoutLength * (n + 1) ≡ from + layoutLength * n + 4 + 16 = omega arith in
+      let r : restIn here ≡ drop (from + layoutLength * (n + 1)) s = rest-at s (from + layoutLength * n) 16 (sym (layout-good here (whole 5 0 here z))) ∙ ap (λ (k : ℕ). drop k s) (sym next) in
+      let k : from + layoutLength * n + 4 ≡ from + ahead + layoutLength * n = omega arith in
+      let b : bodyIn here ≡ drop (from + ahead + layoutLength * n) s = drop-drop 4 (from + layoutLength * n) s ∙ ap (λ (j : ℕ). drop j s) k in
       let l = less 8 n h in
-      let g : ℕ → Layout = λ k. layoutIn (drop (from + 4 + 20 * k) s) in
-      let v : layoutsIn (8 - n) here ≡ g n ∷ layoutsIn (8 - (n + 1)) (drop (from + 20 * (n + 1)) s) = rw (l, values-on (8 - (n + 1)) here e, b, r) in
+      let g : ℕ → Layout = λ k. layoutIn (drop (from + ahead + layoutLength * k) s) in
+      let v : layoutsIn (8 - n) here ≡ g n ∷ layoutsIn (8 - (n + 1)) (drop (from + layoutLength * (n + 1)) s) = rw (l, values-on (8 - (n + 1)) here e, b, r) in
       record {
         room = omega (arith, passed-room z);
         faults = rw (← r) (sym (faults-on (8 - (n + 1)) here e z) ∙ ap (λ (k : ℕ). laidFault k here) (sym l) ∙ P .faults);
-        values = P .values ∙ rw (v, add-one n, tab-last n g) (sym (append-assoc (tab n g) (g n ∷ []) (layoutsIn (8 - suc n) (drop (from + 20 * suc n) s))));
+        values = P .values ∙ rw (v, add-one n, tab-last n g) (sym (append-assoc (tab n g) (g n ∷ []) (layoutsIn (8 - suc n) (drop (from + layoutLength * suc n) s))));
         rest = rw (← r) (sym (rest-on (8 - (n + 1)) here e) ∙ ap (λ (k : ℕ). afterLayouts k here) (sym l) ∙ P .rest);
       }
 

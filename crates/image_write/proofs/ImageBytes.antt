@@ -26,28 +26,12 @@ use Rattle.floor.specs.Settings.{total, hoppersOf}
 use Rattle.floor.specs.Memory.{zeroTile, zeroLayout, stateOf, usedLayouts, view}
 use Rattle.floor.specs.Well.{wellFormed}
 use Rattle.floor.proofs.Pack.{few-on, well-few, well-fits, well-lengths, well-measured}
-use Rattle.image.specs.Image.{hopperCount, several, recordOf, settingsBody, countersBody, canistersBody, tileBody, layoutBody, layoutsBytes, tilesBytes, encode}
+use Rattle.image.specs.Image.{hopperCount, several, recordOf, settingsBody, countersBody, canistersBody, tileBody, layoutBody, layoutsBytes, tilesBytes, frontBytes, encode}
 use Rattle.image.proofs.Records.{record-length}
-use Rattle.image.proofs.Sizes.{settings-size, counters-size, canisters-size, tile-size, layout-size, layouts-size}
+use Rattle.image.proofs.Sizes.{ahead, tileFront, canisterLength, layoutLength, countersLength, settings-size, counters-size, canisters-size, tile-size, layout-size, layouts-size}
 use Rattle.image_record_write.specs.Parts.{tileBytes}
 use Rattle.image_record_write.proofs.RecordBytes.{pair-length, tile-length, tile-record}
-use Rattle.image_write.specs.Upto.{frontBytes, countAt, tileFor, tileRecord, upto}
-
--- ---- lengths in bytes: a record's length and kind; a tile's record before its canisters; a canister; a layout's record; record 2 where there are h hoppers
-abbrev pub ahead : ℕ
-ahead = 4
-
-abbrev pub tileFront : ℕ
-tileFront = 10
-
-abbrev pub canisterLength : ℕ
-canisterLength = 8
-
-abbrev pub layoutLength : ℕ
-layoutLength = 20
-
-abbrev pub countersLength : ℕ → ℕ
-countersLength h = ahead + (8 + 4 * h)
+use Rattle.image_write.specs.Upto.{countAt, tileFor, tileRecord, upto}
 
 -- ---- the layouts, one after the other
 layouts-append : (l k : List Layout) → layoutsBytes (l ++ k) ≡ layoutsBytes l ++ layoutsBytes k
@@ -198,7 +182,7 @@ module _ (s : Settings) where
   more-is h e = ap (λ (n : ℕ). ltb 1 n) e
 
   module _ (c : Counters) (l : List Layout) where
-    front-long : length (frontBytes s c l) ≡ ahead + length (settingsBody s) + countersLength (hopperCount s) + layoutLength * length (usedLayouts l)
+    front-long : length (frontBytes s c (usedLayouts l)) ≡ ahead + length (settingsBody s) + countersLength (hopperCount s) + layoutLength * length (usedLayouts l)
     unfolding frontBytes
     front-long =
         rw (length-append, record-length 1 (settingsBody s), length-append, record-length 2 (countersBody (hopperCount s) c), counters-size (hopperCount s) c, layouts-size (usedLayouts l))
@@ -209,17 +193,17 @@ pub record FrontRoom (x : Settings) (y : Counters) (l : List Layout) (h second :
   pub hoppers : h ≡ hopperCount x
   pub few : h ≤ 4
   pub first : second ≡ ahead + length (settingsBody x)
-  pub long : length (frontBytes x y l) ≡ second + countersLength h + layoutLength * length (usedLayouts l)
-  pub fits : length (frontBytes x y l) ≤ length b
+  pub long : length (frontBytes x y (usedLayouts l)) ≡ second + countersLength h + layoutLength * length (usedLayouts l)
+  pub fits : length (frontBytes x y (usedLayouts l)) ≤ length b
 
-pub front-room : (x : Settings) (y : Counters) (l : List Layout) (h second : ℕ) (b : List ℕ) → (length (frontBytes x y l) ≤ length b) × (h ≡ hopperCount x) × (h ≤ 4) → second ≡ cond (ltb 1 h) 32 24 → FrontRoom x y l h second b
+pub front-room : (x : Settings) (y : Counters) (l : List Layout) (h second : ℕ) (b : List ℕ) → (length (frontBytes x y (usedLayouts l)) ≤ length b) × (h ≡ hopperCount x) × (h ≤ 4) → second ≡ cond (ltb 1 h) 32 24 → FrontRoom x y l h second b
 front-room x y l h second b p e =
     let f = first-is x h second (p .1) e in
     record { hoppers = p .1; few = p .2; first = f; long = omega (arith, front-long x y l, f, p .1); fits = p .0 }
 
 -- the three writes; the first n places are used
 pub front-put : {x : Settings} {y : Counters} {l : List Layout} {h second : ℕ} {b : List ℕ} → FrontRoom x y l h second b → (b1 b2 b3 : List ℕ) (n third : ℕ) → n ≡ length (usedLayouts l) → third ≡ second + countersLength h
-    → b1 ≡ put b 0 (recordOf 1 (settingsBody x)) → b2 ≡ put b1 second (recordOf 2 (countersBody h y)) → b3 ≡ put b2 third (layoutsBytes (take n l)) → b3 ≡ put b 0 (frontBytes x y l)
+    → b1 ≡ put b 0 (recordOf 1 (settingsBody x)) → b2 ≡ put b1 second (recordOf 2 (countersBody h y)) → b3 ≡ put b2 third (layoutsBytes (take n l)) → b3 ≡ put b 0 (frontBytes x y (usedLayouts l))
 unfolding frontBytes
 front-put {x} {y} {l} {h} {second} {b} r b1 b2 b3 n third ne e3 p q u =
     let c = countersBody (hopperCount x) y in
@@ -232,7 +216,7 @@ front-put {x} {y} {l} {h} {second} {b} r b1 b2 b3 n third ne e3 p q u =
 
 module _ (f : Floor) where
   abbrev pub frontOf : List ℕ
-  frontOf = frontBytes (f .settings) (f .counters) (f .layouts)
+  frontOf = frontBytes (f .settings) (f .counters) (usedLayouts (f .layouts))
 
   states : (n : ℕ) → tab n (stateOf f) ≡ tab n (λ k. tileFor (f .tiles) (f .canisters) (0 + k))
   unfolding stateOf
@@ -245,13 +229,8 @@ module _ (f : Floor) where
       rw (states n) (rw (upto-none (f .tiles) (f .canisters), e) at u)
 
   encode-is : encode (view f) ≡ frontOf ++ (upto (f .tiles) (f .canisters) (total (f .settings)) ++ recordOf 4 [])
-  unfolding encode view frontBytes
-  encode-is =
-      let first = recordOf 1 (settingsBody (f .settings)) in
-      let then = recordOf 2 (countersBody (hopperCount (f .settings)) (f .counters)) in
-      let ls = layoutsBytes (usedLayouts (f .layouts)) in
-      let us = upto (f .tiles) (f .canisters) (total (f .settings)) ++ recordOf 4 [] in
-      rw (tiles-bytes (total (f .settings))) (sym (append-assoc first (then ++ ls) us ∙ ap (λ (k : List ℕ). first ++ k) (append-assoc then ls us)))
+  unfolding encode view
+  encode-is = rw (tiles-bytes (total (f .settings)))
 
   pub encode-long : length (encode (view f)) ≡ length frontOf + length (upto (f .tiles) (f .canisters) (total (f .settings))) + ahead
   encode-long = rw (encode-is, length-append, length-append, record-length 4 []) (omega arith)

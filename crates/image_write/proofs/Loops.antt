@@ -11,10 +11,11 @@ use Rattle.floor.specs.declared.Layout.{Layout}
 use Rattle.floor.specs.declared.Tile.{Tile}
 use Rattle.floor.specs.Memory.{zeroTile, zeroLayout, usedLayouts}
 use Rattle.image.specs.Image.{recordOf, canistersBody, layoutBody, layoutsBytes}
+use Rattle.image.proofs.Sizes.{tileFront, canisterLength, layoutLength}
 use Rattle.image_record_write.specs.Parts.{canisterBytes, tileBytes}
 use Rattle.image_record_write.proofs.RecordBytes.{put-turn}
 use Rattle.image_write.specs.Upto.{countAt, upto}
-use Rattle.image_write.proofs.ImageBytes.{tileFront, canisterLength, layoutLength, headsSize, at-turn, layouts-turn, tiles-turn, upto-room}
+use Rattle.image_write.proofs.ImageBytes.{headsSize, at-turn, layouts-turn, tiles-turn, upto-room}
 
 pub record LayoutsCounted (all : List Layout) (k : ℕ) : Type 0 where
   pub below : k ≤ 8
@@ -25,7 +26,7 @@ pub record TilesMeasured (tiles : List Tile) (c h first laid n t : ℕ) : Type 0
   pub below : t ≤ c
   pub few : c ≤ 64
   pub tiles-length : length tiles ≡ 64
-  pub reached : n ≡ first + 16 + 4 * h + 20 * laid + headsSize tiles t
+  pub reached : n ≡ first + 16 + 4 * h + layoutLength * laid + headsSize tiles t
   pub small : n ≤ 224 + 138 * t
   pub counts-small : (u : ℕ) → u < c → countAt tiles u ≤ 16
 
@@ -53,7 +54,7 @@ pub record LayoutsPut (s₀ : List ℕ) (from n : ℕ) (all : List Layout) (s : 
   pub below : k ≤ n
   pub few : n ≤ 8
   pub all-length : length all ≡ 8
-  pub room : from + 20 * n ≤ length s₀
+  pub room : from + layoutLength * n ≤ length s₀
   pub buffer-length : length s ≡ length s₀
   pub written : s ≡ put s₀ from (layoutsBytes (take k all))
 

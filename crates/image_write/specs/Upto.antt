@@ -1,19 +1,12 @@
--- The front of an image, and the bytes that the writer has put of the tiles after t of them.
+-- The bytes that the writer has put of the tiles after t of them.
 use mathlib.Core.List.{List, [], _++_}
 use Prim.Native.Nat.{ℕ, zero, suc, _*_}
 use lib.ListN.{getD, take, drop}
 use Rattle.floor.specs.declared.Canister.{Canister}
-use Rattle.floor.specs.declared.Settings.{Settings}
-use Rattle.floor.specs.declared.Counters.{Counters}
-use Rattle.floor.specs.declared.Layout.{Layout}
 use Rattle.floor.specs.declared.Tile.{Tile}
 use Rattle.floor.specs.Model.{TileState}
-use Rattle.floor.specs.Memory.{zeroTile, stateFrom, usedLayouts}
-use Rattle.image.specs.Image.{hopperCount, recordOf, settingsBody, countersBody, layoutsBytes, tileBody}
-
--- the front: the records of kinds 1, 2 and 5, of settings, counters and the eight places of layouts
-unfoldable pub frontBytes : Settings → Counters → List Layout → List ℕ
-frontBytes s c l = recordOf 1 (settingsBody s) ++ (recordOf 2 (countersBody (hopperCount s) c) ++ layoutsBytes (usedLayouts l))
+use Rattle.floor.specs.Memory.{zeroTile, stateFrom}
+use Rattle.image.specs.Image.{recordOf, tileBody}
 
 -- tile t of a floor whose arrays are hs and cs, and how many canisters it has
 abbrev pub countAt : List Tile → ℕ → ℕ

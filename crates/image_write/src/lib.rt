@@ -7,8 +7,8 @@ ghost use lib.ListN.{length, take};
 ghost use Rattle.image_bytes.specs.Put.{put};
 ghost use Rattle.floor.specs.Memory.{usedLayouts, view};
 ghost use Rattle.floor.specs.Well.{wellFormed};
-ghost use Rattle.image.specs.Image.{hopperCount, layoutsBytes, encode};
-ghost use Rattle.image_write.specs.Upto.{frontBytes, countAt, upto};
+ghost use Rattle.image.specs.Image.{hopperCount, layoutsBytes, frontBytes, encode};
+ghost use Rattle.image_write.specs.Upto.{countAt, upto};
 use floor::Canister;
 use floor::Counters;
 use floor::Floor;
@@ -86,8 +86,8 @@ fn first_length(h: u8) -> usize
 
 // The front of an image, the records of kinds 1, 2 and 5, where there are h hoppers. The answer is the place after it.
 fn put_front(s: &mut [u8], x: Settings, y: Counters, all: [Layout; 8], h: u8) -> usize
-    requires { ⌜ (length (frontBytes x y all) ≤ length (now s)) × (h ≡ hopperCount x) × (h ≤ 4) ⌝ }
-    ensures { λ r. ⌜ (r ≡ length (frontBytes x y all)) × (now (s .exit) ≡ put (now (s .entry)) 0 (frontBytes x y all)) ⌝ }
+    requires { ⌜ (length (frontBytes x y (usedLayouts all)) ≤ length (now s)) × (h ≡ hopperCount x) × (h ≤ 4) ⌝ }
+    ensures { λ r. ⌜ (r ≡ length (frontBytes x y (usedLayouts all))) × (now (s .exit) ≡ put (now (s .entry)) 0 (frontBytes x y (usedLayouts all))) ⌝ }
 {
     let second = first_length(h);
     put_settings(s, 0, x, 1 < h);
