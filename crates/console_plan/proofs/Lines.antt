@@ -1,13 +1,14 @@
 -- A plan's typed calls: refused, accepted, and lines that can't be read.
 use mathlib.Core.Path.{_≡_, sym, ap, _∙_}
 use mathlib.Core.Logic.{_≢_}
-use mathlib.Core.Bool.{Bool, true, false, cond, not, _&&_}
+use mathlib.Core.Bool.{Bool, true, false, not, _&&_}
 use mathlib.Core.List.{List}
 use Prim.Native.Nat.{ℕ, _<_, _≤_, _+_, min}
 use native.Mathlib.Omega.{arith}
 use lib.Dec.{eqb}
 use lib.ListN.{getD, set}
 use borrow.Author.Tests.{not-true, not-false, ne-eqb, lt-ltb, le-ltb}
+use Rattle.laws.proofs.Tests.{pick-yes, pick-no}
 use Rattle.plan.specs.declared.Entry.{Entry}
 use Rattle.plan.specs.declared.Plan.{Plan}
 use Rattle.plan.specs.declared.Offered.{Offered}
@@ -58,30 +59,24 @@ pub release-unread : (s r : Session) (line : List ℕ) (n : Numbers) → n ≡ a
 unfolding releaseTyped
 release-unread s r line n e g p = rw (sym e, not-true (n .good) g) p
 
-pick : (b : Bool) (x y r : Session) → b ≡ true → r ≡ x → r ≡ cond b x y
-pick b x y r e p = rw e p
-
-leave : (b : Bool) (x y r : Session) → b ≡ false → r ≡ y → r ≡ cond b x y
-leave b x y r e p = rw e p
-
 pub release-floorless : (s r : Session) (line : List ℕ) (n : Numbers) → n ≡ argumentsOf line 1 → not (n .good) ≡ false → not (s .made) ≡ true → r ≡ s → r ≡ releaseTyped s line
 unfolding releaseTyped afterRelease
 release-floorless s r line n e g h p =
     let a = releaseAnswer (s .plan) (s .floor) (getD (n .at) 0 0) in
     let off : (s .made && eqb (a .refusal) 0) ≡ false = rw (not-true (s .made) h) in
-    rw (sym e, not-false (n .good) g) (leave (s .made && eqb (a .refusal) 0) (withPlan (withFloor s (a .floor)) (a .plan)) s r off p)
+    rw (sym e, not-false (n .good) g) (p ∙ pick-no (withPlan (withFloor s (a .floor)) (a .plan)) s off)
 
 pub release-refused : (s r : Session) (line : List ℕ) (n : Numbers) (a : Released) → n ≡ argumentsOf line 1 → not (n .good) ≡ false → not (s .made) ≡ false → a ≡ releaseAnswer (s .plan) (s .floor) (getD (n .at) 0 0) → a .refusal ≢ 0 → r ≡ s → r ≡ releaseTyped s line
 unfolding releaseTyped afterRelease
 release-refused s r line n a e g h f z p =
     let off : (s .made && eqb (a .refusal) 0) ≡ false = rw (not-false (s .made) h, ne-eqb (a .refusal) 0 z) in
-    rw (sym e, not-false (n .good) g, sym f) (leave (s .made && eqb (a .refusal) 0) (withPlan (withFloor s (a .floor)) (a .plan)) s r off p)
+    rw (sym e, not-false (n .good) g, sym f) (p ∙ pick-no (withPlan (withFloor s (a .floor)) (a .plan)) s off)
 
 pub release-accepted : (s t r : Session) (line : List ℕ) (n : Numbers) (a : Released) → n ≡ argumentsOf line 1 → not (n .good) ≡ false → not (s .made) ≡ false → a ≡ releaseAnswer (s .plan) (s .floor) (getD (n .at) 0 0) → a .refusal ≡ 0 → t ≡ withFloor s (a .floor) → r ≡ withPlan t (a .plan) → r ≡ releaseTyped s line
 unfolding releaseTyped afterRelease
 release-accepted s t r line n a e g h f z q p =
     let both : (s .made && eqb (a .refusal) 0) ≡ true = rw (not-false (s .made) h, z) in
-    rw (sym e, not-false (n .good) g, sym f) (pick (s .made && eqb (a .refusal) 0) (withPlan (withFloor s (a .floor)) (a .plan)) s r both (p ∙ ap (λ (x : Session). withPlan x (a .plan)) q))
+    rw (sym e, not-false (n .good) g, sym f) (p ∙ ap (λ (x : Session). withPlan x (a .plan)) q ∙ pick-yes (withPlan (withFloor s (a .floor)) (a .plan)) s both)
 
 pub numbers-two : (line : List ℕ) (b : Bool) → b ≡ endsBy 3 line → b ≡ true → 2 ≡ entryNumbers line
 unfolding entryNumbers

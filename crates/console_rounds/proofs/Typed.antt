@@ -1,10 +1,10 @@
 -- A round that is typed: refused, and accepted.
 use mathlib.Core.Path.{_≡_, sym, ap, _∙_}
 use mathlib.Core.Logic.{_≢_}
-use mathlib.Core.Bool.{Bool, true, false, cond}
+use mathlib.Core.Bool.{false}
 use Prim.Native.Nat.{ℕ, _+_, _%_, _^_}
-use lib.Dec.{eqb}
 use borrow.Author.Tests.{ne-eqb, eq-eqb}
+use Rattle.laws.proofs.Tests.{pick-yes}
 use Rattle.floor.specs.declared.Rounded.{Rounded}
 use Rattle.floor.specs.Calls.{roundAnswer}
 use Rattle.console_throughput.specs.declared.Followed.{Followed}
@@ -37,9 +37,6 @@ report-is : (s : Session) (a : Rounded) (d : Stepped) → d ≡ steppedBy s a �
 unfolding steppedBy
 report-is s a d e = ap (λ (x : Stepped). x .report) e
 
-pick : (b : Bool) (x y r : Session) → b ≡ true → r ≡ x → r ≡ cond b x y
-pick b x y r e p = rw e p
-
 pub round-refused : (s r : Session) (d : Stepped) → d ≡ steppedBy s (roundAnswer (s .floor)) → d .refusal ≢ 0 → r ≡ d .session → r ≡ roundTyped s
 unfolding roundTyped
 round-refused s r d e n p =
@@ -53,4 +50,4 @@ round-accepted s r d e n p =
     let a = roundAnswer (s .floor) in
     let m : a .refusal ≡ 0 = sym (refusal-is s a d e) ∙ n in
     let there : d .session ≡ moved s a = ap (λ (x : Stepped). x .session) e ∙ goes s a m in
-    pick (eqb (a .refusal) 0) (reportTold (moved s a) (a .report)) s r (eq-eqb (a .refusal) 0 m) (p ∙ (λ i. reportTold (there i) (report-is s a d e i)))
+    p ∙ (λ i. reportTold (there i) (report-is s a d e i)) ∙ pick-yes (reportTold (moved s a) (a .report)) s (eq-eqb (a .refusal) 0 m)
