@@ -11,7 +11,7 @@ use lib.ListN.{length}
 use borrow.Author.Tests.{ltb-true, lt-ltb, le-ltb, eq-eqb}
 use Rattle.laws.specs.Define.{allOf, pairsOf, allBelow}
 use Rattle.laws.specs.Every.{All, Pairs}
-use Rattle.laws.proofs.Tests.{same-test, and-left, and-right, and-true, and-yes, r-id, r-and, r-lt, r-pairs}
+use Rattle.laws.proofs.Tests.{same-test, and-left, and-right, and-true, and-no, and-yes, r-id, r-and, r-lt, r-pairs}
 use Rattle.laws.proofs.Tables.{below-at, below-of}
 use Rattle.laws.proofs.Lists.{all-imp, all-both, all-map, all-unmap, all-true, true-all, cat-all, no-length}
 use Rattle.floor.specs.declared.Canister.{Canister}
@@ -219,15 +219,11 @@ pub pass-sized : (s : Settings) → settingsPass s ≡ true → Ranged s × (s .
 pass-sized s h = let m = settings-fact s .0 h in (ranged s h, omega (arith, m .short))
 
 -- ---- with the layouts
-no-more : (a : Bool) → false ≡ (a && false)
-no-more true = refl
-no-more false = refl
-
 pub state-off : (f : Floor) → false ≡ stateWell f → false ≡ wellFormed f
 state-off f h = rw (well-parts f, sym h)
 
 pub layouts-off : (f : Floor) → length (f .layouts) ≡ 8 → allBelow (placeTest (f .settings) (f .layouts)) 8 ≡ false → false ≡ wellFormed f
-layouts-off f e h = rw (well-parts f, layouts-code f e, h) (no-more (stateWell f))
+layouts-off f e h = rw (well-parts f, layouts-code f e, h) (sym (and-no (stateWell f)))
 
 pub layouts-on : (f : Floor) → length (f .layouts) ≡ 8 → allBelow (placeTest (f .settings) (f .layouts)) 8 ≡ true → stateWell f ≡ wellFormed f
 layouts-on f e h = rw (well-parts f, layouts-code f e, h) (sym (and-yes (stateWell f)))

@@ -105,10 +105,6 @@ isZeroCanister c = eqb (c .number) 0 && (eqb (c .a) 0 && eqb (c .b) 0)
 unfoldable pub isZeroTile : Tile → Bool
 isZeroTile h = eqb (h .running) 0 && (eqb (h .distance) 0 && (eqb (h .next .code) 0 && (eqb (h .token .code) 0 && eqb (h .count) 0)))
 
--- the sixteen places of tile t
-abbrev pub block : List Canister → ℕ → List Canister
-block cs t = take 16 (drop (16 * t) cs)
-
 -- "Each tile holds at most 16 canisters"; a tile from C on is zero
 unfoldable pub headFits : Settings → ℕ → Tile → Bool
 headFits s t h = cond (ltb t (total s)) (leb (h .count) 16) (isZeroTile h)
@@ -135,6 +131,10 @@ unfoldable pub fits : Floor → Bool
 fits f = stateFits f && layoutsFit (f .layouts)
 
 -- ---- for contracts and proofs; a reader of document 01 may pass over the rest of this file
+-- the sixteen places of tile t
+abbrev pub block : List Canister → ℕ → List Canister
+block cs t = take 16 (drop (16 * t) cs)
+
 -- a tile in memory with another count; stopped; repaired
 abbrev pub withCount : Tile → ℕ → Tile
 withCount h n = record { running = h .running; distance = h .distance; next = h .next; token = h .token; count = n }
