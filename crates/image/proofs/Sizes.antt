@@ -1,4 +1,4 @@
--- How long the bodies and the whole image are.
+-- How long the parts of an image and the whole are.
 use mathlib.Core.Path.{_≡_, refl, sym, ap, _∙_}
 use mathlib.Core.Bool.{Bool, true, false, cond}
 use mathlib.Core.List.{List, [], _∷_, _++_, map}
@@ -22,9 +22,9 @@ use Rattle.floor.specs.Model.{TileState, Model, noTile}
 use Rattle.image.specs.Image.{settingsWidths, lowest, hopperCount, several, countersWidths, countersValues, tileWidths, tileValues, canisterWidths, canisterValues, settingsBody, countersBody, canistersBody, tileBody, layoutBody, layoutsBytes, tilesBytes, encode}
 use Rattle.image.proofs.Records.{encode-records, record-length}
 
--- ---- lengths in bytes: a record's length and kind; a tile's record before its canisters; a canister; a layout's record; record 2 where there are h hoppers
-abbrev pub ahead : ℕ
-ahead = 4
+-- ---- lengths in bytes: a record's header, its length and kind; a tile's record before its canisters; a canister; a layout's record; record 2 where there are h hoppers
+abbrev pub headerLength : ℕ
+headerLength = 4
 
 abbrev pub tileFront : ℕ
 tileFront = 10
@@ -36,7 +36,7 @@ abbrev pub layoutLength : ℕ
 layoutLength = 20
 
 abbrev pub countersLength : ℕ → ℕ
-countersLength h = ahead + (8 + 4 * h)
+countersLength h = headerLength + (8 + 4 * h)
 
 pub settings-size : (s : Settings) → length (settingsBody s) ≡ cond (several s) 28 20
 unfolding settingsBody
@@ -71,11 +71,11 @@ pub tile-size : (t : ℕ) (x : TileState) → length (tileBody t x) ≡ 6 + 8 * 
 unfolding tileBody
 tile-size t x = rw (length-append, row-length tileWidths (tileValues t x) refl, canisters-size (x .members))
 
--- the record of a tile with n canisters: 10 + 8 n bytes
+-- the record of a tile
 unfoldable pub tileSize : TileState → ℕ
-tileSize x = 10 + 8 * length (x .members)
+tileSize x = tileFront + canisterLength * length (x .members)
 
-tiles-size : (t : ℕ) (l : List TileState) → length (tilesBytes t l) ≡ 4 + sum (map tileSize l)
+tiles-size : (t : ℕ) (l : List TileState) → length (tilesBytes t l) ≡ headerLength + sum (map tileSize l)
 unfolding tilesBytes sum tileSize
 tiles-size t [] = record-length 4 []
 tiles-size t (x ∷ l) = rw (length-append, record-length 3 (tileBody t x), tile-size t x, tiles-size (suc t) l) (omega arith)
@@ -84,12 +84,12 @@ pub layout-size : (x : Layout) → length (layoutBody x) ≡ 16
 unfolding layoutBody letters bytes
 layout-size x = refl
 
-pub layouts-size : (l : List Layout) → length (layoutsBytes l) ≡ 20 * length l
+pub layouts-size : (l : List Layout) → length (layoutsBytes l) ≡ layoutLength * length l
 unfolding layoutsBytes
 layouts-size [] = refl
 layouts-size (x ∷ l) = rw (length-append, record-length 5 (layoutBody x), layout-size x, layouts-size l) (omega arith)
 
-pub encode-size : (m : Model) → length (encode m) ≡ 20 + cond (several (m .settings)) 28 20 + 4 * hopperCount (m .settings) + 20 * length (m .layouts) + sum (map tileSize (m .tiles))
+pub encode-size : (m : Model) → length (encode m) ≡ 20 + cond (several (m .settings)) 28 20 + 4 * hopperCount (m .settings) + layoutLength * length (m .layouts) + sum (map tileSize (m .tiles))
 encode-size m =
     let h = hopperCount (m .settings) in
     rw (encode-records m, length-append, record-length 1 (settingsBody (m .settings)), settings-size (m .settings), length-append, record-length 2 (countersBody h (m .counters)), counters-size h (m .counters), length-append, layouts-size (m .layouts), tiles-size 0 (m .tiles))

@@ -231,7 +231,7 @@ unfoldable pub laidFault : ℕ → List ℕ → ℕ
 laidFault zero xs = 0
 laidFault (suc n) xs = let r = orElse (recordFault 5 0 xs) (laidFault n (restIn xs)) in cond (isLayout xs) r 0
 
--- of the front
+-- the first fault of the front
 unfoldable pub frontFault : List ℕ → ℕ
 frontFault xs =
     let s = settingsIn (lengthIn xs) (bodyIn xs) in
@@ -239,7 +239,7 @@ frontFault xs =
     (orElse (recordFault 2 (hopperCount s) (restIn xs))
     (laidFault 8 (restIn (restIn xs))))
 
--- of a whole image: the front, then the tiles and the end
+-- the first fault of an image: of the front, then of the tiles and the end
 unfoldable pub fault : List ℕ → ℕ
 fault xs =
     let s = settingsIn (lengthIn xs) (bodyIn xs) in

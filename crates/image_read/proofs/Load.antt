@@ -23,7 +23,7 @@ use Rattle.floor.specs.Memory.{zeroCanister, zeroLayout, zeroFloor, unused, hea
 use Rattle.floor.proofs.Rows.{rows-filled}
 use Rattle.image.specs.Image.{hopperCount, tileWidths, lengthIn, bodyIn, restIn, settingsIn, countersIn, canisterIn, canistersIn, tileIn, tilesIn, layoutIn, layoutsIn, afterLayouts, modelIn, recordFault, orElse, tilesFault, laidFault, frontFault, fault, answerBy, allNamed, recordsRefusal, recordsAnswer}
 use Rattle.image.proofs.Records.{whole}
-use Rattle.image.proofs.Sizes.{ahead, layoutLength}
+use Rattle.image.proofs.Sizes.{headerLength, layoutLength, countersLength}
 use Rattle.image.proofs.LoadedWrites.{canisters-length, settings-good, counters-good}
 use Rattle.image_record_read.proofs.Refusals.{room-20}
 use Rattle.image.proofs.Read.{first-measured}
@@ -131,7 +131,7 @@ first-ok xs h =
 
 pub record Second (h : ℕ) (xs : List ℕ) : Type 0 where
   pub long : lengthIn xs ≡ 8 + 4 * h
-  pub enough : 12 + 4 * h ≤ length xs
+  pub enough : countersLength h ≤ length xs
 
 pub second-ok : (h : ℕ) (xs : List ℕ) → recordFault 2 h xs ≡ 0 → Second h xs
 second-ok h xs z =
@@ -161,7 +161,7 @@ module _ (s : List ℕ) (from n : ℕ) (ls : List Layout) (L : Laying s from n l
   ys = drop from s
 
   abbrev each : ℕ → Layout
-  each k = layoutIn (drop (from + ahead + layoutLength * k) s)
+  each k = layoutIn (drop (from + headerLength + layoutLength * k) s)
 
   layouts-are : tab 8 (layoutFrom s from n) ≡ layoutPlaces 8 (layoutsIn 8 ys)
   unfolding layoutFrom
@@ -212,37 +212,37 @@ module _ {x : List ℕ} {a : Found} {u h : ℕ} (F : FirstRead x a u h) where
   pub hoppers-few : h ≤ 4
   hoppers-few = omega (arith, hoppers-are, first-measured x (F .sound) .hoppers-few)
 
-  pub second-begins : 4 + u ≤ length x
+  pub second-begins : headerLength + u ≤ length x
   second-begins = omega (arith, F .long, first-ok x (F .sound) .enough)
 
-  rest-1 : drop (4 + u) x ≡ restIn x
+  rest-1 : drop (headerLength + u) x ≡ restIn x
   rest-1 = rw (F .long)
 
-  second-is : recordFault 2 h (drop (4 + u) x) ≡ recordFault 2 (hopperCount read) (restIn x)
+  second-is : recordFault 2 h (drop (headerLength + u) x) ≡ recordFault 2 (hopperCount read) (restIn x)
   second-is = ap (recordFault 2 h) rest-1 ∙ ap (λ (n : ℕ). recordFault 2 n (restIn x)) hoppers-are
 
-  pub stop-2 : (k : ℕ) → k ≡ recordFault 2 h (drop (4 + u) x) → k ≢ 0 → k ≡ frontFault x
+  pub stop-2 : (k : ℕ) → k ≡ recordFault 2 h (drop (headerLength + u) x) → k ≢ 0 → k ≡ frontFault x
   stop-2 k e n = let q = e ∙ second-is in q ∙ sym (front-2 x (F .sound) (λ o. n (q ∙ o)))
 
 module _ {x : List ℕ} {a : Found} {u h : ℕ} {b : Found} (S : SecondRead x a u h b) where
-  pub second-long : 12 + 4 * h ≤ length x - (4 + u)
-  second-long = rw length-drop at (second-ok h (drop (4 + u) x) (S .sound) .enough)
+  pub second-long : countersLength h ≤ length x - (headerLength + u)
+  second-long = rw length-drop at (second-ok h (drop (headerLength + u) x) (S .sound) .enough)
 
-  module _ (w : ℕ) (n : w ≡ le 2 (drop (4 + u) x)) where
-    rest-2 : drop (ahead + u + ahead + w) x ≡ restIn (restIn x)
-    rest-2 = sym (rest-at x (4 + u) w n) ∙ ap (λ (l : List ℕ). restIn l) (rest-1 (S .first))
+  module _ (w : ℕ) (n : w ≡ le 2 (drop (headerLength + u) x)) where
+    rest-2 : drop (headerLength + u + headerLength + w) x ≡ restIn (restIn x)
+    rest-2 = sym (rest-at x (headerLength + u) w n) ∙ ap (λ (l : List ℕ). restIn l) (rest-1 (S .first))
 
-    pub third-begins : ahead + u + ahead + w ≤ length x
-    third-begins = omega (arith, n, record-room x (4 + u) 2 h (second-begins (S .first)) (S .sound))
+    pub third-begins : headerLength + u + headerLength + w ≤ length x
+    third-begins = omega (arith, n, record-room x (headerLength + u) 2 h (second-begins (S .first)) (S .sound))
 
-    pub front-is : (k : ℕ) → k ≡ laidFault 8 (drop (ahead + u + ahead + w) x) → k ≡ frontFault x
+    pub front-is : (k : ℕ) → k ≡ laidFault 8 (drop (headerLength + u + headerLength + w) x) → k ≡ frontFault x
     front-is k e = e ∙ ap (laidFault 8) rest-2 ∙ sym (front-3 x (S .first .sound) (sym (second-is (S .first)) ∙ S .sound))
 
-    pub front-read : (m : ℕ) (ls : List Layout) → Laying x (ahead + u + ahead + w) m ls
-        → FrontRead x record { settings = a .settings; counters = b .counters; layouts = ls; count = m; next = ahead + u + ahead + w + layoutLength * m; fault = 0 }
+    pub front-read : (m : ℕ) (ls : List Layout) → Laying x (headerLength + u + headerLength + w) m ls
+        → FrontRead x record { settings = a .settings; counters = b .counters; layouts = ls; count = m; next = headerLength + u + headerLength + w + layoutLength * m; fault = 0 }
     unfolding modelIn
     front-read m ls L =
-        let from = ahead + u + ahead + w in
+        let from = headerLength + u + headerLength + w in
         let st = S .first .holds .settings refl in
         record {
           settings = st;

@@ -63,10 +63,10 @@ module _ {s : List ℕ} {from : ℕ} {layouts : List Layout} {at n : ℕ} (h : L
     pub layout-stop : r .fault ≢ 0 → r .fault ≡ laidFault 8 (drop from s)
     layout-stop o = fault-here ∙ passed-stop s from n (h .passed) l (here ∙ not-false b q) (λ z. o (fault-here ∙ z))
 
-    pub layout-room : r .fault ≡ 0 → at + 20 ≤ length s
+    pub layout-room : r .fault ≡ 0 → at + layoutLength ≤ length s
     layout-room z = omega (arith, h .reached, passed-room s from n (h .passed) (sym fault-here ∙ z))
 
-    pub layout-turn : r .fault ≡ 0 → Holds 5 0 (drop at s) r → LayoutsScanned s from (set layouts n (r .layout)) (at + 20) (n + 1)
+    pub layout-turn : r .fault ≡ 0 → Holds 5 0 (drop at s) r → LayoutsScanned s from (set layouts n (r .layout)) (at + layoutLength) (n + 1)
     layout-turn z H = record {
       below = omega arith;
       reached = omega (arith, h .reached);

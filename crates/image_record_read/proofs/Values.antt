@@ -18,7 +18,7 @@ use Rattle.image_bytes.proofs.FieldLaws.{field-in}
 use Rattle.floor.specs.Layouts.{nameNumber}
 use Rattle.floor.specs.Memory.{zeroLayout, head}
 use Rattle.image.specs.Image.{countersWidths, tileWidths, countersIn, tileIn, layoutIn}
-use Rattle.image.proofs.Sizes.{ahead, layoutLength}
+use Rattle.image.proofs.Sizes.{headerLength, layoutLength}
 use Rattle.image.proofs.LoadedWrites.{canisters-length}
 use Rattle.image_record_read.specs.Scan.{layoutFrom}
 use Rattle.image_record_read.proofs.Refusals.{tile-byte}
@@ -97,7 +97,7 @@ pub layout-code : (s : List ℕ) (at : ℕ) → layoutIn (drop at s) ≡ record 
 unfolding layoutIn
 layout-code s at = rw (drop-drop 8 at s)
 
-pub layout-some : (s : List ℕ) (from n k : ℕ) → k < n → layoutIn (drop (from + ahead + layoutLength * k) s) ≡ layoutFrom s from n k
+pub layout-some : (s : List ℕ) (from n k : ℕ) → k < n → layoutIn (drop (from + headerLength + layoutLength * k) s) ≡ layoutFrom s from n k
 unfolding layoutFrom
 layout-some s from n k h = rw (lt-ltb k n h)
 

@@ -20,7 +20,7 @@ use Rattle.floor.specs.declared.Tile.{Tile}
 use Rattle.floor.specs.Memory.{zeroTile, zeroLayout, unused, head}
 use Rattle.image.specs.Image.{tileWidths, lengthIn, bodyIn, restIn, tileIn, tilesIn, layoutIn, isLayout, layoutsIn, afterLayouts, recordFault, endFault, tilesFault, laidFault}
 use Rattle.image.proofs.Records.{whole}
-use Rattle.image.proofs.Sizes.{ahead, layoutLength}
+use Rattle.image.proofs.Sizes.{headerLength, layoutLength}
 use Rattle.image.proofs.LoadedWrites.{tile-good}
 use Rattle.image.proofs.Layouts.{layout-good}
 use Rattle.image.proofs.Read.{tiles-length}
@@ -128,7 +128,7 @@ module _ (c : ℕ) (xs : List ℕ) where
 -- ---- the layouts that were read
 module _ (s : List ℕ) (from : ℕ) where
   abbrev pub layoutAt : ℕ → Layout
-  layoutAt k = layoutIn (drop (from + ahead + layoutLength * k) s)
+  layoutAt k = layoutIn (drop (from + headerLength + layoutLength * k) s)
 
   abbrev pub Laid : ℕ → List Layout → Type 0
   Laid n out = Filled 8 layoutAt zeroLayout n out
@@ -142,14 +142,14 @@ module _ (s : List ℕ) (from : ℕ) where
 
   pub laid-turn : (n at : ℕ) (out : List Layout) (v : Layout) → n < 8 → at ≡ from + layoutLength * n → v ≡ layoutIn (bodyIn (drop at s)) → Laid n out → Laid (n + 1) (set out n v)
   laid-turn n at out v h e q p =
-      let k : at + 4 ≡ from + ahead + layoutLength * n = omega arith in
+      let k : at + headerLength ≡ from + headerLength + layoutLength * n = omega arith in
       filled-turn 8 layoutAt zeroLayout n out v h (q ∙ ap (λ (l : List ℕ). layoutIn l) (drop-drop 4 at s ∙ ap (λ (j : ℕ). drop j s) k)) p
 
--- ---- the layouts: n were passed, and the next one would stand at from + 20 × n
+-- ---- the layouts: n were passed, and the next one would stand after them
 pub record Passed (s : List ℕ) (from n : ℕ) : Type 0 where
   pub room : from + layoutLength * n ≤ length s
   pub faults : laidFault (8 - n) (drop (from + layoutLength * n) s) ≡ laidFault 8 (drop from s)
-  pub values : layoutsIn 8 (drop from s) ≡ tab n (λ k. layoutIn (drop (from + ahead + layoutLength * k) s)) ++ layoutsIn (8 - n) (drop (from + layoutLength * n) s)
+  pub values : layoutsIn 8 (drop from s) ≡ tab n (λ k. layoutIn (drop (from + headerLength + layoutLength * k) s)) ++ layoutsIn (8 - n) (drop (from + layoutLength * n) s)
   pub rest : afterLayouts (8 - n) (drop (from + layoutLength * n) s) ≡ afterLayouts 8 (drop from s)
 
 pub passed-none : (s : List ℕ) (from : ℕ) → from ≤ length s → Passed s from 0
@@ -203,7 +203,7 @@ module _ (s : List ℕ) (from n : ℕ) (P : Passed s from n) where
   passed-end : (out : List Layout) → Laid s from n out → n ≤ 8 → Ends (8 - n) here → (laidFault 8 (drop from s) ≡ 0) × Laying s from n out
   passed-end out p h E = (
     sym (P .faults) ∙ E .faults,
-    record { few = h; room = P .room; values = P .values ∙ rw (E .values) (append-nil (tab n (λ k. layoutIn (drop (from + ahead + layoutLength * k) s)))); rest = sym (P .rest) ∙ E .rest; places = laid-all s from n out p },
+    record { few = h; room = P .room; values = P .values ∙ rw (E .values) (append-nil (tab n (λ k. layoutIn (drop (from + headerLength + layoutLength * k) s)))); rest = sym (P .rest) ∙ E .rest; places = laid-all s from n out p },
   )
 
   pub passed-off : (out : List Layout) → Laid s from n out → n ≤ 8 → isLayout here ≡ false → (laidFault 8 (drop from s) ≡ 0) × Laying s from n out
@@ -220,12 +220,12 @@ module _ (s : List ℕ) (from n : ℕ) (P : Passed s from n) where
 
   pub passed-on : n < 8 → isLayout here ≡ true → recordFault 5 0 here ≡ 0 → Passed s from (n + 1)
   passed-on h e z =
-      let next : from + layoutLength * (n + 1) ≡ from + layoutLength * n + 4 + 16 = omega arith in
+      let next : from + layoutLength * (n + 1) ≡ from + layoutLength * n + headerLength + 16 = omega arith in
       let r : restIn here ≡ drop (from + layoutLength * (n + 1)) s = rest-at s (from + layoutLength * n) 16 (sym (layout-good here (whole 5 0 here z))) ∙ ap (λ (k : ℕ). drop k s) (sym next) in
-      let k : from + layoutLength * n + 4 ≡ from + ahead + layoutLength * n = omega arith in
-      let b : bodyIn here ≡ drop (from + ahead + layoutLength * n) s = drop-drop 4 (from + layoutLength * n) s ∙ ap (λ (j : ℕ). drop j s) k in
+      let k : from + layoutLength * n + headerLength ≡ from + headerLength + layoutLength * n = omega arith in
+      let b : bodyIn here ≡ drop (from + headerLength + layoutLength * n) s = drop-drop 4 (from + layoutLength * n) s ∙ ap (λ (j : ℕ). drop j s) k in
       let l = less 8 n h in
-      let g : ℕ → Layout = λ k. layoutIn (drop (from + ahead + layoutLength * k) s) in
+      let g : ℕ → Layout = λ k. layoutIn (drop (from + headerLength + layoutLength * k) s) in
       let v : layoutsIn (8 - n) here ≡ g n ∷ layoutsIn (8 - (n + 1)) (drop (from + layoutLength * (n + 1)) s) = rw (l, values-on (8 - (n + 1)) here e, b, r) in
       record {
         room = omega (arith, passed-room z);

@@ -28,7 +28,7 @@ use Rattle.floor.specs.Well.{wellFormed}
 use Rattle.floor.proofs.Pack.{few-on, well-few, well-fits, well-lengths, well-measured}
 use Rattle.image.specs.Image.{hopperCount, several, recordOf, settingsBody, countersBody, canistersBody, tileBody, layoutBody, layoutsBytes, tilesBytes, frontBytes, encode}
 use Rattle.image.proofs.Records.{record-length}
-use Rattle.image.proofs.Sizes.{ahead, tileFront, canisterLength, layoutLength, countersLength, settings-size, counters-size, canisters-size, tile-size, layout-size, layouts-size}
+use Rattle.image.proofs.Sizes.{headerLength, tileFront, canisterLength, layoutLength, countersLength, settings-size, counters-size, canisters-size, tile-size, layout-size, layouts-size}
 use Rattle.image_record_write.specs.Parts.{tileBytes}
 use Rattle.image_record_write.proofs.RecordBytes.{pair-length, tile-length, tile-record}
 use Rattle.image_write.specs.Upto.{countAt, tileFor, tileRecord, upto}
@@ -169,7 +169,7 @@ end-record = rw (append-nil (bytes 2 4))
 
 -- the front, and how long record 1 and the front are
 module _ (s : Settings) where
-  pub first-is : (h r : ℕ) → h ≡ hopperCount s → r ≡ cond (ltb 1 h) 32 24 → r ≡ ahead + length (settingsBody s)
+  pub first-is : (h r : ℕ) → h ≡ hopperCount s → r ≡ cond (ltb 1 h) 32 24 → r ≡ headerLength + length (settingsBody s)
   unfolding several
   first-is h r e q = q ∙ ap (λ (n : ℕ). cond (ltb 1 n) 32 24) e ∙ sym (ap (λ (n : ℕ). 4 + n) (settings-size s) ∙ go (ltb 1 (hopperCount s)))
     where
@@ -182,7 +182,7 @@ module _ (s : Settings) where
   more-is h e = ap (λ (n : ℕ). ltb 1 n) e
 
   module _ (c : Counters) (l : List Layout) where
-    front-long : length (frontBytes s c (usedLayouts l)) ≡ ahead + length (settingsBody s) + countersLength (hopperCount s) + layoutLength * length (usedLayouts l)
+    front-long : length (frontBytes s c (usedLayouts l)) ≡ headerLength + length (settingsBody s) + countersLength (hopperCount s) + layoutLength * length (usedLayouts l)
     unfolding frontBytes
     front-long =
         rw (length-append, record-length 1 (settingsBody s), length-append, record-length 2 (countersBody (hopperCount s) c), counters-size (hopperCount s) c, layouts-size (usedLayouts l))
@@ -192,7 +192,7 @@ module _ (s : Settings) where
 pub record FrontRoom (x : Settings) (y : Counters) (l : List Layout) (h second : ℕ) (b : List ℕ) : Type 0 where
   pub hoppers : h ≡ hopperCount x
   pub few : h ≤ 4
-  pub first : second ≡ ahead + length (settingsBody x)
+  pub first : second ≡ headerLength + length (settingsBody x)
   pub long : length (frontBytes x y (usedLayouts l)) ≡ second + countersLength h + layoutLength * length (usedLayouts l)
   pub fits : length (frontBytes x y (usedLayouts l)) ≤ length b
 
@@ -207,7 +207,7 @@ pub front-put : {x : Settings} {y : Counters} {l : List Layout} {h second : ℕ}
 unfolding frontBytes
 front-put {x} {y} {l} {h} {second} {b} r b1 b2 b3 n third ne e3 p q u =
     let c = countersBody (hopperCount x) y in
-    let n1 : length (recordOf 1 (settingsBody x)) ≡ ahead + length (settingsBody x) = record-length 1 (settingsBody x) in
+    let n1 : length (recordOf 1 (settingsBody x)) ≡ headerLength + length (settingsBody x) = record-length 1 (settingsBody x) in
     let n2 : length (recordOf 2 c) ≡ countersLength (hopperCount x) = record-length 2 c ∙ ap (λ (k : ℕ). 4 + k) (counters-size (hopperCount x) y) in
     let n3 : length (layoutsBytes (usedLayouts l)) ≡ layoutLength * length (usedLayouts l) = layouts-size (usedLayouts l) in
     let used = ap (λ (k : ℕ). layoutsBytes (take k l)) ne ∙ ap layoutsBytes (used-take l) in
@@ -232,7 +232,7 @@ module _ (f : Floor) where
   unfolding encode view
   encode-is = rw (tiles-bytes (total (f .settings)))
 
-  pub encode-long : length (encode (view f)) ≡ length frontOf + length (upto (f .tiles) (f .canisters) (total (f .settings))) + ahead
+  pub encode-long : length (encode (view f)) ≡ length frontOf + length (upto (f .tiles) (f .canisters) (total (f .settings))) + headerLength
   encode-long = rw (encode-is, length-append, length-append, record-length 4 []) (omega arith)
 
 -- a well-formed floor has what the writer asks for
@@ -240,7 +240,7 @@ module _ (f : Floor) (w : wellFormed f ≡ true) where
   pub counts-few : (t : ℕ) → t < total (f .settings) → countAt (f .tiles) t ≤ 16
   counts-few t l = few-on f (well-few f w) (well-fits f w) t l
 
-  pub encode-heads : length (encode (view f)) ≡ ahead + length (settingsBody (f .settings)) + countersLength (hopperCount (f .settings)) + layoutLength * length (usedLayouts (f .layouts)) + headsSize (f .tiles) (total (f .settings)) + ahead
+  pub encode-heads : length (encode (view f)) ≡ headerLength + length (settingsBody (f .settings)) + countersLength (hopperCount (f .settings)) + layoutLength * length (usedLayouts (f .layouts)) + headsSize (f .tiles) (total (f .settings)) + headerLength
   encode-heads =
       let n = well-lengths f w .1 in
       let u = upto-size (f .tiles) (f .canisters) (total (f .settings)) (omega (arith, n, well-few f w)) counts-few in
@@ -259,7 +259,7 @@ pub record WriteRoom (f : Floor) (n h : ℕ) (b : List ℕ) : Type 0 where
   pub well : wellFormed f ≡ true
   pub tiles : n ≡ total (f .settings)
   pub hoppers : h ≡ hopperCount (f .settings)
-  pub long : length (encode (view f)) ≡ length (frontOf f) + length (upto (f .tiles) (f .canisters) n) + ahead
+  pub long : length (encode (view f)) ≡ length (frontOf f) + length (upto (f .tiles) (f .canisters) n) + headerLength
   pub fits : length (encode (view f)) ≤ length b
 
 pub write-room : (f : Floor) (n h : ℕ) (b : List ℕ) → (wellFormed f ≡ true) × (length (encode (view f)) ≤ length b) → n ≡ total (f .settings) → h ≡ length (bitsBelow (f .settings .hoppers) 64) → WriteRoom f n h b
@@ -278,7 +278,7 @@ pub record Parts (f : Floor) (n h first laid : ℕ) : Type 0 where
   pub tiles : n ≡ total (f .settings)
   pub hoppers : h ≡ hopperCount (f .settings)
   pub four : h ≤ 4
-  pub first-long : first ≡ ahead + length (settingsBody (f .settings))
+  pub first-long : first ≡ headerLength + length (settingsBody (f .settings))
   pub first-small : first ≤ 32
   pub used : laid ≡ length (usedLayouts (f .layouts))
   pub eight : laid ≤ 8

@@ -1,4 +1,4 @@
--- The bytes that the writer has put of the tiles after t of them.
+-- The records of the tiles below t, as the writer puts them.
 use mathlib.Core.List.{List, [], _++_}
 use Prim.Native.Nat.{ℕ, zero, suc, _*_}
 use lib.ListN.{getD, take, drop}
