@@ -9,7 +9,7 @@ use lib.Dec.{leb, ltb}
 use lib.ListN.{length, take}
 use borrow.Author.Tests.{not-true, not-false, leb-false, ltb-true, ltb-false, le-leb, lt-leb}
 use Rattle.laws.specs.Define.{anyOf, bit, bitsBelow, refusal}
-use Rattle.laws.proofs.Tests.{or-no}
+use Rattle.laws.proofs.Tests.{or-assoc, or-no}
 use Rattle.laws.proofs.Search.{any-none}
 use Rattle.laws.proofs.SetBits.{bits-within}
 use Rattle.floor.specs.declared.Settings.{Settings}
@@ -20,10 +20,6 @@ use Rattle.check_settings.specs.Groups.{sizesWrong, setsWrong, measuresW
 pick-or : {A : Type 0} (a b : Bool) (x y : A) → cond a x (cond b x y) ≡ cond (a || b) x y
 pick-or true b x y = refl
 pick-or false b x y = refl
-
-or-assoc : (a b c : Bool) → ((a || b) || c) ≡ (a || (b || c))
-or-assoc true b c = refl
-or-assoc false b c = refl
 
 pub sizes-first : (s : Settings) (l : List (Bool × ℕ)) → refusal (sizeTests s l) ≡ cond (sizesWrong s) 1 (refusal l)
 unfolding refusal sizesWrong anyOf

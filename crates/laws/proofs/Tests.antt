@@ -50,6 +50,10 @@ and-no true = refl
 and-no false = refl
 
 -- ---- one or the other
+pub or-assoc : (a b c : Bool) → ((a || b) || c) ≡ (a || (b || c))
+or-assoc true b c = refl
+or-assoc false b c = refl
+
 pub or-case : (a b : Bool) → (a || b) ≡ true → (a ≡ true) ⊎ (b ≡ true)
 or-case true b h = inl refl
 or-case false b h = inr h

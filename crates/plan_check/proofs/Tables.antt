@@ -12,7 +12,7 @@ use lib.Seq.{take-suc, take-suc-set, take-set-le, getD-set-same, getD-set-other}
 use borrow.Author.Tests.{eq-eqb, ne-eqb}
 use Rattle.laws.specs.Define.{allOf, anyOf, pairsOf}
 use Rattle.laws.specs.Filled.{Upto}
-use Rattle.laws.proofs.Tests.{and-yes, or-no}
+use Rattle.laws.proofs.Tests.{and-yes, or-assoc, or-no}
 use Rattle.laws.proofs.Tables.{all-more, pairs-zero, pairs-more}
 use Rattle.plan.specs.declared.Entry.{Entry}
 use Rattle.plan.specs.Entries.{wasDelivered, heldBy, done, present, bookedNumbers}
@@ -59,11 +59,7 @@ done-turn l k table {before} {own} h len small b q t =
 any-append : {A : Type 0} (p : A → Bool) (l k : List A) → anyOf p (l ++ k) ≡ (anyOf p l || anyOf p k)
 unfolding anyOf
 any-append p [] k = refl
-any-append p (x ∷ l) k = rw (any-append p l k) (or-assoc (p x) (anyOf p l) (anyOf p k))
-  where
-    or-assoc : (a b c : Bool) → (a || (b || c)) ≡ ((a || b) || c)
-    or-assoc true b c = refl
-    or-assoc false b c = refl
+any-append p (x ∷ l) k = rw (any-append p l k) (sym (or-assoc (p x) (anyOf p l) (anyOf p k)))
 
 pub any-more : {A : Type 0} (p : A → Bool) (l : List A) (k : ℕ) (z : A) → k < length l → anyOf p (take (k + 1) l) ≡ (anyOf p (take k l) || p (getD l k z))
 unfolding anyOf
