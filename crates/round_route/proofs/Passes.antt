@@ -34,7 +34,7 @@ neighbour-le s (suc (suc (suc zero))) t h = cond-le (ltb (t % s .rows + 1) (s .r
 neighbour-le s (suc (suc (suc (suc zero)))) t h = cond-le (ltb (t + s .rows) (total s)) (t + s .rows) (total s) (total s) (λ e. omega (arith, ltb-true (t + s .rows) (total s) e)) (omega arith)
 neighbour-le s (suc (suc (suc (suc (suc k))))) t h = omega arith
 
--- ---- a loop that writes what each tile shows, y standing elsewhere: x beyond the array's end, read as numbers by `read`
+-- ---- a loop that writes what each tile shows, z elsewhere; `read` gives an element's number, and x is read beyond the array's end
 module _ {A : Type 0} (read : A → ℕ) (x : A) where
   pub within-none : (g : ℕ → ℕ) (y : A) (n : ℕ) (i : ℕ) → i < n → read (getD (replicate n y) i x) ≡ within 0 g (read y) i
   unfolding within

@@ -34,7 +34,7 @@ module _ (s : Settings) (ts : List Tile) (cs items : List Canister) (t : ℕ) wh
       near : (k : ℕ) → sideIn show (neighbour s k t) ≡ within (total s) (shownIn ts) 0 (neighbour s k t)
       near k = shows-near (λ x. x .code) noSide s (shownIn ts) 0 show k t h few p refl
 
--- what is read of numbers that a loop gave, beyond the last one too
+-- what is read of an array that a loop filled, beyond its last place too
 module _ {A : Type 0} (N : ℕ) (g : ℕ → A) (z : A) (read : A → ℕ) where
   pub filled-within : (gs : List A) (n : ℕ) → Filled N g z n gs → (u : ℕ) → read (getD gs u z) ≡ within n (λ t. read (g t)) (read z) u
   unfolding within
