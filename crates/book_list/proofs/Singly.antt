@@ -13,7 +13,7 @@ use Rattle.floor.specs.declared.Answer.{Answer}
 use Rattle.floor.specs.Well.{wellFormed}
 use Rattle.floor.specs.Demand3.{Call, book, Typed, outcome, floorAfter, bookedIn, reportedIn}
 use Rattle.floor.specs.Together.{answersIn}
-use Rattle.floor.proofs.Chain.{bookedBy, Made, books}
+use Rattle.floor.specs.Chain.{bookedBy, Made, books}
 use Rattle.floor.proofs.Lists.{after-both, booked-both, reported-both}
 use Rattle.floor.proofs.Theorem.{demand3}
 use Rattle.book_list.specs.declared.Booking.{Booking}

@@ -90,11 +90,9 @@ module _ (s : Settings) (M : Measured s) where
   differ-div x y (inl h) = omega (arith, apart-div x y h)
   differ-div x y (inr h) = omega (arith, apart-div y x h)
 
-  -- along one axis, p being the canister's coordinate there
-  pub few-along : (p : Canister → ℕ) (l : List Canister) → All (λ c. p c ≤ span s) l → Pairs (λ c e. Differ (spacing s) (p c) (p e)) l → length l ≤ span s / spacing s + 1
-  few-along p l i r =
-      few-cells (λ c. p c ≤ span s) (λ c e. Differ (spacing s) (p c) (p e)) (λ c. p c / spacing s) (span s / spacing s + 1) l
-      (λ c k. within-along (p c) k) (λ c e j k h. differ-div (p c) (p e) h) i r
+  -- along one axis
+  pub few-along : (l : List ℕ) → All (λ x. x ≤ span s) l → Pairs (Differ (spacing s)) l → length l ≤ span s / spacing s + 1
+  few-along l i r = few-cells (λ x. x ≤ span s) (Differ (spacing s)) (λ x. x / spacing s) (span s / spacing s + 1) l within-along (λ x y j k h. differ-div x y h) i r
 
   cell : Canister → ℕ
   cell c = c .a / spacing s * (span s / spacing s + 1) + c .b / spacing s
@@ -116,16 +114,22 @@ module _ (s : Settings) (M : Measured s) where
   pub few-product : (l : List Canister) → All (Inside s) l → Pairs (Apart (spacing s)) l → length l ≤ (span s / spacing s + 1) * (span s / spacing s + 1)
   few-product l i p = few-cells (Inside s) (Apart (spacing s)) cell ((span s / spacing s + 1) * (span s / spacing s + 1)) l cell-lt cell-apart i p
 
+  pub few-sixteen : (span s / spacing s + 1) * (span s / spacing s + 1) ≤ 16
+  few-sixteen = square (span s / spacing s) (M .dense)
+
   pub few-members : (l : List Canister) → All (Inside s) l → Pairs (Apart (spacing s)) l → length l ≤ 16
-  few-members l i p = omega (arith, few-product l i p, square (span s / spacing s) (M .dense))
+  few-members l i p = omega (arith, few-product l i p, few-sixteen)
 
   -- a full tile has no place for another
-  pub full-refused : (l : List Canister) (c : Canister) → All (Inside s) l → Pairs (Apart (spacing s)) l → length l ≡ 16 → Inside s c → allOf (apart (spacing s) c) l ≡ false
-  full-refused l c i p n j = go (allOf (apart (spacing s) c) l) refl
+  pub product-refused : (l : List Canister) (c : Canister) → All (Inside s) l → Pairs (Apart (spacing s)) l → (span s / spacing s + 1) * (span s / spacing s + 1) ≤ length l → Inside s c → allOf (apart (spacing s) c) l ≡ false
+  product-refused l c i p n j = go (allOf (apart (spacing s) c) l) refl
     where
       go : (b : Bool) → allOf (apart (spacing s) c) l ≡ b → b ≡ false
-      go true e = absurd (omega (arith, few-members (c ∷ l) (j, i) (r-all (apart (spacing s) c) (Apart (spacing s) c) (apart-fact (spacing s) c) l .0 e, p)))
+      go true e = absurd (omega (arith, few-product (c ∷ l) (j, i) (r-all (apart (spacing s) c) (Apart (spacing s) c) (apart-fact (spacing s) c) l .0 e, p)))
       go false e = refl
+
+  pub full-refused : (l : List Canister) (c : Canister) → All (Inside s) l → Pairs (Apart (spacing s)) l → length l ≡ 16 → Inside s c → allOf (apart (spacing s) c) l ≡ false
+  full-refused l c i p n j = product-refused l c i p (omega (arith, few-sixteen)) j
 
 -- ---- a sound value fits in memory
 module _ (m : Model) (S : Sound m) where

@@ -14,34 +14,7 @@ use Rattle.floor.specs.Calls.{bookAnswer, stopAnswer, repairAnswer, keep
 use Rattle.floor.specs.Anywhere.{anywhereAnswer}
 use Rattle.floor.specs.Reports.{listedAt}
 use Rattle.floor.specs.Demand3.{Call, book, anywhere, stop, repair, round, keep, forget, recall, outcome, floorAfter, bookedIn, reportedIn, recallSet, recallMakes, runsBy, latest}
-
--- the number that a booking's answer accepted
-abbrev pub bookedBy : Canister → Answer → List ℕ
-bookedBy c r = cond (eqb (r .refusal) 0) (c .number ∷ []) []
-
--- of a booking without a place
-abbrev pub placedBy : ℕ → Placed → List ℕ
-placedBy number r = cond (eqb (r .refusal) 0) (number ∷ []) []
-
--- the numbers that a round's answer reported delivered to hopper k
-abbrev pub reportedBy : Rounded → ℕ → List ℕ
-reportedBy r = listedAt (r .report)
-
--- and then ns
-abbrev pub joined : Rounded → (ℕ → List ℕ) → ℕ → List ℕ
-joined r ns k = reportedBy r k ++ ns k
-
--- calls made one after another from f, each answer r by its contract; g is the last floor, bs what was booked and ns k what was reported delivered to hopper k
-pub data Made : Floor → List Call → Floor → List ℕ → (ℕ → List ℕ) → Type 0 where
-  none : {f : Floor} → Made f [] f [] (λ _. [])
-  books : {f g : Floor} {cs : List Call} {bs : List ℕ} {ns : ℕ → List ℕ} (t : ℕ) (c : Canister) (r : Answer) → r ≡ bookAnswer f t c → Made (r .floor) cs g bs ns → Made f (book t c ∷ cs) g (bookedBy c r ++ bs) ns
-  places : {f g : Floor} {cs : List Call} {bs : List ℕ} {ns : ℕ → List ℕ} (t number : ℕ) (r : Placed) → r ≡ anywhereAnswer f t number → Made (r .floor) cs g bs ns → Made f (anywhere t number ∷ cs) g (placedBy number r ++ bs) ns
-  stops : {f g : Floor} {cs : List Call} {bs : List ℕ} {ns : ℕ → List ℕ} (t : ℕ) (r : Answer) → r ≡ stopAnswer f t → Made (r .floor) cs g bs ns → Made f (stop t ∷ cs) g bs ns
-  repairs : {f g : Floor} {cs : List Call} {bs : List ℕ} {ns : ℕ → List ℕ} (t : ℕ) (r : Answer) → r ≡ repairAnswer f t → Made (r .floor) cs g bs ns → Made f (repair t ∷ cs) g bs ns
-  rounds : {f g : Floor} {cs : List Call} {bs : List ℕ} {ns : ℕ → List ℕ} (r : Rounded) → r ≡ roundAnswer f → Made (r .floor) cs g bs ns → Made f (round ∷ cs) g bs (joined r ns)
-  keeps : {f g : Floor} {cs : List Call} {bs : List ℕ} {ns : ℕ → List ℕ} (name : ℕ) (r : Answer) → r ≡ keepAnswer f name → Made (r .floor) cs g bs ns → Made f (keep name ∷ cs) g bs ns
-  forgets : {f g : Floor} {cs : List Call} {bs : List ℕ} {ns : ℕ → List ℕ} (name : ℕ) (r : Answer) → r ≡ forgetAnswer f name → Made (r .floor) cs g bs ns → Made f (forget name ∷ cs) g bs ns
-  recalls : {f g : Floor} {cs : List Call} {bs : List ℕ} {ns : ℕ → List ℕ} (name : ℕ) (r : Answer) → r ≡ recallAnswer f name → Made (r .floor) cs g bs ns → Made f (recall name ∷ cs) g bs ns
+use Rattle.floor.specs.Chain.{bookedBy, placedBy, joined, Made, none, books, places, stops, repairs, rounds, keeps, forgets, recalls, runsMade, RealCalls}
 
 pub made-floor : {f g : Floor} {cs : List Call} {bs : List ℕ} {ns : ℕ → List ℕ} → Made f cs g bs ns → g ≡ floorAfter f cs
 unfolding floorAfter outcome
@@ -79,18 +52,6 @@ made-reported (keeps {cs = cs} name r e p) = made-reported p ∙ ap (λ (x : Ans
 made-reported (forgets {cs = cs} name r e p) = made-reported p ∙ ap (λ (x : Answer). reportedIn (x .floor) cs) e
 made-reported (recalls {cs = cs} name r e p) = made-reported p ∙ ap (λ (x : Answer). reportedIn (x .floor) cs) e
 
--- whether tile t runs, by the answers to its stops and repairs and to recalls, where b says whether it ran before
-unfoldable pub runsMade : {f g : Floor} {cs : List Call} {bs : List ℕ} {ns : ℕ → List ℕ} → Made f cs g bs ns → ℕ → Bool → Bool
-runsMade none t b = b
-runsMade (books u c r e p) t b = runsMade p t b
-runsMade (places u number r e p) t b = runsMade p t b
-runsMade (stops u r e p) t b = runsMade p t (cond (eqb (r .refusal) 0 && eqb u t) false b)
-runsMade (repairs u r e p) t b = runsMade p t (cond (eqb (r .refusal) 0 && eqb u t) true b)
-runsMade (rounds r e p) t b = runsMade p t b
-runsMade (keeps name r e p) t b = runsMade p t b
-runsMade (forgets name r e p) t b = runsMade p t b
-runsMade (recalls {f = f} name r e p) t b = runsMade p t (cond (eqb (r .refusal) 0 && recallMakes f name t) (bit (recallSet f name) t) b)
-
 pub made-runs : {f g : Floor} {cs : List Call} {bs : List ℕ} {ns : ℕ → List ℕ} (m : Made f cs g bs ns) (t : ℕ) (b : Bool) → runsMade m t b ≡ latest f cs t b
 unfolding runsMade latest runsBy outcome
 made-runs none t b = refl
@@ -117,3 +78,6 @@ every-list f (round ∷ cs) = let r = roundAnswer f in rounds r refl (every-list
 every-list f (keep name ∷ cs) = let r = keepAnswer f name in keeps name r refl (every-list (r .floor) cs)
 every-list f (forget name ∷ cs) = let r = forgetAnswer f name in forgets name r refl (every-list (r .floor) cs)
 every-list f (recall name ∷ cs) = let r = recallAnswer f name in recalls name r refl (every-list (r .floor) cs)
+
+pub real-calls : RealCalls
+real-calls = record { chained = λ m. record { floor = made-floor m; booked = made-booked m; reported = made-reported m; runs = made-runs m }; every = every-list }

@@ -24,11 +24,12 @@ use Rattle.floor.specs.Layouts.{layoutsSound}
 use Rattle.floor.specs.Memory.{zeroTile, zeroCanister, zeroFloor, headOf, stateOf, view, unused, head, pack}
 use Rattle.floor.specs.Well.{inside, apart, stateSound, sound, wellFormed}
 use Rattle.floor.specs.Calls.{refusalOf, answer, freshTile, freshFloor, freshAnswer, bookTests, bookAnswer}
+use Rattle.floor.specs.Capacity.{FullTiles}
 use Rattle.floor.proofs.Sound.{Measured, Inside, Sound}
 use Rattle.floor.proofs.Well.{settings-fact, inside-fact, faces-le, SoundHead, SoundTile, Counted, sound-of}
 use Rattle.floor.proofs.Rows.{view-at}
 use Rattle.floor.proofs.Pack.{zero-off, shown, pack-view, place-shown, well-sound, well-fits, well-few, well-measured, well-lengths, well-head}
-use Rattle.floor.proofs.Capacity.{full-refused, sound-small, sound-well}
+use Rattle.floor.proofs.Capacity.{few-along, few-product, few-sixteen, product-refused, sound-small, sound-well}
 
 -- ---- fresh
 fresh-tile : (s : Settings) → Measured s → (t : ℕ) → SoundTile s t (freshTile s t)
@@ -206,13 +207,18 @@ module _ (f : Floor) (w : wellFormed f ≡ true) where
         travel-fits = omega (arith, M .narrow, M .short, M .slow);
       }
 
--- "No refusal for a full tile is needed": with the other tests passed, every place on it is refused by 34
-pub full-tile : (f : Floor) → wellFormed f ≡ true → (t : ℕ) (c : Canister) → length (membersOf (view f) t) ≡ 16
-    → t < total (f .settings) → bit (f .settings .sources) t ≡ true → c .number ≢ 0 → inside (f .settings) c ≡ true → runsOf (view f) t ≡ true → f .counters .last < c .number
-    → bookAnswer f t c .refusal ≡ 34
+-- ---- "No refusal for a full tile is needed"
+pub capacity : FullTiles
 unfolding bookAnswer answer refusalOf refusal bookTests view
-full-tile f w t c full on source number place running above =
+capacity f w =
     let S = well-sound f w in
-    let no : allOf (apart (spacing (f .settings)) c) (membersOf (view f) t) ≡ false
-    = full-refused (f .settings) (S .measured) (membersOf (view f) t) c (S .inside t) (S .spaced t) full (inside-fact (f .settings) c .0 place) in
-    rw (w, lt-leb (total (f .settings)) t on, source, ne-eqb (c .number) 0 number, place, running, lt-leb (c .number) (f .counters .last) above, no)
+    let s = f .settings in
+    let M = S .measured in
+    record {
+      along = few-along s M;
+      product = λ t. few-product s M (membersOf (view f) t) (S .inside t) (S .spaced t);
+      sixteen = few-sixteen s M;
+      full = λ t c full on source number place running above.
+          let no : allOf (apart (spacing s) c) (membersOf (view f) t) ≡ false = product-refused s M (membersOf (view f) t) c (S .inside t) (S .spaced t) (omega (arith, full)) (inside-fact s c .0 place) in
+          rw (w, lt-leb (total s) t on, source, ne-eqb (c .number) 0 number, place, running, lt-leb (c .number) (f .counters .last) above, no);
+    }

@@ -1,5 +1,5 @@
 -- Each tile decides from its four neighbours: two floors with equal settings that agree on a tile and on its neighbours give that tile the same outcome of each step.
-use mathlib.Core.Path.{_≡_, refl, sym, ap, _∙_}
+use mathlib.Core.Path.{_≡_, refl, sym, ap, _∙_, subst}
 use mathlib.Core.Bool.{Bool, true, false, cond, _&&_}
 use mathlib.Core.List.{List}
 use Prim.Native.Nat.{ℕ, _<_}
@@ -17,11 +17,7 @@ use Rattle.floor.specs.Route.{routeTile, route}
 use Rattle.floor.specs.Signal.{Signal, missing, granting, waiting, signalWith, signalBy, signalTile, shownNext, shownOf, signalOf}
 use Rattle.floor.specs.Move.{wayOf, staying, membersNext, arriving, arrivals, moveTile}
 use Rattle.floor.specs.Reasons.{reasonTests, aheadOf, reasonOf, missingOf}
-
--- a and b agree on t and on what lies beside it; where there is no neighbour, both read no tile
-pub record Agree (s : Settings) {A : Type 0} (a b : ℕ → A) (t : ℕ) : Type 0 where
-  pub own : a t ≡ b t
-  pub beside : (k : ℕ) → a (neighbour s k t) ≡ b (neighbour s k t)
+use Rattle.floor.specs.Local.{Agree, Local, LocalReasons}
 
 -- a choice from what the four neighbours show
 around-local : {A B : Type 0} (s : Settings) (a b : ℕ → A) (t : ℕ) → Agree s a b t → (g : A → A → A → A → B) → around s a t g ≡ around s b t g
@@ -115,3 +111,13 @@ module _ (m n : Model) (t : ℕ) (same : m .settings ≡ n .settings) (own : til
   -- that turn depends on the tile ahead and its neighbours
   pub turn-local : Agree (m .settings) (tileOf m) (tileOf n) facing → signalOf m facing .turn ≡ signalOf n facing .turn
   turn-local h = ap (λ (x : Signal). x .turn) (signal-local m n facing same h)
+
+-- ---- together
+pub local-steps : Local
+local-steps m n t A = record { route = route-local m n t (A .settings) (A .tiles); signal = signal-local m n t (A .settings) (A .tiles); move = move-local m n t (A .settings) (A .tiles) }
+
+pub local-reasons : LocalReasons
+local-reasons m n t A =
+    let next = subst (λ (u : ℕ). tileOf m u ≡ tileOf n u) (A .is-ahead) (A .tile) in
+    let turn = subst (λ (u : ℕ). signalOf m u .turn ≡ signalOf n u .turn) (A .is-ahead) (A .turn) in
+    (reason-local m n t (A .settings) (A .own) next turn, missing-local m n t (A .settings) (A .own) next turn)

@@ -1,22 +1,22 @@
 -- "Tile number = column × H + row": the neighbours of the tile in column c and row r, by columns and rows.
-use mathlib.Core.Path.{_≡_, refl}
+use mathlib.Core.Path.{_≡_, refl, sym, subst}
 use mathlib.Core.Bool.{Bool, true, false, cond}
-use Prim.Native.Nat.{ℕ, zero, suc, _+_, _-_, _*_, _<_}
+use Prim.Native.Nat.{ℕ, zero, suc, _+_, _-_, _*_, _/_, _%_, _<_}
 use native.Mathlib.Omega.{arith}
-use native.Mathlib.Nat.{suc-mul, mul-le-mul-right}
+use native.Mathlib.Nat.{suc-mul, mul-le-mul-right, div-lt-iff-lt-mul, div-add-mod', mod-lt}
 use lib.Arith.{digits-lt, digits-mod}
 use lib.Dec.{leb, ltb}
 use borrow.Author.Tests.{ltb-true, ltb-false, lt-ltb, le-ltb, le-leb, lt-leb}
 use Rattle.floor.specs.declared.Settings.{Settings}
 use Rattle.floor.specs.Settings.{total}
 use Rattle.floor.specs.Grid.{neighbour}
+use Rattle.floor.specs.Numbering.{numberOf, TileNumbers}
 
 module _ (s : Settings) where
-  -- the number of the tile in column c and row r
-  abbrev pub numberOf : ℕ → ℕ → ℕ
-  numberOf c r = c * s .rows + r
+  abbrev number : ℕ → ℕ → ℕ
+  number = numberOf s
 
-  west : (c r : ℕ) → r < s .rows → neighbour s 1 (numberOf c r) ≡ cond (leb 1 c) (numberOf (c - 1) r) (total s)
+  west : (c r : ℕ) → r < s .rows → neighbour s 1 (number c r) ≡ cond (leb 1 c) (number (c - 1) r) (total s)
   unfolding neighbour
   west zero r h = rw (lt-leb (s .rows) (0 * s .rows + r) (omega (arith, h))) refl
   west (suc c) r h =
@@ -26,7 +26,7 @@ module _ (s : Settings) where
       let down : suc c - 1 ≡ c = omega arith in
       rw (e, q, one, down) refl
 
-  south : (c r : ℕ) → r < s .rows → neighbour s 2 (numberOf c r) ≡ cond (leb 1 r) (numberOf c (r - 1)) (total s)
+  south : (c r : ℕ) → r < s .rows → neighbour s 2 (number c r) ≡ cond (leb 1 r) (number c (r - 1)) (total s)
   unfolding neighbour
   south c zero h = rw (digits-mod c h) refl
   south c (suc r) h =
@@ -34,13 +34,13 @@ module _ (s : Settings) where
       let down : suc r - 1 ≡ r = omega arith in
       rw (digits-mod c h, q, down) refl
 
-  north : (c r : ℕ) → r < s .rows → neighbour s 3 (numberOf c r) ≡ cond (ltb (r + 1) (s .rows)) (numberOf c (r + 1)) (total s)
+  north : (c r : ℕ) → r < s .rows → neighbour s 3 (number c r) ≡ cond (ltb (r + 1) (s .rows)) (number c (r + 1)) (total s)
   unfolding neighbour
   north c r h =
       let q : c * s .rows + r + 1 ≡ c * s .rows + (r + 1) = omega arith in
       rw (digits-mod c h, q) refl
 
-  east : (c r : ℕ) → r < s .rows → neighbour s 4 (numberOf c r) ≡ cond (ltb (c + 1) (s .columns)) (numberOf (c + 1) r) (total s)
+  east : (c r : ℕ) → r < s .rows → neighbour s 4 (number c r) ≡ cond (ltb (c + 1) (s .columns)) (number (c + 1) r) (total s)
   unfolding neighbour
   east c r h = rw (q, go (ltb (c + 1) (s .columns)) refl) refl
     where
@@ -51,11 +51,15 @@ module _ (s : Settings) where
       go true e = lt-ltb ((c + 1) * s .rows + r) (total s) (digits-lt (ltb-true (c + 1) (s .columns) e) h)
       go false e = le-ltb ((c + 1) * s .rows + r) (total s) (omega (arith, mul-le-mul-right (s .rows) (ltb-false (c + 1) (s .columns) e)))
 
-  -- "Column 0 is west, row 0 is south": one column less, one row less, one row more, one column more; C where there is none
-  pub numbered : (c r : ℕ) → c < s .columns → r < s .rows
-      → (numberOf c r < total s)
-      × (neighbour s 1 (numberOf c r) ≡ cond (leb 1 c) (numberOf (c - 1) r) (total s))
-      × (neighbour s 2 (numberOf c r) ≡ cond (leb 1 r) (numberOf c (r - 1)) (total s))
-      × (neighbour s 3 (numberOf c r) ≡ cond (ltb (r + 1) (s .rows)) (numberOf c (r + 1)) (total s))
-      × (neighbour s 4 (numberOf c r) ≡ cond (ltb (c + 1) (s .columns)) (numberOf (c + 1) r) (total s))
-  numbered c r h k = (digits-lt h k, west c r k, south c r k, north c r k, east c r k)
+  -- column and row of a tile
+  each : (t : ℕ) → t < total s → (c : ℕ) × (r : ℕ) × (c < s .columns) × (r < s .rows) × (t ≡ number c r)
+  each t h = go (s .rows) refl
+    where
+      go : (n : ℕ) → s .rows ≡ n → (c : ℕ) × (r : ℕ) × (c < s .columns) × (r < s .rows) × (t ≡ number c r)
+      go zero e = absurd (omega (arith, subst (λ (x : ℕ). t < s .columns * x) e h))
+      go (suc n) e =
+          let pos : 0 < s .rows = omega (arith, e) in
+          (t / s .rows, t % s .rows, div-lt-iff-lt-mul pos .1 h, mod-lt t pos, sym (div-add-mod' t (s .rows)))
+
+pub numbered : TileNumbers
+numbered s = record { at = λ c r h k. record { on-floor = digits-lt h k; west = west s c r k; south = south s c r k; north = north s c r k; east = east s c r k }; each = each s }

@@ -1,6 +1,7 @@
 pub mod Sides
 pub mod Settings
 pub mod Grid
+pub mod Numbering
 pub mod Layouts
 pub mod Model
 pub mod Memory
@@ -10,12 +11,15 @@ pub mod Signal
 pub mod Move
 pub mod Reasons
 pub mod Calls
+pub mod Local
+pub mod Capacity
 pub mod Anywhere
 pub mod Placing
 pub mod Reports
 pub mod Bound
 pub mod Live
 pub mod Demand3
+pub mod Chain
 pub mod Named
 pub mod Together
 pub mod Fairness
