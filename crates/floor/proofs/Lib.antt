@@ -45,6 +45,7 @@ pub mod Named
 pub mod Tokens
 pub mod Fairness
 pub mod Arrows
+pub mod Distances
 pub mod Reasons
 pub mod Shifting
 pub mod Standing
@@ -58,6 +59,7 @@ pub mod Samples
 pub mod LayoutSamples
 pub mod AnywhereSamples
 pub mod Instances
+pub mod DistanceInstances
 pub mod StandingInstances
 pub mod LayoutInstances
 pub mod AnywhereInstances

@@ -24,4 +24,5 @@ pub mod Named
 pub mod Together
 pub mod Fairness
 pub mod Arrows
+pub mod Distances
 pub mod Standing
