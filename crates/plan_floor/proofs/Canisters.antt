@@ -11,18 +11,19 @@ use Rattle.laws.proofs.Lists.{all-of, all-append, all-left, all-right, pairs-be
 use Rattle.floor.specs.Model.{numbersOn}
 use Rattle.floor.specs.Memory.{view}
 use Rattle.floor.specs.Demand3.{bookedIn, reportedAll}
-use Rattle.plan_floor.specs.Steps.{Step, State, stepped, stateAfter, bookingsOf, bookingsIn, callsIn, bookedOf, bookedBy}
+use Rattle.plan_floor.specs.Steps.{bookingsIn, Step, State, stepped, stateAfter, planCallsIn, stepBookings, callsIn, bookedOf, bookedBy}
 use Rattle.plan_floor.specs.Promises.{OnFloorUntilReported, CanisterPromise}
+use Rattle.plan_floor.proofs.AsPlan.{bookingsAt, bookings-next}
 use Rattle.plan_floor.proofs.AsCalls.{as-calls}
 use Rattle.plan_floor.proofs.Once.{step-numbers}
 
 -- what holds of every number booked holds of those of the labels
-list-numbers : (P : ℕ → Type 0) (s : State) (cs : List Step) → All P (bookedBy s cs) → All (λ x. P (x .1)) (bookingsIn s cs)
-unfolding bookedBy bookingsIn
+list-numbers : (P : ℕ → Type 0) (s : State) (cs : List Step) → All P (bookedBy s cs) → All (λ x. P (x .1)) (stepBookings s cs)
+unfolding bookedBy bookingsIn planCallsIn
 list-numbers P s [] h = tt
 list-numbers P s (c ∷ cs) h =
-    all-append (λ x. P (x .1)) (bookingsOf s c) (bookingsIn (stepped s c) cs) (step-numbers P s c (all-left P (bookedOf s c) (bookedBy (stepped s c) cs) h))
-    (list-numbers P (stepped s c) cs (all-right P (bookedOf s c) (bookedBy (stepped s c) cs) h))
+    subst (All (λ x. P (x .1))) (sym (bookings-next s c cs)) (all-append (λ x. P (x .1)) (bookingsAt s c) (stepBookings (stepped s c) cs) (step-numbers P s c (all-left P (bookedOf s c) (bookedBy (stepped s c) cs) h))
+    (list-numbers P (stepped s c) cs (all-right P (bookedOf s c) (bookedBy (stepped s c) cs) h)))
 
 pub canisters : CanisterPromise
 canisters s w cs t =

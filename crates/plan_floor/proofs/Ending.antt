@@ -251,7 +251,7 @@ module _ (s : State) (n : ℕ) (R : BetweenCycles s (suc n)) where
   upto = good-upto (g .counters .last) p (R .fine .1)
 
   offered-ok : offerAnswer p .refusal ≡ 0
-  offered-ok = offers-by p g 0 sound (R .fine .0) upto ∙ ap (λ (b : Bool). cond b 0 47) (R .fits)
+  offered-ok = offers-by p sound ∙ ap (λ (b : Bool). cond b 0 47) (R .fits)
 
   can-go : readyLabel (used p) k ≡ true
   unfolding waitingIn

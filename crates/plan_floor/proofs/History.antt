@@ -18,7 +18,7 @@ use Rattle.plan.specs.declared.Entry.{Entry}
 use Rattle.plan.specs.declared.Plan.{Plan}
 use Rattle.plan.specs.Entries.{Stage, waiting, booked, delivered, stageOf, isWaiting, isDelivered, waits, wasDelivered, used, predecessors, done, present, planSound, numbersUpto, entryFits, planFits, ready, readyLabel, changed, bookedAs, released, reported}
 use Rattle.plan.specs.Plans.{numberAfter, releaseTests, releaseBooking, releaseAnswer, numbersIn, reportTests, reportAnswer}
-use Rattle.plan_floor.specs.Steps.{Step, call, offer, release, report, State, stepped, stateAfter, allWaiting, Event, booking, listing, eventsOf, eventsIn, BookedThenListed, here, later, predecessorsOf}
+use Rattle.plan_floor.specs.Steps.{PlanCall, look, releaseOn, hand, planned, planAfter, allWaiting, Event, booking, listing, eventsOf, eventsIn, BookedThenListed, here, later, predecessorsOf}
 use Rattle.plan_floor.specs.Promises.{HistoryPromise}
 use Rattle.plan.proofs.Stages.{marked, booked-stage, reported-stage, reported-label, changed-all}
 use Rattle.plan_floor.proofs.Written.{list-predecessors}
@@ -78,30 +78,29 @@ Inv p past = All (Recorded past) (used p)
 none-new : (p : Plan) (past : List Event) → Inv p past → Inv p (past ++ [])
 none-new p past h = rw (append-nil past) h
 
-step-inv : (s : State) (c : Step) (past : List Event) → Inv (s .plan) past → Inv (stepped s c .plan) (past ++ eventsOf s c)
-unfolding stepped eventsOf releaseAnswer reportAnswer
-step-inv s (call c) past h = none-new (s .plan) past h
-step-inv s offer past h = none-new (s .plan) past h
-step-inv s (release k) past h = go (eqb (releaseAnswer (s .plan) (s .floor) k .refusal) 0)
+call-inv : (p : Plan) (c : PlanCall) (past : List Event) → Inv p past → Inv (planned p c) (past ++ eventsOf p c)
+unfolding planned eventsOf releaseAnswer reportAnswer
+call-inv p look past h = none-new p past h
+call-inv p (releaseOn f k) past h = go (eqb (releaseAnswer p f k .refusal) 0)
   where
     n : ℕ
-    n = numberAfter (s .floor)
+    n = numberAfter f
 
-    go : (b : Bool) → Inv (cond b (changed (s .plan) (released k n)) (s .plan)) (past ++ cond b (booking k (cond b n 0) ∷ []) [])
-    go true = changed-all (Recorded past) (Recorded (past ++ (booking k n ∷ []))) (s .plan) (released k n) (λ e r. booked-told k n e past r) h
-    go false = none-new (s .plan) past h
-step-inv s (report r) past h = go (eqb (refusal (reportTests (s .plan) r)) 0)
+    go : (b : Bool) → Inv (cond b (changed p (released k n)) p) (past ++ cond b (booking k (cond b n 0) ∷ []) [])
+    go true = changed-all (Recorded past) (Recorded (past ++ (booking k n ∷ []))) p (released k n) (λ e r. booked-told k n e past r) h
+    go false = none-new p past h
+call-inv p (hand r) past h = go (eqb (refusal (reportTests p r)) 0)
   where
-    go : (b : Bool) → Inv (cond b (changed (s .plan) (reported (numbersIn r))) (s .plan)) (past ++ cond b (map listing (numbersIn r)) [])
-    go true = changed-all (Recorded past) (Recorded (past ++ map listing (numbersIn r))) (s .plan) (reported (numbersIn r)) (λ e q. marks-told (numbersIn r) e past q) h
-    go false = none-new (s .plan) past h
+    go : (b : Bool) → Inv (cond b (changed p (reported (numbersIn r))) p) (past ++ cond b (map listing (numbersIn r)) [])
+    go true = changed-all (Recorded past) (Recorded (past ++ map listing (numbersIn r))) p (reported (numbersIn r)) (λ e q. marks-told (numbersIn r) e past q) h
+    go false = none-new p past h
 
-list-inv : (s : State) (cs : List Step) (past : List Event) → Inv (s .plan) past → Inv (stateAfter s cs .plan) (past ++ eventsIn s cs)
-unfolding stateAfter eventsIn
-list-inv s [] past h = none-new (s .plan) past h
-list-inv s (c ∷ cs) past h =
-    subst (λ (l : List Event). Inv (stateAfter (stepped s c) cs .plan) l) (append-assoc past (eventsOf s c) (eventsIn (stepped s c) cs))
-    (list-inv (stepped s c) cs (past ++ eventsOf s c) (step-inv s c past h))
+list-inv : (p : Plan) (cs : List PlanCall) (past : List Event) → Inv p past → Inv (planAfter p cs) (past ++ eventsIn p cs)
+unfolding planAfter eventsIn
+list-inv p [] past h = none-new p past h
+list-inv p (c ∷ cs) past h =
+    subst (λ (l : List Event). Inv (planAfter (planned p c) cs) l) (append-assoc past (eventsOf p c) (eventsIn (planned p c) cs))
+    (list-inv (planned p c) cs (past ++ eventsOf p c) (call-inv p c past h))
 
 -- ---- an accepted release
 -- a choice that is 0
@@ -241,8 +240,8 @@ waiting-inv p h = all-imp (λ e. waits e ≡ true) (Recorded []) (used p) (λ e 
     go k delivered w = absurd (false≢true w)
 
 pub history : HistoryPromise
-history s h cs k e =
-    let now = stateAfter s cs in
-    let P = accepted (now .plan) (now .floor) k e in
-    subst (All (λ j. (n : ℕ) × BookedThenListed j n (eventsIn s cs))) (list-predecessors s cs k)
-    (release-reported (now .plan) (P .fits) (eventsIn s cs) (list-inv s cs [] (waiting-inv (s .plan) h)) k (P .is-ready))
+history p h cs f k e =
+    let now = planAfter p cs in
+    let P = accepted now f k e in
+    subst (All (λ j. (n : ℕ) × BookedThenListed j n (eventsIn p cs))) (list-predecessors p cs k)
+    (release-reported now (P .fits) (eventsIn p cs) (list-inv p cs [] (waiting-inv p h)) k (P .is-ready))

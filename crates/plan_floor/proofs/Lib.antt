@@ -1,6 +1,7 @@
 pub mod Samples
 pub mod Written
 pub mod History
+pub mod AsPlan
 pub mod Offering
 pub mod Keeping
 pub mod Answers

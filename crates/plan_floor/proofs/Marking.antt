@@ -29,7 +29,7 @@ use Rattle.plan_floor.specs.Ending.{HandedIn, waitingIn}
 use Rattle.plan.proofs.Stages.{marked, booked-number, reported-stage, reported-label, other-label, used-changed, changed-all}
 use Rattle.plan_floor.proofs.Keeping.{reported-waits, reported-delivered}
 use Rattle.plan_floor.proofs.AsCalls.{same-step}
-use Rattle.plan_floor.proofs.Soundness.{good-sound, good-upto, Fine, step-fine, reports-by}
+use Rattle.plan_floor.proofs.Soundness.{good-sound, Fine, step-fine, reports-by}
 use Rattle.plan_floor.proofs.Once.{IsUnder, Under, not-again, step-under}
 use Rattle.plan_floor.proofs.Rounds.{four-lists}
 
@@ -47,7 +47,7 @@ step-arrived s offer k n U D = D
 step-arrived s (release j) k n U D = go (eqb (releaseAnswer (s .plan) (s .floor) j .refusal) 0) refl
   where
     go : (b : Bool) → eqb (releaseAnswer (s .plan) (s .floor) j .refusal) 0 ≡ b → Arrived (cond b (changed (s .plan) (released j (numberAfter (s .floor)))) (s .plan)) k
-    go true e = changed-all (IsDone k) (IsDone k) (s .plan) (released j (numberAfter (s .floor))) (other-label (λ e. wasDelivered e ≡ true) k j (numberAfter (s .floor)) (not-again s k n j U e)) D
+    go true e = changed-all (IsDone k) (IsDone k) (s .plan) (released j (numberAfter (s .floor))) (other-label (λ e. wasDelivered e ≡ true) k j (numberAfter (s .floor)) (not-again (s .plan) (s .floor) k n j U e)) D
     go false e = D
 step-arrived s (report r) k n U D = go (eqb (refusal (reportTests (s .plan) r)) 0)
   where
@@ -79,7 +79,7 @@ report-marks : (s : State) (r : Report) (k n : ℕ) → Fine s → planFits (s .
 unfolding stepped reportAnswer
 report-marks s r k n F fits few m U =
     let last = s .floor .counters .last in
-    let ok : refusal (reportTests (s .plan) r) ≡ 0 = reports-by (s .plan) (s .floor) 0 (good-sound last (s .plan) (F .1)) (F .0) (good-upto last (s .plan) (F .1)) r few ∙ ap (λ (b : Bool). cond b 0 47) fits in
+    let ok : refusal (reportTests (s .plan) r) ≡ 0 = reports-by (s .plan) (good-sound last (s .plan) (F .1)) r few ∙ ap (λ (b : Bool). cond b 0 47) fits in
     rw ok (changed-all (IsUnder k n) (IsDone k) (s .plan) (reported (numbersIn r)) (marks (numbersIn r) k n m) U)
 
 -- handed in somewhere in the list

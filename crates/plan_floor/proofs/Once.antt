@@ -1,4 +1,4 @@
--- Each label is booked at most once, under one number: `once`. The statement is specs/Promises.
+-- Each label is booked at most once, under one number: `once`; the numbers rise: `rising`. The statements are specs/Promises.
 use mathlib.Core.Path.{_≡_, refl, sym, ap, _∙_, subst}
 use mathlib.Core.Logic.{_⊎_, inl, inr, _≢_}
 use mathlib.Core.Bool.{Bool, true, false, cond}
@@ -11,15 +11,17 @@ use Rattle.laws.specs.Define.{allOf, refusal}
 use Rattle.laws.specs.Every.{All, Pairs}
 use Rattle.laws.proofs.Tests.{by-test, not-both, and-left}
 use Rattle.laws.proofs.Lists.{all-mem, all-of, all-imp, all-map, all-append, pairs-append}
+use Rattle.floor.specs.declared.Floor.{Floor}
 use Rattle.floor.specs.Well.{wellFormed}
 use Rattle.plan.specs.declared.Entry.{Entry}
 use Rattle.plan.specs.declared.Plan.{Plan}
 use Rattle.plan.specs.Entries.{isWaiting, waits, used, predecessors, done, ready, changed, released, reported}
 use Rattle.plan.specs.Plans.{numberAfter, releaseAnswer, numbersIn, reportTests, reportAnswer}
-use Rattle.plan_floor.specs.Steps.{Step, call, offer, release, report, State, stepped, stateAfter, TypedStep, bookingsOf, bookingsIn, bookedOf}
-use Rattle.plan_floor.specs.Promises.{OncePromise}
+use Rattle.plan_floor.specs.Steps.{PlanCall, look, releaseOn, hand, planned, planAfter, bookingsOf, bookingsIn, Step, call, offer, release, report, State, stepped, planCallsIn, stepBookings, TypedStep, bookedOf}
+use Rattle.plan_floor.specs.Promises.{OncePromise, RisingPromise}
 use Rattle.plan.proofs.Stages.{booked-stage, reported-same, released-label, reported-label, released-there, other-label, used-changed, changed-all}
 use Rattle.plan_floor.proofs.History.{accepted, ready-entry}
+use Rattle.plan_floor.proofs.AsPlan.{bookingsAt, bookings-next}
 use Rattle.plan_floor.proofs.Keeping.{reported-waits}
 use Rattle.plan_floor.proofs.AsCalls.{step-keeps}
 
@@ -30,57 +32,62 @@ IsUnder k n e = e .label ≡ k → (e .number ≡ n) × (waits e ≡ false)
 abbrev pub Under : Plan → ℕ → ℕ → Type 0
 Under p k n = All (IsUnder k n) (used p)
 
-abbrev pub Accepted : State → ℕ → Type 0
-Accepted s j = eqb (releaseAnswer (s .plan) (s .floor) j .refusal) 0 ≡ true
+abbrev pub Accepted : Plan → Floor → ℕ → Type 0
+Accepted p f j = eqb (releaseAnswer p f j .refusal) 0 ≡ true
 
 -- such a label is not released
-pub not-again : (s : State) (k n j : ℕ) → Under (s .plan) k n → Accepted s j → k ≢ j
+pub not-again : (p : Plan) (f : Floor) (k n j : ℕ) → Under p k n → Accepted p f j → k ≢ j
 unfolding ready
-not-again s k n j U e q =
-    let A = accepted (s .plan) (s .floor) j (eqb-true (releaseAnswer (s .plan) (s .floor) j .refusal) 0 e) in
-    let w = ready-entry (s .plan) (A .fits) j (A .is-ready) in
-    not-both (and-left (waits (w .0)) (allOf (done (used (s .plan))) (predecessors (w .0))) (w .3)) (all-mem (IsUnder k n) (w .1) U (w .2 ∙ sym q) .1)
+not-again p f k n j U e q =
+    let A = accepted p f j (eqb-true (releaseAnswer p f j .refusal) 0 e) in
+    let w = ready-entry p (A .fits) j (A .is-ready) in
+    not-both (and-left (waits (w .0)) (allOf (done (used p)) (predecessors (w .0))) (w .3)) (all-mem (IsUnder k n) (w .1) U (w .2 ∙ sym q) .1)
 
 -- nothing changes that
-pub step-under : (s : State) (c : Step) (k n : ℕ) → Under (s .plan) k n → Under (stepped s c .plan) k n
-unfolding stepped releaseAnswer reportAnswer
-step-under s (call c) k n U = U
-step-under s offer k n U = U
-step-under s (release j) k n U = go (eqb (releaseAnswer (s .plan) (s .floor) j .refusal) 0) refl
+call-under : (p : Plan) (c : PlanCall) (k n : ℕ) → Under p k n → Under (planned p c) k n
+unfolding planned releaseAnswer reportAnswer
+call-under p look k n U = U
+call-under p (releaseOn f j) k n U = go (eqb (releaseAnswer p f j .refusal) 0) refl
   where
-    go : (b : Bool) → eqb (releaseAnswer (s .plan) (s .floor) j .refusal) 0 ≡ b → Under (cond b (changed (s .plan) (released j (numberAfter (s .floor)))) (s .plan)) k n
-    go true e = changed-all (IsUnder k n) (IsUnder k n) (s .plan) (released j (numberAfter (s .floor))) (other-label (λ e. (e .number ≡ n) × (waits e ≡ false)) k j (numberAfter (s .floor)) (not-again s k n j U e)) U
+    go : (b : Bool) → eqb (releaseAnswer p f j .refusal) 0 ≡ b → Under (cond b (changed p (released j (numberAfter f))) p) k n
+    go true e = changed-all (IsUnder k n) (IsUnder k n) p (released j (numberAfter f)) (other-label (λ e. (e .number ≡ n) × (waits e ≡ false)) k j (numberAfter f) (not-again p f k n j U e)) U
     go false e = U
-step-under s (report r) k n U = go (eqb (refusal (reportTests (s .plan) r)) 0)
+call-under p (hand r) k n U = go (eqb (refusal (reportTests p r)) 0)
   where
     l : List ℕ
     l = numbersIn r
 
-    go : (b : Bool) → Under (cond b (changed (s .plan) (reported l)) (s .plan)) k n
-    go true = changed-all (IsUnder k n) (IsUnder k n) (s .plan) (reported l) (λ e u q. let v = u (sym (reported-label l e) ∙ q) in (reported-same (λ e. e .number) l (λ e. refl) e ∙ v .0, reported-waits l e ∙ v .1)) U
+    go : (b : Bool) → Under (cond b (changed p (reported l)) p) k n
+    go true = changed-all (IsUnder k n) (IsUnder k n) p (reported l) (λ e u q. let v = u (sym (reported-label l e) ∙ q) in (reported-same (λ e. e .number) l (λ e. refl) e ∙ v .0, reported-waits l e ∙ v .1)) U
     go false = U
 
-pub list-under : (s : State) (cs : List Step) (k n : ℕ) → Under (s .plan) k n → Under (stateAfter s cs .plan) k n
-unfolding stateAfter
-list-under s [] k n U = U
-list-under s (c ∷ cs) k n U = list-under (stepped s c) cs k n (step-under s c k n U)
+pub step-under : (s : State) (c : Step) (k n : ℕ) → Under (s .plan) k n → Under (stepped s c .plan) k n
+unfolding stepped planned
+step-under s (call c) k n U = U
+step-under s offer k n U = U
+step-under s (release j) k n U = call-under (s .plan) (releaseOn (s .floor) j) k n U
+step-under s (report r) k n U = call-under (s .plan) (hand r) k n U
+
+list-under : (p : Plan) (cs : List PlanCall) (k n : ℕ) → Under p k n → Under (planAfter p cs) k n
+unfolding planAfter
+list-under p [] k n U = U
+list-under p (c ∷ cs) k n U = list-under (planned p c) cs k n (call-under p c k n U)
 
 -- and it is not booked again
-step-away : (s : State) (c : Step) (k n : ℕ) → Under (s .plan) k n → All (λ y. k ≢ y .0) (bookingsOf s c)
+call-away : (p : Plan) (c : PlanCall) (k n : ℕ) → Under p k n → All (λ y. k ≢ y .0) (bookingsOf p c)
 unfolding bookingsOf
-step-away s (call c) k n U = tt
-step-away s offer k n U = tt
-step-away s (release j) k n U = go (eqb (releaseAnswer (s .plan) (s .floor) j .refusal) 0) refl
+call-away p look k n U = tt
+call-away p (releaseOn f j) k n U = go (eqb (releaseAnswer p f j .refusal) 0) refl
   where
-    go : (b : Bool) → eqb (releaseAnswer (s .plan) (s .floor) j .refusal) 0 ≡ b → All (λ (y : ℕ × ℕ). k ≢ y .0) (cond b ((j, releaseAnswer (s .plan) (s .floor) j .number) ∷ []) [])
-    go true e = (not-again s k n j U e, tt)
+    go : (b : Bool) → eqb (releaseAnswer p f j .refusal) 0 ≡ b → All (λ (y : ℕ × ℕ). k ≢ y .0) (cond b ((j, releaseAnswer p f j .number) ∷ []) [])
+    go true e = (not-again p f k n j U e, tt)
     go false e = tt
-step-away s (report r) k n U = tt
+call-away p (hand r) k n U = tt
 
-list-away : (s : State) (cs : List Step) (k n : ℕ) → Under (s .plan) k n → All (λ y. k ≢ y .0) (bookingsIn s cs)
+list-away : (p : Plan) (cs : List PlanCall) (k n : ℕ) → Under p k n → All (λ y. k ≢ y .0) (bookingsIn p cs)
 unfolding bookingsIn
-list-away s [] k n U = tt
-list-away s (c ∷ cs) k n U = all-append (λ y. k ≢ y .0) (bookingsOf s c) (bookingsIn (stepped s c) cs) (step-away s c k n U) (list-away (stepped s c) cs k n (step-under s c k n U))
+list-away p [] k n U = tt
+list-away p (c ∷ cs) k n U = all-append (λ y. k ≢ y .0) (bookingsOf p c) (bookingsIn (planned p c) cs) (call-away p c k n U) (list-away (planned p c) cs k n (call-under p c k n U))
 
 -- a release puts its label under its number
 pub booked-under : (p : Plan) (k n : ℕ) → Under (changed p (released k n)) k n
@@ -90,50 +97,58 @@ booked-under p k n = subst (All (IsUnder k n)) (sym (used-changed p (released k 
     here e (inl q) = subst (IsUnder k n) (sym (released-there k n e (eqb-true (e .label) k q))) (λ l. (refl, ap isWaiting (booked-stage n e)))
     here e (inr q) = λ l. absurd (eqb-false (e .label) k q (sym (released-label k n e) ∙ l))
 
-step-booked : (s : State) (c : Step) → All (λ x. Under (stepped s c .plan) (x .0) (x .1)) (bookingsOf s c)
-unfolding bookingsOf stepped releaseAnswer
-step-booked s (call c) = tt
-step-booked s offer = tt
-step-booked s (release k) = go (eqb (releaseAnswer (s .plan) (s .floor) k .refusal) 0)
+call-booked : (p : Plan) (c : PlanCall) → All (λ x. Under (planned p c) (x .0) (x .1)) (bookingsOf p c)
+unfolding bookingsOf planned releaseAnswer
+call-booked p look = tt
+call-booked p (releaseOn f k) = go (eqb (releaseAnswer p f k .refusal) 0)
   where
     n : ℕ
-    n = numberAfter (s .floor)
+    n = numberAfter f
 
-    go : (b : Bool) → All (λ (x : ℕ × ℕ). Under (cond b (changed (s .plan) (released k n)) (s .plan)) (x .0) (x .1)) (cond b ((k, cond b n 0) ∷ []) [])
-    go true = (booked-under (s .plan) k n, tt)
+    go : (b : Bool) → All (λ (x : ℕ × ℕ). Under (cond b (changed p (released k n)) p) (x .0) (x .1)) (cond b ((k, cond b n 0) ∷ []) [])
+    go true = (booked-under p k n, tt)
     go false = tt
-step-booked s (report r) = tt
+call-booked p (hand r) = tt
 
--- at most one of them in a step
-step-pairs : (R : ℕ × ℕ → ℕ × ℕ → Type 0) (s : State) (c : Step) → Pairs R (bookingsOf s c)
+-- at most one of them in a call
+call-pairs : (R : ℕ × ℕ → ℕ × ℕ → Type 0) (p : Plan) (c : PlanCall) → Pairs R (bookingsOf p c)
 unfolding bookingsOf
-step-pairs R s (call c) = tt
-step-pairs R s offer = tt
-step-pairs R s (release k) = go (eqb (releaseAnswer (s .plan) (s .floor) k .refusal) 0)
+call-pairs R p look = tt
+call-pairs R p (releaseOn f k) = go (eqb (releaseAnswer p f k .refusal) 0)
   where
-    go : (b : Bool) → Pairs R (cond b ((k, releaseAnswer (s .plan) (s .floor) k .number) ∷ []) [])
+    go : (b : Bool) → Pairs R (cond b ((k, releaseAnswer p f k .number) ∷ []) [])
     go true = (tt, tt)
     go false = tt
-step-pairs R s (report r) = tt
+call-pairs R p (hand r) = tt
 
-labels : (s : State) (cs : List Step) → Pairs (λ x y. x .0 ≢ y .0) (bookingsIn s cs)
+labels : (p : Plan) (cs : List PlanCall) → Pairs (λ x y. x .0 ≢ y .0) (bookingsIn p cs)
 unfolding bookingsIn
-labels s [] = tt
-labels s (c ∷ cs) =
-    pairs-append (λ x y. x .0 ≢ y .0) (bookingsOf s c) (bookingsIn (stepped s c) cs) (step-pairs (λ x y. x .0 ≢ y .0) s c) (labels (stepped s c) cs)
-    (all-imp (λ x. Under (stepped s c .plan) (x .0) (x .1)) (λ x. All (λ y. x .0 ≢ y .0) (bookingsIn (stepped s c) cs)) (bookingsOf s c) (λ x U. list-away (stepped s c) cs (x .0) (x .1) U) (step-booked s c))
+labels p [] = tt
+labels p (c ∷ cs) =
+    pairs-append (λ x y. x .0 ≢ y .0) (bookingsOf p c) (bookingsIn (planned p c) cs) (call-pairs (λ x y. x .0 ≢ y .0) p c) (labels (planned p c) cs)
+    (all-imp (λ x. Under (planned p c) (x .0) (x .1)) (λ x. All (λ y. x .0 ≢ y .0) (bookingsIn (planned p c) cs)) (bookingsOf p c) (λ x U. list-away (planned p c) cs (x .0) (x .1) U) (call-booked p c))
 
-kept : (s : State) (cs : List Step) → All (λ x. Under (stateAfter s cs .plan) (x .0) (x .1)) (bookingsIn s cs)
-unfolding bookingsIn stateAfter
-kept s [] = tt
-kept s (c ∷ cs) =
-    all-append (λ x. Under (stateAfter (stepped s c) cs .plan) (x .0) (x .1)) (bookingsOf s c) (bookingsIn (stepped s c) cs)
-    (all-imp (λ x. Under (stepped s c .plan) (x .0) (x .1)) (λ x. Under (stateAfter (stepped s c) cs .plan) (x .0) (x .1)) (bookingsOf s c) (λ x U. list-under (stepped s c) cs (x .0) (x .1) U) (step-booked s c))
-    (kept (stepped s c) cs)
+kept : (p : Plan) (cs : List PlanCall) → All (λ x. Under (planAfter p cs) (x .0) (x .1)) (bookingsIn p cs)
+unfolding bookingsIn planAfter
+kept p [] = tt
+kept p (c ∷ cs) =
+    all-append (λ x. Under (planAfter (planned p c) cs) (x .0) (x .1)) (bookingsOf p c) (bookingsIn (planned p c) cs)
+    (all-imp (λ x. Under (planned p c) (x .0) (x .1)) (λ x. Under (planAfter (planned p c) cs) (x .0) (x .1)) (bookingsOf p c) (λ x U. list-under (planned p c) cs (x .0) (x .1) U) (call-booked p c))
+    (kept (planned p c) cs)
+
+pub once : OncePromise
+once p cs = record { labels = labels p cs; kept = kept p cs }
 
 -- ---- the numbers
-pub step-numbers : (P : ℕ → Type 0) (s : State) (c : Step) → All P (bookedOf s c) → All (λ x. P (x .1)) (bookingsOf s c)
-unfolding bookingsOf bookedOf
+step-pairs : (R : ℕ × ℕ → ℕ × ℕ → Type 0) (s : State) (c : Step) → Pairs R (bookingsAt s c)
+unfolding bookingsAt
+step-pairs R s (call c) = tt
+step-pairs R s offer = tt
+step-pairs R s (release k) = call-pairs R (s .plan) (releaseOn (s .floor) k)
+step-pairs R s (report r) = tt
+
+pub step-numbers : (P : ℕ → Type 0) (s : State) (c : Step) → All P (bookedOf s c) → All (λ x. P (x .1)) (bookingsAt s c)
+unfolding bookingsAt bookingsOf bookedOf
 step-numbers P s (call c) h = tt
 step-numbers P s offer h = tt
 step-numbers P s (release k) h = go (eqb (releaseAnswer (s .plan) (s .floor) k .refusal) 0) h
@@ -146,23 +161,20 @@ step-numbers P s (release k) h = go (eqb (releaseAnswer (s .plan) (s .floor) k .
     go false h = h
 step-numbers P s (report r) h = tt
 
-list-above : (s : State) (cs : List Step) (m : ℕ) → m ≤ s .floor .counters .last → wellFormed (s .floor) ≡ true → All TypedStep cs → All (λ y. m < y .1) (bookingsIn s cs)
-unfolding bookingsIn
+list-above : (s : State) (cs : List Step) (m : ℕ) → m ≤ s .floor .counters .last → wellFormed (s .floor) ≡ true → All TypedStep cs → All (λ y. m < y .1) (stepBookings s cs)
+unfolding bookingsIn planCallsIn
 list-above s [] m l w t = tt
 list-above s (c ∷ cs) m l w t =
     let K = step-keeps s c w (t .0) in
-    all-append (λ y. m < y .1) (bookingsOf s c) (bookingsIn (stepped s c) cs)
+    subst (All (λ y. m < y .1)) (sym (bookings-next s c cs)) (all-append (λ y. m < y .1) (bookingsAt s c) (stepBookings (stepped s c) cs)
     (step-numbers (λ n. m < n) s c (all-imp (λ n. s .floor .counters .last < n) (λ n. m < n) (bookedOf s c) (λ n h. omega arith) (K .above)))
-    (list-above (stepped s c) cs m (omega (arith, K .rises)) (K .well) (t .1))
+    (list-above (stepped s c) cs m (omega (arith, K .rises)) (K .well) (t .1)))
 
-rising : (s : State) (cs : List Step) → wellFormed (s .floor) ≡ true → All TypedStep cs → Pairs (λ x y. x .1 < y .1) (bookingsIn s cs)
-unfolding bookingsIn
-rising s [] w t = tt
-rising s (c ∷ cs) w t =
+pub rising : RisingPromise
+unfolding bookingsIn planCallsIn
+rising s w [] t = tt
+rising s w (c ∷ cs) t =
     let K = step-keeps s c w (t .0) in
-    pairs-append (λ x y. x .1 < y .1) (bookingsOf s c) (bookingsIn (stepped s c) cs) (step-pairs (λ x y. x .1 < y .1) s c) (rising (stepped s c) cs (K .well) (t .1))
-    (all-imp (λ x. x .1 ≤ stepped s c .floor .counters .last) (λ x. All (λ y. x .1 < y .1) (bookingsIn (stepped s c) cs)) (bookingsOf s c)
-    (λ x h. list-above (stepped s c) cs (x .1) h (K .well) (t .1)) (step-numbers (λ n. n ≤ stepped s c .floor .counters .last) s c (K .upto)))
-
-pub once : OncePromise
-once s cs = record { labels = labels s cs; kept = kept s cs; rising = rising s cs }
+    subst (Pairs (λ x y. x .1 < y .1)) (sym (bookings-next s c cs)) (pairs-append (λ x y. x .1 < y .1) (bookingsAt s c) (stepBookings (stepped s c) cs) (step-pairs (λ x y. x .1 < y .1) s c) (rising (stepped s c) (K .well) cs (t .1))
+    (all-imp (λ x. x .1 ≤ stepped s c .floor .counters .last) (λ x. All (λ y. x .1 < y .1) (stepBookings (stepped s c) cs)) (bookingsAt s c)
+    (λ x h. list-above (stepped s c) cs (x .1) h (K .well) (t .1)) (step-numbers (λ n. n ≤ stepped s c .floor .counters .last) s c (K .upto))))

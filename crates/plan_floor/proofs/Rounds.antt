@@ -1,5 +1,5 @@
 -- Where the reports handed in are those of rounds, each predecessor's number was reported by a round: `by-rounds`. The statement is specs/Promises.
-use mathlib.Core.Path.{_≡_, refl, subst}
+use mathlib.Core.Path.{_≡_, refl, sym, subst}
 use mathlib.Core.Bool.{Bool, true, false, cond}
 use mathlib.Core.List.{List, [], _∷_, _++_, map, List·Memᴰ, List·Memᴰ·tail}
 use Prim.Native.Nat.{ℕ, suc, _<_}
@@ -17,11 +17,13 @@ use Rattle.floor.specs.Memory.{view}
 use Rattle.floor.specs.Calls.{refusalOf, deliveryOf, delivered, noDelivery, reportOf, zeroReport, roundAnswer}
 use Rattle.floor.specs.Reports.{listed, listedAt}
 use Rattle.floor.specs.Demand3.{Call, book, anywhere, stop, repair, round, keep, forget, recall, outcome, reportedIn, reportedAll}
+use Rattle.plan.specs.declared.Plan.{Plan}
 use Rattle.plan.specs.Entries.{used}
 use Rattle.plan.specs.Plans.{releaseAnswer, numbersIn, reportAnswer}
-use Rattle.plan_floor.specs.Steps.{Step, call, offer, release, report, State, stepped, Event, booking, listing, eventsOf, eventsIn, BookedThenListed, here, later, predecessorsOf, reportOfCall, reportsOf, HandedFrom, FromRounds, callsIn, reportedOf, reportedBy}
+use Rattle.plan_floor.specs.Steps.{Event, booking, listing, eventsOf, eventsIn, BookedThenListed, here, later, predecessorsOf, Step, call, offer, release, report, State, stepped, stateAfter, planCallsIn, stepEvents, reportOfCall, reportsOf, HandedFrom, FromRounds, callsIn, reportedOf, reportedBy}
 use Rattle.plan_floor.specs.Promises.{RoundsPromise}
 use Rattle.plan_floor.proofs.History.{history}
+use Rattle.plan_floor.proofs.AsPlan.{eventsAt, as-plan-calls, events-next}
 use Rattle.plan_floor.proofs.AsCalls.{as-calls}
 
 -- ---- the numbers of a report, list by list
@@ -69,8 +71,8 @@ module _ (P : ℕ → Type 0) where
   map-told [] h = tt
   map-told (n ∷ l) h = (h .0, map-told l (h .1))
 
-  step-told : (s : State) (rs : List Report) (c : Step) → All Known rs → HandedFrom rs c → All Told (eventsOf s c)
-  unfolding eventsOf
+  step-told : (s : State) (rs : List Report) (c : Step) → All Known rs → HandedFrom rs c → All Told (eventsAt s c)
+  unfolding eventsAt eventsOf
   step-told s rs (call c) kn g = tt
   step-told s rs offer kn g = tt
   step-told s rs (release k) kn g = go (eqb (releaseAnswer (s .plan) (s .floor) k .refusal) 0)
@@ -84,14 +86,14 @@ module _ (P : ℕ → Type 0) where
       go true = map-told (numbersIn r) (all-mem Known g kn)
       go false = tt
 
-  list-told : (s : State) (rs : List Report) (cs : List Step) → All Known rs → ((k : ℕ) → k < 4 → All P (reportedBy s cs k)) → FromRounds s rs cs → All Told (eventsIn s cs)
-  unfolding eventsIn reportedBy
+  list-told : (s : State) (rs : List Report) (cs : List Step) → All Known rs → ((k : ℕ) → k < 4 → All P (reportedBy s cs k)) → FromRounds s rs cs → All Told (stepEvents s cs)
+  unfolding eventsIn planCallsIn reportedBy
   list-told s rs [] kn h F = tt
   list-told s rs (c ∷ cs) kn h F =
-      all-append Told (eventsOf s c) (eventsIn (stepped s c) cs) (step-told s rs c kn (F .0))
+      subst (All Told) (sym (events-next s c cs)) (all-append Told (eventsAt s c) (stepEvents (stepped s c) cs) (step-told s rs c kn (F .0))
       (list-told (stepped s c) (reportsOf s c ++ rs) cs
       (all-append Known (reportsOf s c) rs (step-known s c (λ k l. all-left P (reportedOf s c k) (reportedBy (stepped s c) cs k) (h k l))) kn)
-      (λ k l. all-right P (reportedOf s c k) (reportedBy (stepped s c) cs k) (h k l)) (F .1))
+      (λ k l. all-right P (reportedOf s c k) (reportedBy (stepped s c) cs k) (h k l)) (F .1)))
 
 reported-listed : {k n : ℕ} {l : List Event} → BookedThenListed k n l → List·Memᴰ (listing n) l
 reported-listed (here m) = List·Memᴰ·tail m
@@ -103,5 +105,5 @@ by-rounds s h cs F k e =
     let f = s .floor in
     let P : ℕ → Type 0 = λ n. List·Memᴰ n (cat 4 (reportedIn f (callsIn s cs))) in
     let told = list-told P s [] cs tt (λ j l. subst (All P) (as-calls s cs .same-reported j) (all-of P (reportedIn f (callsIn s cs) j) (λ n m. mem-cat 4 (reportedIn f (callsIn s cs)) j l m))) F in
-    all-imp (λ j. (n : ℕ) × BookedThenListed j n (eventsIn s cs)) (λ j. (n : ℕ) × BookedThenListed j n (eventsIn s cs) × P n) (predecessorsOf (used (s .plan)) k)
-    (λ j r. (r .0, r .1, all-mem (Told P) (reported-listed (r .1)) told)) (history s h cs k e)
+    all-imp (λ j. (n : ℕ) × BookedThenListed j n (stepEvents s cs)) (λ j. (n : ℕ) × BookedThenListed j n (stepEvents s cs) × P n) (predecessorsOf (used (s .plan)) k)
+    (λ j r. (r .0, r .1, all-mem (Told P) (reported-listed (r .1)) told)) (history (s .plan) h (planCallsIn s cs) (stateAfter s cs .floor) k (subst (λ (p : Plan). releaseAnswer p (stateAfter s cs .floor) k .refusal ≡ 0) (sym (as-plan-calls s cs)) e))

@@ -13,7 +13,7 @@ use Rattle.floor.proofs.AnywhereSamples.{small}
 use Rattle.plan.specs.Entries.{stageOf, predecessors, done, present, bookedNumbers, afterPredecessors, planSound, numbersUpto, entryFits, planFits, ready, readyLabel, released, reported}
 use Rattle.plan.specs.Plans.{offerTests, offered, offerAnswer, releaseTests, numberAfter, tileFor, releaseBooking, releaseAnswer, numbersIn, reportTests, reportAnswer}
 use Rattle.plan.proofs.Samples.{entry, plan, two, entries, delivery, report}
-use Rattle.plan_floor.specs.Steps.{Step, call, offer, release, report as handed, State, stepped, stateAfter, Event, booking, listing, eventsOf, eventsIn, bookingsOf, bookingsIn, reportOfCall, reportsOf, FromRounds, callsOf, callsIn, bookedOf, bookedBy, reportedOf, reportedBy}
+use Rattle.plan_floor.specs.Steps.{PlanCall, look, releaseOn, hand, planned, planAfter, Step, call, offer, release, report as handed, State, stepped, stateAfter, Event, booking, listing, eventsOf, eventsIn, bookingsOf, bookingsIn, planCallsOf, planCallsIn, stepEvents, stepBookings, reportOfCall, reportsOf, FromRounds, callsOf, callsIn, bookedOf, bookedBy, reportedOf, reportedBy}
 use Rattle.plan_floor.specs.Ending.{releaseOffered, afterCycles, refusalsIn, handedRounds, schedule}
 
 -- a booking by label and number, a listing by 0 and number
@@ -34,10 +34,15 @@ walking =
     let one = report (delivery 1 (1 ∷ []) ∷ []) in
     -- 2 must wait until 1 was booked and reported; 1 is not booked again; a report that comes too early marks nothing
     let cs : List Step = offer ∷ handed one ∷ release 2 ∷ release 1 ∷ release 1 ∷ release 2 ∷ handed one ∷ handed (report (delivery 5 [] ∷ [])) ∷ release 2 ∷ release 9 ∷ [] in
+    let apart : List PlanCall = releaseOn (s .floor) 1 ∷ look ∷ releaseOn (wide .floor) 2 ∷ hand one ∷ releaseOn (wide .floor) 2 ∷ [] in
     let first = releaseOffered wide in
     let ended = afterCycles wide (schedule 2 wide) in
-    (shown (eventsIn s cs), 0 ∷ 1 ∷ 1 ∷ 1 ∷ 0 ∷ 1 ∷ 2 ∷ 2 ∷ [])
-    ∷ (paired (bookingsIn s cs), 1 ∷ 1 ∷ 2 ∷ 2 ∷ [])
+    (shown (stepEvents s cs), 0 ∷ 1 ∷ 1 ∷ 1 ∷ 0 ∷ 1 ∷ 2 ∷ 2 ∷ [])
+    ∷ (paired (stepBookings s cs), 1 ∷ 1 ∷ 2 ∷ 2 ∷ [])
+    -- the plan alone is handed on: 2 is released on another floor than 1, where its number is 1 too; on the first it would be 2
+    ∷ (shown (eventsIn (s .plan) apart), 1 ∷ 1 ∷ 0 ∷ 1 ∷ 2 ∷ 1 ∷ [])
+    ∷ (paired (bookingsIn (s .plan) apart), 1 ∷ 1 ∷ 2 ∷ 1 ∷ [])
+    ∷ (entries (planAfter (s .plan) apart), entries (plan (entry 2 0 1 0 1 1 ∷ entry 1 0 0 0 2 1 ∷ [])))
     ∷ (length (callsIn s cs) ∷ bookedIn (s .floor) (callsIn s cs), 2 ∷ 1 ∷ 2 ∷ [])
     ∷ (bookedBy s cs, 1 ∷ 2 ∷ [])
     ∷ (entries (stateAfter s cs .plan), entries (plan (entry 2 0 1 0 1 2 ∷ entry 1 0 0 0 2 1 ∷ [])))
@@ -54,7 +59,7 @@ walking =
 walking-holds : holds walking ≡ true
 unfolding holds small entry plan two entries delivery report shown paired walking
     stageOf predecessors done present bookedNumbers afterPredecessors planSound numbersUpto entryFits planFits ready readyLabel released reported offerTests offered offerAnswer releaseTests numberAfter tileFor releaseBooking releaseAnswer numbersIn reportTests reportAnswer
-    outcome bookedIn stepped stateAfter eventsOf eventsIn bookingsOf bookingsIn callsOf callsIn bookedOf bookedBy listedAt reportedOf reportedBy afterCycles refusalsIn handedRounds schedule
+    outcome bookedIn stepped stateAfter planned planAfter planCallsOf planCallsIn eventsOf eventsIn bookingsOf bookingsIn callsOf callsIn bookedOf bookedBy listedAt reportedOf reportedBy afterCycles refusalsIn handedRounds schedule
 walking-holds = refl
 
 -- the reports of such cycles are those of their rounds; a report that no round gave is not

@@ -1,4 +1,4 @@
--- A sound plan is never refused by 30 for itself, and by 47 only if it was so at first: `stays-sound`; all waiting is sound: `waiting-sound`. The statements are specs/Promises.
+-- A sound plan is never refused by 30 for itself, and by 47 only if it was so at first: `stays-sound`; all waiting is sound: `waiting-sound`; whatever floors its releases were on: `plan-stays`. The statements are specs/Promises.
 use mathlib.Core.Path.{_≡_, refl, sym, ap, _∙_, subst}
 use mathlib.Core.Logic.{_≢_}
 use mathlib.Core.Bool.{Bool, true, false, cond, not, _&&_}
@@ -7,7 +7,7 @@ use Prim.Native.Nat.{ℕ, _≤_, _<_}
 use native.Mathlib.Omega.{arith}
 use lib.Dec.{leb, ltb, eqb}
 use borrow.Author.Tests.{eqb-true, le-leb, leb-true, le-ltb}
-use Rattle.laws.specs.Define.{allOf, refusal}
+use Rattle.laws.specs.Define.{allOf, pairsOf, refusal}
 use Rattle.laws.specs.Every.{All, Pairs}
 use Rattle.laws.proofs.Tests.{and-left, and-right, and-true, or-left, r-ne, r-le, r-lt, r-and, r-all, r-pairs}
 use Rattle.laws.proofs.Lists.{all-of, all-imp, all-true, true-all}
@@ -22,8 +22,8 @@ use Rattle.plan.specs.declared.Entry.{Entry}
 use Rattle.plan.specs.declared.Plan.{Plan}
 use Rattle.plan.specs.Entries.{waits, heldBy, used, predecessors, done, bookedNumbers, afterPredecessors, planSound, numbersUpto, entryFits, planFits, ready, readyLabel, changed, released, reported}
 use Rattle.plan.specs.Plans.{offerTests, offerAnswer, releaseTests, numberAfter, tileFor, releaseBooking, releaseAnswer, numbersIn, reportTests, reportAnswer}
-use Rattle.plan_floor.specs.Steps.{Step, call, offer, release, report, State, stepped, stateAfter, allWaiting, TypedStep, bookedOf}
-use Rattle.plan_floor.specs.Promises.{SoundPromise, WaitingPromise}
+use Rattle.plan_floor.specs.Steps.{PlanCall, look, releaseOn, hand, planned, planAfter, allWaiting, Step, call, offer, release, report, State, stepped, stateAfter, TypedStep, bookedOf}
+use Rattle.plan_floor.specs.Promises.{SoundPromise, WaitingPromise, PlanSoundPromise}
 use Rattle.plan.proofs.Stages.{used-changed, waiting-held, none-held}
 use Rattle.plan_floor.proofs.History.{accepted, all-ready}
 use Rattle.plan_floor.proofs.AsCalls.{StepKeeps, step-keeps}
@@ -209,10 +209,11 @@ module _ (p : Plan) (f : Floor) (k : ℕ) (S : planSound p ≡ true) (W : wellFo
       (rw (S, W, U, F) (refusal-not 47 ((not (readyLabel (used p) k), 48) ∷ []) (λ e. omega arith) (omega arith)))
       (booking-not f (tileFor (used p) k) (numberAfter f) 47 W (λ e. omega arith) (omega arith))
 
-  not-or : (b : Bool) → _≡_ {A = ℕ} (cond (not b) 47 0) (cond b 0 47)
-  not-or true = refl
-  not-or false = refl
+not-or : (b : Bool) → _≡_ {A = ℕ} (cond (not b) 47 0) (cond b 0 47)
+not-or true = refl
+not-or false = refl
 
+module _ (p : Plan) (S : planSound p ≡ true) where
   pub offers-by : offerAnswer p .refusal ≡ cond (planFits p) 0 47
   unfolding offerAnswer offerTests refusal
   offers-by = rw S (not-or (planFits p))
@@ -233,8 +234,73 @@ stays-sound s S U w cs t =
       upto = U′;
       same-fits = R .1;
       well = F .0;
-      offer-refusal = offers-by (now .plan) (now .floor) 0 S′ (F .0) U′ ∙ ap (λ (b : Bool). cond b 0 47) (R .1);
-      report-refusal = λ r l. reports-by (now .plan) (now .floor) 0 S′ (F .0) U′ r l ∙ ap (λ (b : Bool). cond b 0 47) (R .1);
+      offer-refusal = offers-by (now .plan) S′ ∙ ap (λ (b : Bool). cond b 0 47) (R .1);
+      report-refusal = λ r l. reports-by (now .plan) S′ r l ∙ ap (λ (b : Bool). cond b 0 47) (R .1);
       release-sound = λ k. never-30 (now .plan) (now .floor) k S′ (F .0) U′;
       release-fits = λ fits k. never-47 (now .plan) (now .floor) k S′ (F .0) U′ (R .1 ∙ fits);
+    }
+
+-- ---- whatever floors the releases were on
+release-sound : (p : Plan) (f : Floor) (k : ℕ) → planSound p ≡ true → (planSound (planned p (releaseOn f k)) ≡ true) × (planFits (planned p (releaseOn f k)) ≡ planFits p)
+unfolding planned stepped releaseAnswer
+release-sound p f k S = go (eqb (releaseAnswer p f k .refusal) 0) refl
+  where
+    s : State
+    s = record { plan = p; floor = f }
+
+    g : Floor
+    g = stepped s (release k) .floor
+
+    go : (b : Bool) → eqb (releaseAnswer p f k .refusal) 0 ≡ b → let q = cond b (changed p (released k (numberAfter f))) p in (planSound q ≡ true) × (planFits q ≡ planFits p)
+    go true e =
+        let A = accepted p f k (eqb-true _ 0 e) in
+        let R = step-fine s (release k) tt (A .well, sound-good (f .counters .last) p S (A .upto)) in
+        let q : stepped s (release k) .plan ≡ changed p (released k (numberAfter f)) = rw e in
+        (subst (λ (x : Plan). planSound x ≡ true) q (good-sound (g .counters .last) (stepped s (release k) .plan) (R .0 .1)), subst (λ (x : Plan). planFits x ≡ planFits p) q (R .1))
+    go false e = (S, refl)
+
+report-sound : (p : Plan) (r : Report) → planSound p ≡ true → (planSound (planned p (hand r)) ≡ true) × (planFits (planned p (hand r)) ≡ planFits p)
+unfolding planned reportAnswer planSound
+report-sound p r S = go (eqb (refusal (reportTests p r)) 0)
+  where
+    l : List ℕ
+    l = numbersIn r
+
+    Right : List Entry → Type 0
+    Right es = (allOf (afterPredecessors es) es && pairsOf (λ x y. not (eqb x y)) (bookedNumbers es)) ≡ true
+
+    there : Right (used p)
+    there = and-right (leb (p .count) 64) _ S
+
+    marked : Right (map (reported l) (used p))
+    marked =
+        let es = map (reported l) (used p) in
+        and-true
+        (true-all (afterPredecessors es) es (reported-ordered l (used p) (all-true (afterPredecessors (used p)) (used p) (and-left (allOf (afterPredecessors (used p)) (used p)) _ there))))
+        (r-pairs (λ x y. not (eqb x y)) (λ x y. x ≢ y) r-ne (bookedNumbers es) .1 (reported-differ l (used p) (r-pairs (λ x y. not (eqb x y)) (λ x y. x ≢ y) r-ne (bookedNumbers (used p)) .0 (and-right (allOf (afterPredecessors (used p)) (used p)) _ there))))
+
+    go : (b : Bool) → let q = cond b (changed p (reported l)) p in (planSound q ≡ true) × (planFits q ≡ planFits p)
+    go true = (and-true (and-left (leb (p .count) 64) _ S) (subst Right (sym (used-changed p (reported l))) marked), same-fits (reported l) (reported-plain l) p)
+    go false = (S, refl)
+
+call-sound : (p : Plan) (c : PlanCall) → planSound p ≡ true → (planSound (planned p c) ≡ true) × (planFits (planned p c) ≡ planFits p)
+unfolding planned
+call-sound p look S = (S, refl)
+call-sound p (releaseOn f k) S = release-sound p f k S
+call-sound p (hand r) S = report-sound p r S
+
+list-sound : (p : Plan) (cs : List PlanCall) → planSound p ≡ true → (planSound (planAfter p cs) ≡ true) × (planFits (planAfter p cs) ≡ planFits p)
+unfolding planAfter
+list-sound p [] S = (S, refl)
+list-sound p (c ∷ cs) S = let A = call-sound p c S in let B = list-sound (planned p c) cs (A .0) in (B .0, B .1 ∙ A .1)
+
+pub plan-stays : PlanSoundPromise
+plan-stays p S cs =
+    let R = list-sound p cs S in
+    let q = planAfter p cs in
+    record {
+      sound = R .0;
+      same-fits = R .1;
+      offer-refusal = offers-by q (R .0) ∙ ap (λ (b : Bool). cond b 0 47) (R .1);
+      report-refusal = λ r l. reports-by q (R .0) r l ∙ ap (λ (b : Bool). cond b 0 47) (R .1);
     }

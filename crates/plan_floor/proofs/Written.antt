@@ -10,7 +10,7 @@ use Rattle.plan.specs.declared.Entry.{Entry}
 use Rattle.plan.specs.declared.Plan.{Plan}
 use Rattle.plan.specs.Entries.{used, predecessors, changed, released, reported}
 use Rattle.plan.specs.Plans.{numberAfter, releaseAnswer, numbersIn, reportTests, reportAnswer}
-use Rattle.plan_floor.specs.Steps.{Step, call, offer, release, report, State, stepped, stateAfter, predecessorsOf}
+use Rattle.plan_floor.specs.Steps.{PlanCall, look, releaseOn, hand, planned, planAfter, predecessorsOf}
 use Rattle.plan_floor.specs.Promises.{asWritten, WrittenPromise}
 use Rattle.plan.proofs.Stages.{released-same, reported-same, used-changed}
 
@@ -37,27 +37,26 @@ reported-plain l = record {
   second = reported-same (λ e. e .second) l (λ e. refl);
 }
 
--- ---- what such changes leave of a plan, a list of calls leaves
+-- ---- what such changes leave of a plan, a list of its calls leaves
 module _ {A : Type 0} (get : Plan → A) (same : (p : Plan) (g : Entry → Entry) → Plain g → get (changed p g) ≡ get p) where
-  step-same : (s : State) (c : Step) → get (stepped s c .plan) ≡ get (s .plan)
-  unfolding stepped releaseAnswer reportAnswer
-  step-same s (call c) = refl
-  step-same s offer = refl
-  step-same s (release k) = go (eqb (releaseAnswer (s .plan) (s .floor) k .refusal) 0)
+  call-same : (p : Plan) (c : PlanCall) → get (planned p c) ≡ get p
+  unfolding planned releaseAnswer reportAnswer
+  call-same p look = refl
+  call-same p (releaseOn f k) = go (eqb (releaseAnswer p f k .refusal) 0)
     where
-      go : (b : Bool) → get (cond b (changed (s .plan) (released k (numberAfter (s .floor)))) (s .plan)) ≡ get (s .plan)
-      go true = same (s .plan) (released k (numberAfter (s .floor))) (released-plain k (numberAfter (s .floor)))
+      go : (b : Bool) → get (cond b (changed p (released k (numberAfter f))) p) ≡ get p
+      go true = same p (released k (numberAfter f)) (released-plain k (numberAfter f))
       go false = refl
-  step-same s (report r) = go (eqb (refusal (reportTests (s .plan) r)) 0)
+  call-same p (hand r) = go (eqb (refusal (reportTests p r)) 0)
     where
-      go : (b : Bool) → get (cond b (changed (s .plan) (reported (numbersIn r))) (s .plan)) ≡ get (s .plan)
-      go true = same (s .plan) (reported (numbersIn r)) (reported-plain (numbersIn r))
+      go : (b : Bool) → get (cond b (changed p (reported (numbersIn r))) p) ≡ get p
+      go true = same p (reported (numbersIn r)) (reported-plain (numbersIn r))
       go false = refl
 
-  pub list-same : (s : State) (cs : List Step) → get (stateAfter s cs .plan) ≡ get (s .plan)
-  unfolding stateAfter
-  list-same s [] = refl
-  list-same s (c ∷ cs) = list-same (stepped s c) cs ∙ step-same s c
+  pub list-same : (p : Plan) (cs : List PlanCall) → get (planAfter p cs) ≡ get p
+  unfolding planAfter
+  list-same p [] = refl
+  list-same p (c ∷ cs) = list-same (planned p c) cs ∙ call-same p c
 
 -- ---- the entries
 map-same : {A B : Type 0} (f : A → B) (g : A → A) → ((x : A) → f (g x) ≡ f x) → (l : List A) → map f (map g l) ≡ map f l
@@ -74,10 +73,10 @@ drop-changed (suc n) g [] = refl
 drop-changed (suc n) g (x ∷ l) = drop-changed n g l
 
 pub same-written : WrittenPromise
-same-written s cs = record {
-  same-count = list-same (λ p. p .count) (λ p g P. refl) s cs;
-  same-used = list-same (λ p. map asWritten (used p)) same-used s cs;
-  same-past = list-same (λ p. drop (p .count) (p .entries)) (λ p g P. drop-changed (p .count) g (p .entries)) s cs;
+same-written p cs = record {
+  same-count = list-same (λ p. p .count) (λ p g P. refl) p cs;
+  same-used = list-same (λ p. map asWritten (used p)) same-used p cs;
+  same-past = list-same (λ p. drop (p .count) (p .entries)) (λ p g P. drop-changed (p .count) g (p .entries)) p cs;
 }
 
 -- ---- the predecessors
@@ -91,5 +90,5 @@ module _ (g : Entry → Entry) (P : Plain g) where
   same-of k [] = refl
   same-of k (e ∷ es) = (λ i. cond (eqb (P .label e i) k) (same-predecessors e i) [] ++ same-of k es i)
 
-pub list-predecessors : (s : State) (cs : List Step) (k : ℕ) → predecessorsOf (used (stateAfter s cs .plan)) k ≡ predecessorsOf (used (s .plan)) k
-list-predecessors s cs k = list-same (λ p. predecessorsOf (used p) k) (λ p g P. ap (λ (es : List Entry). predecessorsOf es k) (used-changed p g) ∙ same-of g P k (used p)) s cs
+pub list-predecessors : (p : Plan) (cs : List PlanCall) (k : ℕ) → predecessorsOf (used (planAfter p cs)) k ≡ predecessorsOf (used p) k
+list-predecessors p cs k = list-same (λ p. predecessorsOf (used p) k) (λ p g P. ap (λ (es : List Entry). predecessorsOf es k) (used-changed p g) ∙ same-of g P k (used p)) p cs

@@ -17,7 +17,7 @@ use Rattle.plan.specs.declared.Entry.{Entry}
 use Rattle.plan.specs.declared.Plan.{Plan}
 use Rattle.plan.specs.Entries.{waits, wasDelivered, heldBy, used, planSound, numbersUpto, planFits, ready, readyLabel, released, reported}
 use Rattle.plan.specs.Plans.{offerAnswer, releaseAnswer, reportAnswer}
-use Rattle.plan_floor.specs.Steps.{Step, State, stateAfter, allWaiting, TypedStep, eventsIn, BookedThenListed, predecessorsOf, bookingsIn, FromRounds, callsIn, bookedBy, reportedBy}
+use Rattle.plan_floor.specs.Steps.{PlanCall, planAfter, allWaiting, eventsIn, BookedThenListed, predecessorsOf, bookingsIn, Step, State, stateAfter, planCallsIn, stepEvents, stepBookings, TypedStep, FromRounds, callsIn, bookedBy, reportedBy}
 use Rattle.plan_floor.specs.Ending.{EndsPromise, SchedulePromise}
 
 -- ---- an offer, of a plan that is not refused
@@ -68,7 +68,7 @@ pub record Refused (p : Plan) (f : Floor) : Type 0 where
 abbrev pub RefusedPromise : Type 0
 RefusedPromise = (p : Plan) (f : Floor) → Refused p f
 
--- ---- lists of calls. Each promise is about the state after a list and the call that comes next, so about every call of every list
+-- ---- lists of a plan's calls, each release on any floor. Each promise is about the plan after a list and the call that comes next, so about every call of every list
 -- from p to q only stages and numbers of used entries change
 pub record SameWritten (p q : Plan) : Type 0 where
   pub same-count : q .count ≡ p .count
@@ -76,19 +76,42 @@ pub record SameWritten (p q : Plan) : Type 0 where
   pub same-past : drop (q .count) (q .entries) ≡ drop (p .count) (p .entries)
 
 abbrev pub WrittenPromise : Type 0
-WrittenPromise = (s : State) (cs : List Step) → SameWritten (s .plan) (stateAfter s cs .plan)
+WrittenPromise = (p : Plan) (cs : List PlanCall) → SameWritten p (planAfter p cs)
 
--- "If all began waiting and each call gets the plan the last one gave, no planned canister is booked before its predecessors were reported.": whatever reports were handed in, each predecessor, by the plan at first, was booked under a number that a report listed which was accepted afterwards
+-- "If all began waiting and each call gets the plan the last one gave, no planned canister is booked before its predecessors were reported.": only the plan is handed on; whatever floors the releases were on and whatever reports were handed in, each predecessor, by the plan at first, was booked under a number that a report listed which was accepted afterwards
 abbrev pub HistoryPromise : Type 0
-HistoryPromise = (s : State) → allWaiting (s .plan) ≡ true → (cs : List Step) (k : ℕ) → releaseAnswer (stateAfter s cs .plan) (stateAfter s cs .floor) k .refusal ≡ 0
-    → All (λ j. (n : ℕ) × BookedThenListed j n (eventsIn s cs)) (predecessorsOf (used (s .plan)) k)
+HistoryPromise = (p : Plan) → allWaiting p ≡ true → (cs : List PlanCall) (f : Floor) (k : ℕ) → releaseAnswer (planAfter p cs) f k .refusal ≡ 0
+    → All (λ j. (n : ℕ) × BookedThenListed j n (eventsIn p cs)) (predecessorsOf (used p) k)
 
--- where each report is that of an earlier round of the list, the rounds reported that number; on a well-formed floor after its booking, since it is above every number booked before (`once`, `as-calls`)
+-- each label is booked at most once, under one number; the plan keeps the number, and the label never waits again
+pub record Once (p : Plan) (cs : List PlanCall) : Type 0 where
+  pub labels : Pairs (λ x y. x .0 ≢ y .0) (bookingsIn p cs)
+  pub kept : All (λ x. All (λ e. e .label ≡ x .0 → (e .number ≡ x .1) × (waits e ≡ false)) (used (planAfter p cs))) (bookingsIn p cs)
+
+abbrev pub OncePromise : Type 0
+OncePromise = (p : Plan) (cs : List PlanCall) → Once p cs
+
+-- a sound plan stays sound, whatever floors its releases were on: p the plan at first, q now; so it is never 30, and 47 only if it was so at first
+pub record PlanStays (p q : Plan) : Type 0 where
+  pub sound : planSound q ≡ true
+  pub same-fits : planFits q ≡ planFits p
+  pub offer-refusal : offerAnswer q .refusal ≡ cond (planFits p) 0 47
+  pub report-refusal : (r : Report) → All (λ d. d .count ≤ 4) (r .deliveries) → reportAnswer q r .refusal ≡ cond (planFits p) 0 47
+
+abbrev pub PlanSoundPromise : Type 0
+PlanSoundPromise = (p : Plan) → planSound p ≡ true → (cs : List PlanCall) → PlanStays p (planAfter p cs)
+
+-- ---- lists of calls on a plan and a floor
+-- its plan is the one after the plan's calls among them, of which the above holds
+abbrev pub PlanCallsPromise : Type 0
+PlanCallsPromise = (s : State) (cs : List Step) → planAfter (s .plan) (planCallsIn s cs) ≡ stateAfter s cs .plan
+
+-- where each report is that of an earlier round of the list, the rounds reported that number; on a well-formed floor after its booking, since it is above every number booked before (`rising`, `as-calls`)
 abbrev pub RoundsPromise : Type 0
 RoundsPromise = (s : State) → allWaiting (s .plan) ≡ true → (cs : List Step) → FromRounds s [] cs → (k : ℕ) → releaseAnswer (stateAfter s cs .plan) (stateAfter s cs .floor) k .refusal ≡ 0
-    → All (λ j. (n : ℕ) × BookedThenListed j n (eventsIn s cs) × List·Memᴰ n (reportedAll (s .floor) (callsIn s cs))) (predecessorsOf (used (s .plan)) k)
+    → All (λ j. (n : ℕ) × BookedThenListed j n (stepEvents s cs) × List·Memᴰ n (reportedAll (s .floor) (callsIn s cs))) (predecessorsOf (used (s .plan)) k)
 
--- a sound plan stays sound, a half-delivered one too: p the plan at first, s the state now
+-- with the floor handed on a release is not 30 either, of a half-delivered plan too: p the plan at first, s the state now
 pub record StaysSound (p : Plan) (s : State) : Type 0 where
   pub sound : planSound (s .plan) ≡ true
   pub upto : numbersUpto (s .floor .counters .last) (s .plan) ≡ true
@@ -117,14 +140,9 @@ pub record AsCalls (s : State) (cs : List Step) : Type 0 where
 abbrev pub CallsPromise : Type 0
 CallsPromise = (s : State) (cs : List Step) → AsCalls s cs
 
--- each label is booked at most once, under one number; the plan keeps the number, and the label never waits again. The numbers rise
-pub record Once (s : State) (cs : List Step) : Type 0 where
-  pub labels : Pairs (λ x y. x .0 ≢ y .0) (bookingsIn s cs)
-  pub kept : All (λ x. All (λ e. e .label ≡ x .0 → (e .number ≡ x .1) × (waits e ≡ false)) (used (stateAfter s cs .plan))) (bookingsIn s cs)
-  pub rising : wellFormed (s .floor) ≡ true → All TypedStep cs → Pairs (λ x y. x .1 < y .1) (bookingsIn s cs)
-
-abbrev pub OncePromise : Type 0
-OncePromise = (s : State) (cs : List Step) → Once s cs
+-- the labels' numbers rise
+abbrev pub RisingPromise : Type 0
+RisingPromise = (s : State) → wellFormed (s .floor) ≡ true → (cs : List Step) → All TypedStep cs → Pairs (λ x y. x .1 < y .1) (stepBookings s cs)
 
 -- the canister of a booked label, number n, is on the floor until a round reports it
 pub record OnFloorUntilReported (s : State) (cs : List Step) (n : ℕ) : Type 0 where
@@ -132,7 +150,7 @@ pub record OnFloorUntilReported (s : State) (cs : List Step) (n : ℕ) : Type 0 
   pub not-both : List·Memᴰ n (numbersOn (view (stateAfter s cs .floor))) → ¬ (List·Memᴰ n (reportedAll (s .floor) (callsIn s cs)))
 
 abbrev pub CanisterPromise : Type 0
-CanisterPromise = (s : State) → wellFormed (s .floor) ≡ true → (cs : List Step) → All TypedStep cs → All (λ x. OnFloorUntilReported s cs (x .1)) (bookingsIn s cs)
+CanisterPromise = (s : State) → wellFormed (s .floor) ≡ true → (cs : List Step) → All TypedStep cs → All (λ x. OnFloorUntilReported s cs (x .1)) (stepBookings s cs)
 
 pub record PlanPromises : Type 0 where
   pub offers : OfferPromise
@@ -141,11 +159,14 @@ pub record PlanPromises : Type 0 where
   pub refused : RefusedPromise
   pub same-written : WrittenPromise
   pub history : HistoryPromise
+  pub once : OncePromise
+  pub plan-stays : PlanSoundPromise
+  pub as-plan-calls : PlanCallsPromise
   pub by-rounds : RoundsPromise
   pub stays-sound : SoundPromise
   pub waiting-sound : WaitingPromise
   pub as-calls : CallsPromise
-  pub once : OncePromise
+  pub rising : RisingPromise
   pub canisters : CanisterPromise
   pub ends : EndsPromise
   pub scheduled : SchedulePromise

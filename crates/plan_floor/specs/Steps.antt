@@ -1,4 +1,4 @@
--- Document 02's [12]: lists of calls on a plan and a floor, each given the plan and the floor that the last one gave; what such a list books and reports, and the calls of demand 3 that it stands for.
+-- Document 02's [12]: lists of a plan's calls, each given the plan that the last one gave; lists of calls on a plan and a floor, each given both; what such a list books and reports, and the calls of demand 3 that it stands for.
 use mathlib.Core.Bool.{Bool, cond}
 use mathlib.Core.List.{List, [], _∷_, _++_, map, List·Memᴰ}
 use Prim.Native.Nat.{ℕ}
@@ -13,54 +13,40 @@ use Rattle.plan.specs.declared.Plan.{Plan}
 use Rattle.plan.specs.Entries.{waits, used, predecessors}
 use Rattle.plan.specs.Plans.{releaseTests, numberAfter, tileFor, releaseAnswer, numbersIn, reportAnswer}
 
--- a call of demand 3's lists on the floor; an offer; a release of a label; a report handed to the plan
-pub data Step : Type 0 where
-  call : Call → Step
-  offer : Step
-  release : ℕ → Step
-  report : Report → Step
+-- ---- a plan's calls alone: an offer; the release of a label on some floor, each release on its own; a report handed to the plan
+pub data PlanCall : Type 0 where
+  look : PlanCall
+  releaseOn : Floor → ℕ → PlanCall
+  hand : Report → PlanCall
 
-pub record State : Type 0 where
-  pub plan : Plan
-  pub floor : Floor
+-- "each call gets the plan the last one gave"; a refused one gives it back and stays in the list
+unfoldable pub planned : Plan → PlanCall → Plan
+planned p look = p
+planned p (releaseOn f k) = releaseAnswer p f k .plan
+planned p (hand r) = reportAnswer p r .plan
 
--- "each call gets the plan the last one gave", and the floor; a refused one gives both back and stays in the list
-unfoldable pub stepped : State → Step → State
-stepped s (call c) = record { plan = s .plan; floor = outcome (s .floor) c .floor }
-stepped s offer = s
-stepped s (release k) = let r = releaseAnswer (s .plan) (s .floor) k in record { plan = r .plan; floor = r .floor }
-stepped s (report r) = record { plan = reportAnswer (s .plan) r .plan; floor = s .floor }
-
-unfoldable pub stateAfter : State → List Step → State
-stateAfter s [] = s
-stateAfter s (c ∷ cs) = stateAfter (stepped s c) cs
+unfoldable pub planAfter : Plan → List PlanCall → Plan
+planAfter p [] = p
+planAfter p (c ∷ cs) = planAfter (planned p c) cs
 
 -- "all began waiting"
 unfoldable pub allWaiting : Plan → Bool
 allWaiting p = allOf waits (used p)
 
--- the widths of the floor's calls, as in demand 3
-abbrev pub TypedStep : Step → Type 0
-TypedStep (call c) = Typed c
-TypedStep offer = Unit {0}
-TypedStep (release k) = Unit {0}
-TypedStep (report r) = Unit {0}
-
--- ---- what happened: a label was booked under a number; a number was listed in a report that the plan accepted
+-- what happened: a label was booked under a number; a number was listed in a report that the plan accepted
 pub data Event : Type 0 where
   booking : ℕ → ℕ → Event
   listing : ℕ → Event
 
-unfoldable pub eventsOf : State → Step → List Event
-eventsOf s (call c) = []
-eventsOf s offer = []
-eventsOf s (release k) = let r = releaseAnswer (s .plan) (s .floor) k in cond (eqb (r .refusal) 0) (booking k (r .number) ∷ []) []
-eventsOf s (report r) = cond (eqb (reportAnswer (s .plan) r .refusal) 0) (map listing (numbersIn r)) []
+unfoldable pub eventsOf : Plan → PlanCall → List Event
+eventsOf p look = []
+eventsOf p (releaseOn f k) = let r = releaseAnswer p f k in cond (eqb (r .refusal) 0) (booking k (r .number) ∷ []) []
+eventsOf p (hand r) = cond (eqb (reportAnswer p r .refusal) 0) (map listing (numbersIn r)) []
 
 -- in their order
-unfoldable pub eventsIn : State → List Step → List Event
-eventsIn s [] = []
-eventsIn s (c ∷ cs) = eventsOf s c ++ eventsIn (stepped s c) cs
+unfoldable pub eventsIn : Plan → List PlanCall → List Event
+eventsIn p [] = []
+eventsIn p (c ∷ cs) = eventsOf p c ++ eventsIn (planned p c) cs
 
 -- label k was booked under n, and n was listed afterwards
 pub data BookedThenListed (k n : ℕ) : List Event → Type 0 where
@@ -73,15 +59,62 @@ predecessorsOf [] k = []
 predecessorsOf (e ∷ es) k = cond (eqb (e .label) k) (predecessors e) [] ++ predecessorsOf es k
 
 -- the labels that accepted releases booked, each with its number; the numbers of all bookings, those of the floor's own calls too, are `bookedBy`
-unfoldable pub bookingsOf : State → Step → List (ℕ × ℕ)
-bookingsOf s (call c) = []
-bookingsOf s offer = []
-bookingsOf s (release k) = let r = releaseAnswer (s .plan) (s .floor) k in cond (eqb (r .refusal) 0) ((k, r .number) ∷ []) []
-bookingsOf s (report r) = []
+unfoldable pub bookingsOf : Plan → PlanCall → List (ℕ × ℕ)
+bookingsOf p look = []
+bookingsOf p (releaseOn f k) = let r = releaseAnswer p f k in cond (eqb (r .refusal) 0) ((k, r .number) ∷ []) []
+bookingsOf p (hand r) = []
 
-unfoldable pub bookingsIn : State → List Step → List (ℕ × ℕ)
-bookingsIn s [] = []
-bookingsIn s (c ∷ cs) = bookingsOf s c ++ bookingsIn (stepped s c) cs
+unfoldable pub bookingsIn : Plan → List PlanCall → List (ℕ × ℕ)
+bookingsIn p [] = []
+bookingsIn p (c ∷ cs) = bookingsOf p c ++ bookingsIn (planned p c) cs
+
+-- ---- a plan and a floor
+-- a call of demand 3's lists on the floor; an offer; a release of a label; a report handed to the plan
+pub data Step : Type 0 where
+  call : Call → Step
+  offer : Step
+  release : ℕ → Step
+  report : Report → Step
+
+pub record State : Type 0 where
+  pub plan : Plan
+  pub floor : Floor
+
+-- each call gets the plan and the floor that the last one gave; a refused one gives both back and stays in the list
+unfoldable pub stepped : State → Step → State
+stepped s (call c) = record { plan = s .plan; floor = outcome (s .floor) c .floor }
+stepped s offer = s
+stepped s (release k) = let r = releaseAnswer (s .plan) (s .floor) k in record { plan = r .plan; floor = r .floor }
+stepped s (report r) = record { plan = reportAnswer (s .plan) r .plan; floor = s .floor }
+
+unfoldable pub stateAfter : State → List Step → State
+stateAfter s [] = s
+stateAfter s (c ∷ cs) = stateAfter (stepped s c) cs
+
+-- the plan's calls among them: each release is on the floor as it then is
+unfoldable pub planCallsOf : State → Step → List PlanCall
+planCallsOf s (call c) = []
+planCallsOf s offer = look ∷ []
+planCallsOf s (release k) = releaseOn (s .floor) k ∷ []
+planCallsOf s (report r) = hand r ∷ []
+
+unfoldable pub planCallsIn : State → List Step → List PlanCall
+planCallsIn s [] = []
+planCallsIn s (c ∷ cs) = planCallsOf s c ++ planCallsIn (stepped s c) cs
+
+-- what happened to the plan, and the labels booked
+abbrev pub stepEvents : State → List Step → List Event
+stepEvents s cs = eventsIn (s .plan) (planCallsIn s cs)
+
+abbrev pub stepBookings : State → List Step → List (ℕ × ℕ)
+stepBookings s cs = bookingsIn (s .plan) (planCallsIn s cs)
+
+-- the widths of the floor's calls, as in demand 3
+abbrev pub TypedStep : Step → Type 0
+TypedStep (call c) = Typed c
+TypedStep offer = Unit {0}
+TypedStep (release k) = Unit {0}
+TypedStep (report r) = Unit {0}
 
 -- ---- reports of rounds
 -- the report of a round; of one that was refused it is all zeros and lists nothing
