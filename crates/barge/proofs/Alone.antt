@@ -1,4 +1,4 @@
--- A call on a sound barge against the same call on the floor that it names, alone.
+-- A call on a sound barge against the same call on the floor that it names, alone: `as-alone`; a refused call on any barge: `refused`.
 use mathlib.Core.Path.{_≡_, refl, sym, _∙_, fun-ext}
 use mathlib.Core.Logic.{inl, inr, _⊎_, _≢_}
 use mathlib.Core.Bool.{Bool, true, false, cond, not, false≢true}
@@ -14,13 +14,13 @@ use Rattle.laws.proofs.Tests.{by-test}
 use Rattle.floor.specs.declared.Floor.{Floor}
 use Rattle.floor.specs.Memory.{view}
 use Rattle.floor.specs.Well.{wellFormed}
-use Rattle.floor.specs.Calls.{refusalOf, answer, bookTests, bookAnswer, stopTests, stopAnswer, repairTests, repairAnswer, roundAnswer}
+use Rattle.floor.specs.Calls.{refusalOf, answer, bookTests, bookAnswer, stopTests, stopAnswer, repairTests, repairAnswer, zeroReport, roundAnswer}
 use Rattle.floor.specs.Anywhere.{anywhereTests, anywhereAnswer}
 use Rattle.floor.specs.Demand3 as Lone
 use Rattle.barge.specs.declared.Barge.{Barge}
-use Rattle.barge.specs.Barges.{floorAt, aboard, bargeSound, bargeRefusal, allowed}
-use Rattle.barge.specs.Lists.{BargeCall, book, anywhere, stop, repair, round, named, lone, outcome, alone, books, AsAlone, Alone}
-use Rattle.barge.proofs.Answers.{extra, refusal-is, only-50, undone}
+use Rattle.barge.specs.Barges.{floorAt, aboard, bargeSound, bargeRefusal, allowed, bargeBookAnywhere, bargeRound}
+use Rattle.barge.specs.Lists.{BargeCall, book, anywhere, stop, repair, round, named, lone, outcome, alone, books, Told, told, toldAlone, toldZeros, AsAlone, Alone, Refused}
+use Rattle.barge.proofs.Answers.{extra, refusal-is, only-50, done, undone}
 use Rattle.barge.proofs.PerFloor.{Listed, listed}
 
 -- ---- on a lone floor every number is below 50
@@ -66,6 +66,31 @@ is-over b (stop k t) y l = absurd (false≢true y)
 is-over b (repair k t) y l = absurd (false≢true y)
 is-over b (round k) y l = absurd (false≢true y)
 
+-- ---- what is told
+told-accepted : (b : Barge) (c : BargeCall) → outcome b c .refusal ≡ 0 → told b c ≡ toldAlone (floorAt b (named c)) c
+unfolding outcome bargeBookAnywhere bargeRound
+told-accepted b (book k t c) h = refl
+told-accepted b (anywhere k t number) h = rw h
+told-accepted b (stop k t) h = refl
+told-accepted b (repair k t) h = refl
+told-accepted b (round k) h = rw h
+
+told-refused : (b : Barge) (c : BargeCall) → outcome b c .refusal ≢ 0 → told b c ≡ toldZeros c
+unfolding outcome bargeBookAnywhere bargeRound
+told-refused b (book k t c) h = refl
+told-refused b (anywhere k t number) h = rw (ne-eqb (outcome b (anywhere k t number) .refusal) 0 h)
+told-refused b (stop k t) h = refl
+told-refused b (repair k t) h = refl
+told-refused b (round k) h = rw (ne-eqb (outcome b (round k) .refusal) 0 h)
+
+lone-refused : (f : Floor) (c : BargeCall) → Lone.outcome f (lone c) .refusal ≢ 0 → toldAlone f c ≡ toldZeros c
+unfolding Lone.outcome anywhereAnswer roundAnswer answer
+lone-refused f (book k t c) h = refl
+lone-refused f (anywhere k t number) h = rw (ne-eqb (anywhereAnswer f t number .refusal) 0 h)
+lone-refused f (stop k t) h = refl
+lone-refused f (repair k t) h = refl
+lone-refused f (round k) h = rw (ne-eqb (roundAnswer f .refusal) 0 h)
+
 module _ (b : Barge) (s : bargeSound b ≡ true) (c : BargeCall) (on : named c < 4) where
   -- the number: the lone call's own, else the last test's
   by-own : alone b c .refusal ≢ 0 → outcome b c .refusal ≡ alone b c .refusal
@@ -94,6 +119,13 @@ module _ (b : Barge) (s : bargeSound b ≡ true) (c : BargeCall) (on : named c <
       go (yes z) = let q = over-is b c (sym (by-last z) ∙ e) in (q .0, z, q .1)
       go (no z) = absurd (omega (arith, lone-below (floorAt b (named c)) c, by-own z, e))
 
+  tells : outcome b c .refusal ≢ 50 → told b c ≡ toldAlone (floorAt b (named c)) c
+  tells n = go (ℕ-discrete (outcome b c .refusal) 0)
+    where
+      go : Dec (outcome b c .refusal ≡ 0) → told b c ≡ toldAlone (floorAt b (named c)) c
+      go (yes z) = told-accepted b c z
+      go (no z) = told-refused b c z ∙ sym (lone-refused (floorAt b (named c)) c (λ q. z (number n ∙ q)))
+
   here : eqb (named c) (named c) ≡ true
   here = eq-eqb (named c) (named c) refl
 
@@ -107,8 +139,27 @@ module _ (b : Barge) (s : bargeSound b ≡ true) (c : BargeCall) (on : named c <
     booked = λ n. rw here at (there n .booked);
     reported = λ n. fun-ext (λ k. rw here at (there n .reported k));
     over = (over, λ p. by-last (p .1) ∙ is-over b c (p .0) (p .2));
-    given-back = λ z. undone b c z .barge;
+    tells = tells;
+    barge = λ z. done b c z .barge;
   }
 
 pub as-alone : Alone
 as-alone b s c on = as-alone-here b s c on
+
+-- ---- refused, on any barge
+by-30 : (b : Barge) (c : BargeCall) → bargeSound b ≡ false → outcome b c .refusal ≡ 30
+unfolding bargeRefusal refusal
+by-30 b c s = refusal-is b c ∙ rw s
+
+by-49 : (b : Barge) (c : BargeCall) → bargeSound b ≡ true → 4 ≤ named c → outcome b c .refusal ≡ 49
+unfolding bargeRefusal refusal
+by-49 b c s l = refusal-is b c ∙ rw (s, le-leb 4 (named c) l)
+
+pub refused : Refused
+refused b c = record {
+  barge = λ z. undone b c z .barge;
+  tells = told-refused b c;
+  booked = λ z. undone b c z .booked;
+  unsound = by-30 b c;
+  no-floor = by-49 b c;
+}

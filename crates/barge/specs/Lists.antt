@@ -1,4 +1,4 @@
--- Lists of calls on a barge, and the joint total over them. The theorems are `as-alone` of proofs/Alone, `others` of proofs/Answers and `totals` of proofs/Totals.
+-- Lists of calls on a barge, and the joint total over them. The theorems are `as-alone` and `refused` of proofs/Alone, `others` of proofs/Answers and `totals` of proofs/Totals.
 use mathlib.Core.Path.{_≡_}
 use mathlib.Core.Logic.{_↔_, _≢_}
 use mathlib.Core.Bool.{Bool, true, false, cond}
@@ -9,11 +9,15 @@ use lib.ListN.{length}
 use Rattle.laws.specs.Define.{cat}
 use Rattle.laws.specs.Every.{All}
 use Rattle.floor.specs.declared.Canister.{Canister}
+use Rattle.floor.specs.declared.Floor.{Floor}
+use Rattle.floor.specs.declared.Report.{Report}
+use Rattle.floor.specs.Calls.{zeroReport, roundAnswer}
+use Rattle.floor.specs.Anywhere.{anywhereAnswer}
 use Rattle.floor.specs.Reports.{listedAt}
 use Rattle.floor.specs.Demand3.{Call}
 use Rattle.floor.specs.Demand3 as Lone
 use Rattle.barge.specs.declared.Barge.{Barge}
-use Rattle.barge.specs.Barges.{floorAt, aboard, bargeSound, bargeBook, bargeBookAnywhere, bargeStop, bargeRepair, bargeRound}
+use Rattle.barge.specs.Barges.{floorAt, withFloor, aboard, bargeSound, bargeBook, bargeBookAnywhere, bargeStop, bargeRepair, bargeRound}
 
 -- "Bookings of either sort, stops, repairs and rounds each name one floor": its number comes first
 pub data BargeCall : Type 0 where
@@ -84,18 +88,61 @@ books (stop k t) = false
 books (repair k t) = false
 books (round k) = false
 
--- calls "do there what they do on a lone one, but for 50"; 50 refuses a booking that nothing else refuses, where "the total is at or above the allowance"; refused, the barge comes back as it was
+-- what a call tells besides its number: a booking without a place its place, a round its report, whole: grants, reasons, missing millimetres, deliveries; the others nothing
+pub data Told : Type 0 where
+  nothing : Told
+  place : ℕ → ℕ → Told
+  report : Report → Told
+
+abbrev pub told : Barge → BargeCall → Told
+told b (book k t c) = nothing
+told b (anywhere k t number) = let r = bargeBookAnywhere b k t number in place (r .a) (r .b)
+told b (stop k t) = nothing
+told b (repair k t) = nothing
+told b (round k) = report (bargeRound b k .report)
+
+-- the same of the call on the floor f, alone
+abbrev pub toldAlone : Floor → BargeCall → Told
+toldAlone f (book k t c) = nothing
+toldAlone f (anywhere k t number) = let r = anywhereAnswer f t number in place (r .a) (r .b)
+toldAlone f (stop k t) = nothing
+toldAlone f (repair k t) = nothing
+toldAlone f (round k) = report (roundAnswer f .report)
+
+-- "a report of zeros"
+abbrev pub toldZeros : BargeCall → Told
+toldZeros (book k t c) = nothing
+toldZeros (anywhere k t number) = place 0 0
+toldZeros (stop k t) = nothing
+toldZeros (repair k t) = nothing
+toldZeros (round k) = report zeroReport
+
+-- calls "do there what they do on a lone one, but for 50"; 50 refuses a booking that nothing else refuses, where "the total is at or above the allowance"
 pub record AsAlone (b : Barge) (c : BargeCall) : Type 0 where
   pub refusal : outcome b c .refusal ≢ 50 → outcome b c .refusal ≡ alone b c .refusal
   pub floor : outcome b c .refusal ≢ 50 → floorAt (outcome b c .barge) (named c) ≡ alone b c .floor
   pub booked : outcome b c .refusal ≢ 50 → outcome b c .booked ≡ alone b c .booked
   pub reported : outcome b c .refusal ≢ 50 → outcome b c .reported ≡ alone b c .reported
   pub over : outcome b c .refusal ≡ 50 ↔ ((books c ≡ true) × (alone b c .refusal ≡ 0) × (b .allowance ≤ aboard b))
-  pub given-back : outcome b c .refusal ≢ 0 → outcome b c .barge ≡ b
+  pub tells : outcome b c .refusal ≢ 50 → told b c ≡ toldAlone (floorAt b (named c)) c
+  -- accepted, the barge has that floor, and all else as it was
+  pub barge : outcome b c .refusal ≡ 0 → outcome b c .barge ≡ withFloor b (named c) (alone b c .floor)
 
 -- on a sound barge, for a call that names one of its floors
 abbrev pub Alone : Type 0
 Alone = (b : Barge) → bargeSound b ≡ true → (c : BargeCall) → named c < 4 → AsAlone b c
+
+-- "A refusal gives its number, a report of zeros, the same floor": the barge as it was, on every barge, sound or not, whatever floor is named and whatever the number
+pub record GivenBack (b : Barge) (c : BargeCall) : Type 0 where
+  pub barge : outcome b c .refusal ≢ 0 → outcome b c .barge ≡ b
+  pub tells : outcome b c .refusal ≢ 0 → told b c ≡ toldZeros c
+  pub booked : outcome b c .refusal ≢ 0 → outcome b c .booked ≡ []
+  -- "the barge is 30"; "49, floor number not 0 to 3, after 30"
+  pub unsound : bargeSound b ≡ false → outcome b c .refusal ≡ 30
+  pub no-floor : bargeSound b ≡ true → 4 ≤ named c → outcome b c .refusal ≡ 49
+
+abbrev pub Refused : Type 0
+Refused = (b : Barge) (c : BargeCall) → GivenBack b c
 
 -- "leave the other three", on every barge, sound or not
 abbrev pub Others : Type 0
