@@ -18,6 +18,7 @@ use Rattle.floor.specs.Memory.{zeroFloor, view}
 use Rattle.floor.specs.Well.{wellFormed}
 use Rattle.floor.specs.Calls.{bookAnswer}
 use Rattle.floor.specs.Anywhere.{anywhereAnswer}
+use Rattle.floor.specs.Bookings.{listAnswer}
 use Rattle.floor.specs.Bound.{bound}
 use Rattle.floor.specs.Live.{LivePath, connected, connectedCount}
 use Rattle.floor.specs.Demand3.{Call, isRound}
@@ -46,6 +47,7 @@ idle f w Lone.round h = absurd (h (round-passes f w))
 idle f w (Lone.keep name) h = record { floor = call-refused f w (Lone.keep name) refl h; booked = refl; reported = refl }
 idle f w (Lone.forget name) h = record { floor = call-refused f w (Lone.forget name) refl h; booked = refl; reported = refl }
 idle f w (Lone.recall name) h = record { floor = call-refused f w (Lone.recall name) refl h; booked = refl; reported = refl }
+idle f w (Lone.list l) h = record { floor = call-refused f w (Lone.list l) refl h; booked = rw (ne-eqb (listAnswer f l .refusal) 0 h); reported = refl }
 
 -- ---- one call seen from floor j
 -- the lone calls that it stands for: itself, or none where it names another floor or 50 refuses it

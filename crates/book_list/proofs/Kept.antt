@@ -5,13 +5,13 @@ use Prim.Native.Nat.{ℕ, _<_}
 use native.Mathlib.Omega.{arith}
 use Rattle.laws.specs.Define.{refusal}
 use Rattle.floor.specs.declared.Canister.{Canister}
+use Rattle.floor.specs.declared.Booking.{Booking}
 use Rattle.floor.specs.declared.Floor.{Floor}
 use Rattle.floor.specs.Well.{wellFormed}
 use Rattle.floor.specs.Calls.{refusalOf, answer, bookAnswer}
+use Rattle.floor.specs.Bookings.{tooLong}
 use Rattle.floor.specs.Demand3.{book, Typed, outcome}
 use Rattle.floor.proofs.Lists.{call-keeps}
-use Rattle.book_list.specs.declared.Booking.{Booking}
-use Rattle.book_list.specs.Listing.{tooLong}
 use Rattle.book_list.specs.Parts.{entriesOf, entryOf, begunOf}
 
 pub book-malformed : (f : Floor) (t : ℕ) (c : Canister) → wellFormed f ≡ false → bookAnswer f t c ≡ record { refusal = 30; floor = f }

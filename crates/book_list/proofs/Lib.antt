@@ -2,5 +2,4 @@ pub mod Upto
 pub mod Kept
 pub mod Widths
 pub mod Singly
-pub mod Samples
 pub mod Loops

@@ -5,8 +5,8 @@ use mathlib.Core.List.{List}
 use Prim.Native.Nat.{ℕ, _≤_, _<_}
 use lib.ListN.{length}
 use Rattle.floor.specs.Well.{wellFormed}
+use Rattle.floor.specs.declared.Booking.{Booking}
 use Rattle.floor.specs.declared.Floor.{Floor}
-use Rattle.book_list.specs.declared.Booking.{Booking}
 use Rattle.book_list.proofs.Upto.{floorUpto, listUpto}
 
 pub record EntriesBooked (f : Floor) (list : List Booking) (entries : ℕ) (well : Bool) (now : Floor) (places : List Booking) (i : ℕ) : Type 0 where

@@ -2,25 +2,22 @@
 use mathlib.Core.Path.{_≡_, refl, sym, ap, _∙_, subst}
 use mathlib.Core.Logic.{_⊎_, inl, inr}
 use mathlib.Core.Bool.{Bool, true, false, cond}
-use mathlib.Core.List.{List, [], _∷_, _++_, map, append-assoc}
+use mathlib.Core.List.{List, [], _∷_, _++_, map}
 use Prim.Native.Nat.{ℕ, _≤_, _<_}
 use borrow.Author.Tests.{lt-ltb, le-ltb}
 use lib.ListN.{length, take, drop, length-take}
 use native.Mathlib.Nat.{le-trans, min-le-left}
-use Rattle.laws.proofs.Lists.{all-append}
+use Rattle.floor.specs.declared.Booking.{Booking}
 use Rattle.floor.specs.declared.Floor.{Floor}
 use Rattle.floor.specs.declared.Answer.{Answer}
 use Rattle.floor.specs.Well.{wellFormed}
-use Rattle.floor.specs.Demand3.{Call, book, Typed, outcome, floorAfter, bookedIn, reportedIn}
+use Rattle.floor.specs.Bookings.{answered, single, floorSingly, entriesSingly, tooLong, acceptedIn, listAnswer, listAfter}
+use Rattle.floor.specs.Demand3.{Call, book, outcome, floorAfter, bookedIn, reportedIn}
 use Rattle.floor.specs.Together.{answersIn}
-use Rattle.floor.specs.Chain.{bookedBy, Made, books}
-use Rattle.floor.proofs.Lists.{after-both, booked-both, reported-both}
-use Rattle.floor.proofs.Theorem.{demand3}
-use Rattle.book_list.specs.declared.Booking.{Booking}
+use Rattle.floor.specs.Chain.{bookedBy}
 use Rattle.book_list.specs.declared.Listed.{Listed}
-use Rattle.book_list.specs.Listing.{answered, single, floorSingly, entriesSingly, tooLong, listAnswer, listAfter}
 use Rattle.book_list.specs.Parts.{placesAnswer}
-use Rattle.book_list.specs.Singly.{callsOf, acceptedIn, Singly, Covered, ByValue, BookingLists}
+use Rattle.book_list.specs.Singly.{callsOf, Singly, ByValue, BookingLists}
 use Rattle.book_list.proofs.Kept.{book-malformed}
 
 -- ---- at most 64 entries: the call is its bookings made singly
@@ -101,25 +98,6 @@ list-empty : (f : Floor) → (listAnswer f [] ≡ record { refusal = 0; floor = 
 unfolding listAnswer listAfter floorSingly entriesSingly
 list-empty f = (refl, refl)
 
--- ---- among other calls
-list-covered : (f : Floor) (before : List Call) (l : List Booking) (after : List Call) → length l ≤ 64 → Covered f before l after
-list-covered f before l after h =
-    let here = floorAfter f before in
-    let S = list-singly here l h in
-    let e : floorAfter here (callsOf l) ≡ listAnswer here l .floor = sym (S .same-floor) in
-    let b : bookedIn here (callsOf l) ≡ acceptedIn (listAfter here l) = sym (S .same-booked) ∙ ap acceptedIn (S .is-after) in
-    record {
-      here = here;
-      is-here = refl;
-      next = listAnswer here l .floor;
-      is-next = refl;
-      same-floor = after-both f before (callsOf l ++ after) ∙ after-both here (callsOf l) after ∙ ap (λ (g : Floor). floorAfter g after) e;
-      same-booked = booked-both f before (callsOf l ++ after) ∙ ap (λ t. bookedIn f before ++ t) (booked-both here (callsOf l) after ∙ (λ i. b i ++ bookedIn (e i) after));
-      same-reported = λ k. reported-both f before (callsOf l ++ after) k
-          ∙ ap (λ t. reportedIn f before k ++ t) (reported-both here (callsOf l) after k ∙ (λ i. S .none-reported k i ++ reportedIn (e i) after k));
-      promises = λ w ts us vs. demand3 f w (before ++ (callsOf l ++ after)) (all-append Typed before (callsOf l ++ after) ts (all-append Typed (callsOf l) after us vs));
-    }
-
 -- ---- by value
 few-taken : (n : ℕ) (l : List Booking) → n ≤ 64 → tooLong (length (take n l)) ≡ false
 few-taken n l h = few (take n l) (subst (λ k. k ≤ 64) (sym (length-take n l)) (le-trans (min-le-left n (length l)) h))
@@ -138,22 +116,5 @@ booking-lists =
     record {
       every = λ f l. record { number = list-number f l; too-long = list-too-long f l; singly = list-singly f l; malformed = list-malformed f l };
       empty = list-empty;
-      covered = list-covered;
       by-value = list-by-value;
     }
-
--- ---- among real calls, each answered by its contract: a list call is the bookings that it made
-made-singly : (f g : Floor) (l : List Booking) (cs : List Call) (bs : List ℕ) (ns : ℕ → List ℕ) → Made (floorSingly f l) cs g bs ns → Made f (callsOf l ++ cs) g (acceptedIn (entriesSingly f l) ++ bs) ns
-unfolding floorSingly entriesSingly
-made-singly f g [] cs bs ns p = p
-made-singly f g (b ∷ l) cs bs ns p =
-    subst (λ (k : List ℕ). Made f (callsOf (b ∷ l) ++ cs) g k ns) (sym (append-assoc (bookedBy (b .canister) (single f b)) (acceptedIn (entriesSingly (single f b .floor) l)) bs))
-    (books (b .tile) (b .canister) (single f b) refl (made-singly (single f b .floor) g l cs bs ns p))
-
-pub made-list : (f g : Floor) (l : List Booking) (r : Answer) (after : List Booking) (cs : List Call) (bs : List ℕ) (ns : ℕ → List ℕ)
-    → length l ≤ 64 → r ≡ listAnswer f l → after ≡ listAfter f l → Made (r .floor) cs g bs ns → Made f (callsOf l ++ cs) g (acceptedIn after ++ bs) ns
-unfolding listAnswer listAfter
-made-list f g l r after cs bs ns h e a p =
-    let k : r .floor ≡ floorSingly f l = ap (λ (x : Answer). x .floor) e ∙ rw (few l h) in
-    let m : after ≡ entriesSingly f l = a ∙ rw (few l h) in
-    subst (λ (t : List Booking). Made f (callsOf l ++ cs) g (acceptedIn t ++ bs) ns) (sym m) (made-singly f g l cs bs ns (subst (λ (z : Floor). Made z cs g bs ns) k p))

@@ -6,11 +6,11 @@ use Prim.Native.Nat.{ℕ, zero, suc, _≤_, _<_}
 use native.Mathlib.Omega.{arith}
 use borrow.Author.Tests.{ltb-false}
 use lib.ListN.{length, getD, set, take, drop}
+use Rattle.floor.specs.declared.Booking.{Booking}
 use Rattle.floor.specs.declared.Floor.{Floor}
 use Rattle.floor.specs.declared.Answer.{Answer}
 use Rattle.floor.specs.Memory.{zeroCanister}
-use Rattle.book_list.specs.declared.Booking.{Booking}
-use Rattle.book_list.specs.Listing.{floorSingly, entriesSingly, tooLong, listAnswer, listAfter}
+use Rattle.floor.specs.Bookings.{floorSingly, entriesSingly, tooLong, listAnswer, listAfter}
 use Rattle.book_list.specs.Parts.{entryOf, entriesOf, answerOf}
 
 -- what is read where no entry is

@@ -3,12 +3,12 @@ use mathlib.Core.List.{List}
 use mir.Val.{Val}
 use denote.Laws.{Is}
 use denote.Struct.Laws as LL
+use Rattle.floor.specs.declared.Booking.{Booking}
 use Rattle.floor.specs.Demand3.{book, Typed}
 use Rattle.floor.proofs.Canister as K
 use Rattle.floor.proofs.Canister.Laws as K′
-use Rattle.book_list.specs.declared.Booking.{Booking}
-use Rattle.book_list.proofs.Booking as S
-use Rattle.book_list.proofs.Booking.Laws as S′
+use Rattle.floor.proofs.Booking as S
+use Rattle.floor.proofs.Booking.Laws as S′
 
 pub entry-typed : (y : Booking) (vs : List Val) → Is S.the-row y vs → Typed (book (y .tile) (y .canister))
 entry-typed y vs p =

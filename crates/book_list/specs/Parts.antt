@@ -3,14 +3,14 @@ use mathlib.Core.Bool.{false, cond}
 use mathlib.Core.List.{List, _++_}
 use Prim.Native.Nat.{ℕ}
 use lib.ListN.{take, drop}
+use Rattle.floor.specs.declared.Booking.{Booking}
 use Rattle.floor.specs.declared.Floor.{Floor}
 use Rattle.floor.specs.declared.Answer.{Answer}
 use Rattle.floor.specs.Well.{wellFormed}
-use Rattle.book_list.specs.declared.Booking.{Booking}
+use Rattle.floor.specs.Bookings.{answered, single, floorSingly, entriesSingly, tooLong}
 use Rattle.book_list.specs.declared.Begun.{Begun}
 use Rattle.book_list.specs.declared.Done.{Done}
 use Rattle.book_list.specs.declared.Listed.{Listed}
-use Rattle.book_list.specs.Listing.{answered, single, floorSingly, entriesSingly, tooLong}
 
 -- how many of n entries are booked: all of them, or none
 abbrev pub entriesOf : ℕ → ℕ

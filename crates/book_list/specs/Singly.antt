@@ -1,28 +1,21 @@
 -- A list of bookings in one call and the same bookings made singly: what is promised. The theorem is `booking-lists` of proofs/Singly.
 use mathlib.Core.Path.{_≡_}
 use mathlib.Core.Logic.{_⊎_}
-use mathlib.Core.Bool.{true, false, cond}
-use mathlib.Core.List.{List, [], _∷_, _++_, map}
+use mathlib.Core.Bool.{false}
+use mathlib.Core.List.{List, [], _++_, map}
 use Prim.Native.Nat.{ℕ, _≤_, _<_}
-use lib.Dec.{eqb}
 use lib.ListN.{length, take, drop}
-use Rattle.laws.specs.Every.{All}
+use Rattle.floor.specs.declared.Booking.{Booking}
 use Rattle.floor.specs.declared.Floor.{Floor}
 use Rattle.floor.specs.Well.{wellFormed}
-use Rattle.floor.specs.Demand3.{Call, book, Typed, floorAfter, bookedIn, reportedIn, Promises}
+use Rattle.floor.specs.Bookings.{answered, acceptedIn, listAnswer, listAfter}
+use Rattle.floor.specs.Demand3.{Call, book, floorAfter, bookedIn, reportedIn}
 use Rattle.floor.specs.Together.{answersIn}
-use Rattle.book_list.specs.declared.Booking.{Booking}
-use Rattle.book_list.specs.Listing.{answered, listAnswer, listAfter}
 use Rattle.book_list.specs.Parts.{placesAnswer}
 
 -- the entries as single bookings, calls of demand 3
 abbrev pub callsOf : List Booking → List Call
 callsOf l = map (λ b. book (b .tile) (b .canister)) l
-
--- the numbers of the entries that were accepted, by the answers written in them
-abbrev pub acceptedIn : List Booking → List ℕ
-acceptedIn [] = []
-acceptedIn (b ∷ l) = cond (eqb (b .answer) 0) (b .canister .number ∷ []) [] ++ acceptedIn l
 
 -- f is any floor, well formed or not; l has at most 64 entries
 pub record Singly (f : Floor) (l : List Booking) : Type 0 where
@@ -38,17 +31,6 @@ pub record Singly (f : Floor) (l : List Booking) : Type 0 where
   pub same-booked : acceptedIn after ≡ bookedIn f (callsOf l)
   pub none-reported : (k : ℕ) → reportedIn f (callsOf l) k ≡ []
 
--- in a list of calls from f: the list call there is its bookings there, so that demand 3 covers it
-pub record Covered (f : Floor) (before : List Call) (l : List Booking) (after : List Call) : Type 0 where
-  pub here : Floor
-  pub is-here : here ≡ floorAfter f before
-  pub next : Floor
-  pub is-next : next ≡ listAnswer here l .floor
-  pub same-floor : floorAfter f (before ++ (callsOf l ++ after)) ≡ floorAfter next after
-  pub same-booked : bookedIn f (before ++ (callsOf l ++ after)) ≡ bookedIn f before ++ (acceptedIn (listAfter here l) ++ bookedIn next after)
-  pub same-reported : (k : ℕ) → reportedIn f (before ++ (callsOf l ++ after)) k ≡ reportedIn f before k ++ reportedIn next after k
-  pub promises : wellFormed f ≡ true → All Typed before → All Typed (callsOf l) → All Typed after → Promises f (before ++ (callsOf l ++ after))
-
 pub record ListPromises (f : Floor) (l : List Booking) : Type 0 where
   -- "the call itself is refused by 42 only"
   pub number : (listAnswer f l .refusal ≡ 0) ⊎ (listAnswer f l .refusal ≡ 42)
@@ -63,9 +45,8 @@ pub record ByValue (f : Floor) (l : List Booking) (n : ℕ) : Type 0 where
   pub as-list : n ≤ 64 → placesAnswer f l n ≡ record { floor = listAnswer f (take n l) .floor; list = listAfter f (take n l) ++ drop n l; refusal = listAnswer f (take n l) .refusal }
   pub too-long : 64 < n → placesAnswer f l n ≡ record { floor = f; list = l; refusal = 42 }
 
--- for every floor and list; "An empty list changes nothing."; in every list of calls
+-- for every floor and list; "An empty list changes nothing." That list calls stand in the lists of demand 3 is Demand3 itself
 pub record BookingLists : Type 0 where
   pub every : (f : Floor) (l : List Booking) → ListPromises f l
   pub empty : (f : Floor) → (listAnswer f [] ≡ record { refusal = 0; floor = f }) × (listAfter f [] ≡ [])
-  pub covered : (f : Floor) (before : List Call) (l : List Booking) (after : List Call) → length l ≤ 64 → Covered f before l after
   pub by-value : (f : Floor) (l : List Booking) (n : ℕ) → ByValue f l n

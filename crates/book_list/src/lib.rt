@@ -2,23 +2,14 @@
 // of them.
 ghost use mathlib.Core.Path.{_≡_};
 ghost use Rattle.floor.specs.Well.{wellFormed};
-ghost use Rattle.book_list.specs.Listing.{listAnswer, listAfter};
+ghost use Rattle.floor.specs.Bookings.{listAnswer, listAfter};
 ghost use Rattle.book_list.specs.Parts.{begunOf, entryOf, answerOf, placesAnswer};
 use book_call::book_checked;
 use check_floor::well_formed;
 use floor::Answer;
-use floor::Canister;
+use floor::Booking;
 use floor::Floor;
 use floor::refusals;
-
-// An entry of a list: a tile, a canister with its place, and the number that the booking is refused by, 0 where it is
-// accepted.
-#[repr(C)]
-pub struct Booking {
-    pub tile: u32,
-    pub canister: Canister,
-    pub answer: u8,
-}
 
 // The most entries of a list.
 const LONGEST_LIST: usize = 64;

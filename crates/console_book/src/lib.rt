@@ -6,9 +6,9 @@ ghost use Rattle.floor.specs.Anywhere.{anywhereAnswer};
 ghost use Rattle.console_list.specs.Entries.{noEntries};
 ghost use Rattle.console_session.specs.Sessions.{withEntries};
 ghost use Rattle.console_book.specs.Typed.{canisterTyped, afterPlaced, afterBooked, bookTyped, sent, lineTyped};
-use book_list::Booking;
 use console_parse::Numbers;
 use console_session::Session;
+use floor::Booking;
 use floor::Canister;
 
 // The canister that four numbers name after its tile.

@@ -3,8 +3,8 @@ use mathlib.Core.Bool.{Bool, cond}
 use Prim.Native.Nat.{_+_}
 use lib.Dec.{ltb}
 use lib.ListN.{set, replicate}
+use Rattle.floor.specs.declared.Booking.{Booking}
 use Rattle.floor.specs.Memory.{zeroCanister}
-use Rattle.book_list.specs.declared.Booking.{Booking}
 use Rattle.console_list.specs.declared.Entries.{Entries}
 
 -- b after the entries of e: 64 are kept; the count goes on to 65, which the library refuses by 42

@@ -1,7 +1,7 @@
 // A list of bookings as it is typed: its entries so far, and their answers told.
 ghost use mathlib.Core.Path.{_≡_};
 ghost use Rattle.console_list.specs.Entries.{withEntry, noEntries};
-use book_list::Booking;
+use floor::Booking;
 use floor::Canister;
 
 // The first 64 entries typed, how many were typed (65: more than 64), and whether a list is begun.

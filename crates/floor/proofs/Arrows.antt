@@ -22,7 +22,7 @@ use Rattle.floor.specs.Well.{wellFormed}
 use Rattle.floor.specs.Route.{route}
 use Rattle.floor.specs.Move.{insert}
 use Rattle.floor.specs.Calls.{bookTests, booked, afterRound}
-use Rattle.floor.specs.Demand3.{Call, book, anywhere, stop, repair, round, keep, forget, recall, Typed, outcome, floorAfter, changesRunning, isRound, roundsIn}
+use Rattle.floor.specs.Demand3.{Call, book, anywhere, stop, repair, round, keep, forget, recall, list, Typed, outcome, floorAfter, changesRunning, isRound, roundsIn}
 use Rattle.floor.specs.Together.{Books, placed, unplaced}
 use Rattle.floor.specs.Arrows.{beyond, FacesNearest, Chooses, Unpressed, Steady, Resting, Arrows, Settling, ArrowRule}
 use Rattle.floor.proofs.Sound.{Sound}
@@ -34,7 +34,7 @@ use Rattle.floor.proofs.Fields.{round-settings, round-runs, round-dista
 use Rattle.floor.proofs.Passing.{arrow-at}
 use Rattle.floor.proofs.Progress.{same-distance}
 use Rattle.floor.proofs.Clearing.{right-round}
-use Rattle.floor.proofs.Lists.{view-round, call-keeps, call-refused, Relaid, relaid-keep, relaid-forget, relaid-recall, list-keeps}
+use Rattle.floor.proofs.Lists.{view-round, through-list, call-keeps, call-refused, Relaid, relaid-keep, relaid-forget, relaid-recall, list-keeps}
 use Rattle.floor.proofs.Forms.{by-form, new-view, canisterOf, booking-accepts, bookForm, book-answers}
 
 -- n has the settings, running tiles and distances of m, and the arrows a
@@ -78,21 +78,20 @@ module _ (I : ℕ → Model → Type 0) (alike : (n : ℕ) (m o : Model) → Ali
   relaid n g w c R i = no-round n (view (outcome g c .floor)) (subst (I n) (sym (R .1)) (alike n (view g) (withLayouts (view g) (R .0)) (record { settings = refl; runs = refl; distance = refl; next = refl }) i))
 
   -- a booking of either sort
-  books : (n : ℕ) (g : Floor) (w : wellFormed g ≡ true) (u : ℕ) {c : Call} (p : Books u c) → Typed c → I n (view g) → I (n + 0) (view (outcome g c .floor))
+  books : (n : ℕ) (g : Floor) (w : wellFormed g ≡ true) (u : ℕ) {c : Call} (p : Books u c) → Typed c → I n (view g) → I n (view (outcome g c .floor))
   unfolding bookTests
   books n g w u {c} p h i =
       let F = bookForm p h in
       let b = canisterOf p (view g) in
-      no-round n (view (outcome g c .floor))
-      (subst (λ (x : Floor). I n (view x)) (sym (book-answers p h .floor g))
+      subst (λ (x : Floor). I n (view x)) (sym (book-answers p h .floor g))
       (by-form F g w (λ c. I n (view (cond c (pack (booked (view g) u b)) g)))
       (λ A. subst (I n) (sym (new-view F g w A)) (alike n (view g) (booked (view g) u b) (booked-alike (view g) (well-sound g w) u b (leb-false (total (view g .settings)) u (booking-accepts p (view g) A .0))) i))
-      i))
+      i)
 
   step : (n : ℕ) (g : Floor) (w : wellFormed g ≡ true) (c : Call) → Typed c → changesRunning g c ≡ false → I n (view g) → I (n + cond (isRound c) 1 0) (view (outcome g c .floor))
   unfolding changesRunning
-  step n g w (book u b) h q i = books n g w u (placed b) h i
-  step n g w (anywhere u number) h q i = books n g w u (unplaced number) h i
+  step n g w (book u b) h q i = no-round n (view (outcome g (book u b) .floor)) (books n g w u (placed b) h i)
+  step n g w (anywhere u number) h q i = no-round n (view (outcome g (anywhere u number) .floor)) (books n g w u (unplaced number) h i)
   step n g w (stop u) h q i = refused n g w (stop u) refl (eqb-false (outcome g (stop u) .refusal) 0 q) i
   step n g w (repair u) h q i = refused n g w (repair u) refl (eqb-false (outcome g (repair u) .refusal) 0 q) i
   step n g w round h q i =
@@ -101,6 +100,7 @@ module _ (I : ℕ → Model → Type 0) (alike : (n : ℕ) (m o : Model) → Ali
   step n g w (keep name) h q i = relaid n g w (keep name) (relaid-keep g w name) i
   step n g w (forget name) h q i = relaid n g w (forget name) (relaid-forget g w name) i
   step n g w (recall name) h q i = relaid n g w (recall name) (relaid-recall g w name q) i
+  step n g w (list l) h q i = no-round n (view (outcome g (list l) .floor)) (through-list (λ x. I n (view x)) (λ x k u b j p. books n x k u (placed b) j p) g w l h i)
 
   through : (n : ℕ) (g : Floor) → wellFormed g ≡ true → (cs : List Call) → All Typed cs → Unpressed g cs → I n (view g) → I (n + roundsIn cs) (view (floorAfter g cs))
   unfolding floorAfter
@@ -178,10 +178,10 @@ rests-new m S steady = record {
 }
 
 resting : (f : Floor) → wellFormed f ≡ true → (m : Model) → Rests m (view f) → Resting f
-resting f w m R = record { faces = λ cs h q t z. rests-face (list cs h q) t z; stays = λ cs h q t. ap (λ (a : ℕ → ℕ). a t) (list cs h q .shows .next ∙ sym (R .shows .next)) }
+resting f w m R = record { faces = λ cs h q t z. rests-face (along cs h q) t z; stays = λ cs h q t. ap (λ (a : ℕ → ℕ). a t) (along cs h q .shows .next ∙ sym (R .shows .next)) }
   where
-    list : (cs : List Call) → All Typed cs → Unpressed f cs → Rests m (view (floorAfter f cs))
-    list cs h q = through (λ _ n. Rests m n) (λ _ n o A Q. rests-alike Q o A) (λ _ n T Q. rests-round Q T) 0 f w cs h q R
+    along : (cs : List Call) → All Typed cs → Unpressed f cs → Rests m (view (floorAfter f cs))
+    along cs h q = through (λ _ n. Rests m n) (λ _ n o A Q. rests-alike Q o A) (λ _ n T Q. rests-round Q T) 0 f w cs h q R
 
 -- ---- how long it takes: after n rounds distances up to n are right; after C rounds arrows rest
 record Near (n : ℕ) (m : Model) : Type 0 where

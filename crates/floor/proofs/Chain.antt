@@ -6,15 +6,17 @@ use Prim.Native.Nat.{ℕ}
 use lib.Dec.{eqb}
 use Rattle.laws.specs.Define.{bit}
 use Rattle.floor.specs.declared.Canister.{Canister}
+use Rattle.floor.specs.declared.Booking.{Booking}
 use Rattle.floor.specs.declared.Floor.{Floor}
 use Rattle.floor.specs.declared.Answer.{Answer}
 use Rattle.floor.specs.declared.Placed.{Placed}
 use Rattle.floor.specs.declared.Rounded.{Rounded}
 use Rattle.floor.specs.Calls.{bookAnswer, stopAnswer, repairAnswer, keepAnswer, forgetAnswer, recallAnswer, roundAnswer}
 use Rattle.floor.specs.Anywhere.{anywhereAnswer}
+use Rattle.floor.specs.Bookings.{acceptedIn, listAnswer, listAfter}
 use Rattle.floor.specs.Reports.{listedAt}
-use Rattle.floor.specs.Demand3.{Call, book, anywhere, stop, repair, round, keep, forget, recall, outcome, floorAfter, bookedIn, reportedIn, recallSet, recallMakes, runsBy, latest}
-use Rattle.floor.specs.Chain.{bookedBy, placedBy, joined, Made, none, books, places, stops, repairs, rounds, keeps, forgets, recalls, runsMade, RealCalls}
+use Rattle.floor.specs.Demand3.{Call, book, anywhere, stop, repair, round, keep, forget, recall, list, outcome, floorAfter, bookedIn, reportedIn, recallSet, recallMakes, runsBy, latest}
+use Rattle.floor.specs.Chain.{bookedBy, placedBy, listedBy, joined, Made, none, books, places, stops, repairs, rounds, keeps, forgets, recalls, lists, runsMade, RealCalls}
 
 pub made-floor : {f g : Floor} {cs : List Call} {bs : List ℕ} {ns : ℕ → List ℕ} → Made f cs g bs ns → g ≡ floorAfter f cs
 unfolding floorAfter outcome
@@ -27,6 +29,7 @@ made-floor (rounds {cs = cs} r e p) = made-floor p ∙ ap (λ (x : Rounded). flo
 made-floor (keeps {cs = cs} name r e p) = made-floor p ∙ ap (λ (x : Answer). floorAfter (x .floor) cs) e
 made-floor (forgets {cs = cs} name r e p) = made-floor p ∙ ap (λ (x : Answer). floorAfter (x .floor) cs) e
 made-floor (recalls {cs = cs} name r e p) = made-floor p ∙ ap (λ (x : Answer). floorAfter (x .floor) cs) e
+made-floor (lists {cs = cs} l r after e a p) = made-floor p ∙ ap (λ (x : Answer). floorAfter (x .floor) cs) e
 
 pub made-booked : {f g : Floor} {cs : List Call} {bs : List ℕ} {ns : ℕ → List ℕ} → Made f cs g bs ns → bs ≡ bookedIn f cs
 unfolding bookedIn outcome
@@ -39,6 +42,7 @@ made-booked (rounds {cs = cs} r e p) = made-booked p ∙ ap (λ (x : Rounded). b
 made-booked (keeps {cs = cs} name r e p) = made-booked p ∙ ap (λ (x : Answer). bookedIn (x .floor) cs) e
 made-booked (forgets {cs = cs} name r e p) = made-booked p ∙ ap (λ (x : Answer). bookedIn (x .floor) cs) e
 made-booked (recalls {cs = cs} name r e p) = made-booked p ∙ ap (λ (x : Answer). bookedIn (x .floor) cs) e
+made-booked (lists {cs = cs} l r after e a p) = ap (λ k. listedBy r after ++ k) (made-booked p) ∙ (λ i. listedBy (e i) (a i) ++ bookedIn (e i .floor) cs)
 
 pub made-reported : {f g : Floor} {cs : List Call} {bs : List ℕ} {ns : ℕ → List ℕ} → Made f cs g bs ns → ns ≡ reportedIn f cs
 unfolding reportedIn outcome
@@ -51,6 +55,7 @@ made-reported (rounds {cs = cs} r e p) = ap (joined r) (made-reported p) ∙ ap 
 made-reported (keeps {cs = cs} name r e p) = made-reported p ∙ ap (λ (x : Answer). reportedIn (x .floor) cs) e
 made-reported (forgets {cs = cs} name r e p) = made-reported p ∙ ap (λ (x : Answer). reportedIn (x .floor) cs) e
 made-reported (recalls {cs = cs} name r e p) = made-reported p ∙ ap (λ (x : Answer). reportedIn (x .floor) cs) e
+made-reported (lists {cs = cs} l r after e a p) = made-reported p ∙ ap (λ (x : Answer). reportedIn (x .floor) cs) e
 
 pub made-runs : {f g : Floor} {cs : List Call} {bs : List ℕ} {ns : ℕ → List ℕ} (m : Made f cs g bs ns) (t : ℕ) (b : Bool) → runsMade m t b ≡ latest f cs t b
 unfolding runsMade latest runsBy outcome
@@ -65,6 +70,7 @@ made-runs (forgets {cs = cs} name r e p) t b = made-runs p t b ∙ ap (λ (x : A
 made-runs (recalls {f = f} {cs = cs} name r e p) t b =
     made-runs p t (cond (eqb (r .refusal) 0 && recallMakes f name t) (bit (recallSet f name) t) b)
     ∙ ap (λ (x : Answer). latest (x .floor) cs t (cond (eqb (x .refusal) 0 && recallMakes f name t) (bit (recallSet f name) t) b)) e
+made-runs (lists {cs = cs} l r after e a p) t b = made-runs p t b ∙ ap (λ (x : Answer). latest (x .floor) cs t b) e
 
 -- every list of calls can be made: no sort of call is left out of `Made`
 pub every-list : (f : Floor) (cs : List Call) → Made f cs (floorAfter f cs) (bookedIn f cs) (reportedIn f cs)
@@ -78,6 +84,7 @@ every-list f (round ∷ cs) = let r = roundAnswer f in rounds r refl (every-list
 every-list f (keep name ∷ cs) = let r = keepAnswer f name in keeps name r refl (every-list (r .floor) cs)
 every-list f (forget name ∷ cs) = let r = forgetAnswer f name in forgets name r refl (every-list (r .floor) cs)
 every-list f (recall name ∷ cs) = let r = recallAnswer f name in recalls name r refl (every-list (r .floor) cs)
+every-list f (list l ∷ cs) = let r = listAnswer f l in lists l r (listAfter f l) refl refl (every-list (r .floor) cs)
 
 pub real-calls : RealCalls
 real-calls = record { chained = λ m. record { floor = made-floor m; booked = made-booked m; reported = made-reported m; runs = made-runs m }; every = every-list }

@@ -26,7 +26,7 @@ use Rattle.floor.specs.Well.{wellFormed}
 use Rattle.floor.specs.Route.{route}
 use Rattle.floor.specs.Signal.{Signal, missing, signalBy, grantOf}
 use Rattle.floor.specs.Calls.{stopped, repaired, stopTests, heldTests, recalled, afterRound, reportOf, roundAnswer}
-use Rattle.floor.specs.Demand3.{Call, book, anywhere, stop, repair, round, forget, recall, Typed, recallSet, isRound, roundsIn, outcome, floorAfter}
+use Rattle.floor.specs.Demand3.{Call, book, anywhere, stop, repair, round, forget, recall, list, Typed, recallSet, isRound, roundsIn, outcome, floorAfter}
 use Rattle.floor.specs.Fairness.{wants, Waiting, granted, grantsIn, Fair, grantCount, turnOf, NobodyWaits, Fairness}
 use Rattle.floor.specs.Together.{stops, repairs, placed, unplaced}
 use Rattle.floor.proofs.Sound.{Sound}
@@ -38,7 +38,7 @@ use Rattle.floor.proofs.Grants.{chosen-wants, chosen-some, grant-chosen
 use Rattle.floor.proofs.Fields.{round-token}
 use Rattle.floor.proofs.Passing.{Wanting, wants-none, wants-side, wants-told, signal-is, granting, arrow-at, back}
 use Rattle.floor.proofs.Stages.{recall-out}
-use Rattle.floor.proofs.Lists.{round-accepted, view-round, call-keeps}
+use Rattle.floor.proofs.Lists.{round-accepted, view-round, through-list, call-keeps}
 use Rattle.floor.proofs.Forms.{accepted, went, press-pos, pressForm, press-answers, held-pos, recallForm, recall-answers}
 use Rattle.floor.proofs.Touching.{book-tile, press-tile, keep-tile, forget-tile, recall-tile}
 use Rattle.floor.proofs.Tokens.{Nearer, first-grant, next-grant}
@@ -141,6 +141,7 @@ module _ (t k j : ℕ) (z : j ≢ 0) (n : j ≢ k) where
   past-call f w (Call.keep name) h r p = keep-tile (Past k j) f w t p name
   past-call f w (forget name) h r p = forget-tile (Past k j) f w t p name
   past-call f w (recall name) h r p = recall-tile (Past k j) f w t p name (λ x q. inl refl) (λ x q. q)
+  past-call f w (list l) h r p = through-list (λ g. Past k j (tileOf (view g) t)) (λ g w u b h p. book-tile (Past k j) g w u t p (placed b) h (λ x l q. q)) f w l h p
 
   -- j was granted: what the tile grants up to the next grant of j has k in it
   later : (f : Floor) → wellFormed f ≡ true → (cs : List Call) → All Typed cs → t < total (view f .settings) → Past k j (tileOf (view f) t) → Waiting f cs t k
@@ -214,6 +215,7 @@ none-stays t k f w on d (c ∷ cs) h r = none-stays t k (outcome f c .floor) (ca
     kept (Call.keep name) h r = keep-tile None f w t d name
     kept (forget name) h r = forget-tile None f w t d name
     kept (recall name) h r = recall-tile None f w t d name (λ x q. refl) (λ x q. q)
+    kept (list l) h r = through-list (λ g. distanceOf (view g) t ≡ 255) (λ g w u b h d. book-tile None g w u t d (placed b) h (λ x l q. q)) f w l h d
 
 -- ---- at most three
 -- how often j stands in the list

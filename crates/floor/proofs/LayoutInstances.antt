@@ -12,7 +12,7 @@ use Rattle.floor.specs.Settings.{total}
 use Rattle.floor.specs.Layouts.{setOf}
 use Rattle.floor.specs.Model.{Model, nextOf, membersOf, runsOf}
 use Rattle.floor.specs.Memory.{view}
-use Rattle.floor.specs.Demand3.{Call, book, anywhere, stop, repair, round, keep, forget, recall, Typed, floorAfter, recallSet, disturbs}
+use Rattle.floor.specs.Demand3.{Call, book, anywhere, stop, repair, round, keep, forget, recall, list, Typed, floorAfter, recallSet, disturbs}
 use Rattle.floor.specs.Named.{needed, recallCalls}
 use Rattle.floor.specs.Fairness.{wants, Waiting, grantsIn, Fair}
 use Rattle.floor.specs.Arrows.{Unpressed}
@@ -52,6 +52,7 @@ codes (round ∷ cs) = 0 ∷ codes cs
 codes (keep name ∷ cs) = 0 ∷ codes cs
 codes (forget name ∷ cs) = 0 ∷ codes cs
 codes (recall name ∷ cs) = 0 ∷ codes cs
+codes (list l ∷ cs) = 0 ∷ codes cs
 
 unfoldable recalls : Rows
 recalls =

@@ -58,6 +58,7 @@ pub mod Trials
 pub mod Samples
 pub mod LayoutSamples
 pub mod AnywhereSamples
+pub mod ListSamples
 pub mod Instances
 pub mod DistanceInstances
 pub mod StandingInstances

@@ -1,9 +1,9 @@
 -- Lists of calls on floors in memory: what each call and each list keeps.
 use mathlib.Core.Path.{_≡_, refl, sym, ap, _∙_, subst, fun-ext}
-use mathlib.Core.Logic.{_≢_}
+use mathlib.Core.Logic.{_⊎_, inl, inr, _≢_}
 use mathlib.Core.Bool.{Bool, true, false, cond, not, _&&_, true≢false, false≢true}
 use mathlib.Core.List.{List, [], _∷_, _++_, append-assoc}
-use Prim.Native.Nat.{ℕ, zero, suc, _+_, _≤_, _<_}
+use Prim.Native.Nat.{ℕ, zero, suc, _+_, _^_, _≤_, _<_}
 use native.Mathlib.Omega.{arith}
 use native.Mathlib.Decide.{decLe}
 use lib.Dec.{ltb, eqb}
@@ -11,8 +11,10 @@ use lib.ListN.{length, getD, take, List·getD-eq-default}
 use borrow.Author.Tests.{eqb-true, eqb-false, ne-eqb, lt-ltb, not-true, not-false}
 use Rattle.laws.specs.Define.{tab, allBelow, bit, refusal}
 use Rattle.laws.specs.Every.{All}
-use Rattle.laws.proofs.Tests.{refusal-none, test-none}
+use Rattle.laws.proofs.Tests.{by-test, refusal-none, test-none}
 use Rattle.laws.proofs.Tables.{tab-at, tab-off, below-at}
+use Rattle.floor.specs.declared.Canister.{Canister}
+use Rattle.floor.specs.declared.Booking.{Booking}
 use Rattle.floor.specs.declared.Delivery.{Delivery}
 use Rattle.floor.specs.declared.Layout.{Layout}
 use Rattle.floor.specs.declared.Floor.{Floor}
@@ -27,8 +29,9 @@ use Rattle.floor.specs.Signal.{signal, signalOf, shownOf}
 use Rattle.floor.specs.Move.{move, moveTile, arrivals, deliveredBy}
 use Rattle.floor.specs.Calls.{refusalOf, answer, bookTests, booked, bookAnswer, stopTests, stopped, stopAnswer, repairTests, repaired, repairAnswer, keepTests, keptUnder, keepAnswer, heldTests, forgotten, forgetAnswer, recalled, recallAnswer, afterRound, delivered, deliveryOf, noDelivery, reportOf, roundAnswer}
 use Rattle.floor.specs.Anywhere.{anywhereTests, placedAt, anywhereAnswer}
+use Rattle.floor.specs.Bookings.{single, floorSingly, entriesSingly, tooLong, acceptedIn, listAnswer, listAfter}
 use Rattle.floor.specs.Reports.{listed, listedAt}
-use Rattle.floor.specs.Demand3.{Call, book, anywhere, stop, repair, round, keep, forget, recall, Typed, outcome, floorAfter, bookedIn, reportedIn, recallSet, recallMakes, runsBy, latest, isRound, changesRunning, disturbs, Quiet, roundsIn}
+use Rattle.floor.specs.Demand3.{Call, book, anywhere, stop, repair, round, keep, forget, recall, list, Typed, outcome, floorAfter, bookedIn, reportedIn, recallSet, recallMakes, runsBy, latest, isRound, changesRunning, disturbs, Quiet, roundsIn}
 use Rattle.floor.proofs.Sound.{Sound}
 use Rattle.floor.proofs.Pack.{well-sound}
 use Rattle.floor.proofs.Capacity.{sound-well, view-packed}
@@ -147,52 +150,127 @@ module _ (f : Floor) (w : wellFormed f ≡ true) where
   view-round (keep name) e = absurd (false≢true e)
   view-round (forget name) e = absurd (false≢true e)
   view-round (recall name) e = absurd (false≢true e)
+  view-round (list l) e = absurd (false≢true e)
   view-round round e = ap view round-floor ∙ view-packed (afterRound (view f)) (round-keeps (view f) S .well)
 
-  -- ---- one call
-  pub call-keeps : (c : Call) → Typed c → KeepsWell f (outcome f c .floor) (outcome f c .booked) (outcome f c .reported)
-  unfolding outcome bookAnswer anywhereAnswer stopAnswer repairAnswer keepAnswer forgetAnswer recallAnswer answer bookTests anywhereTests stopTests repairTests keepTests heldTests
-  call-keeps (book t c) h =
-      answer-keeps (bookTests (view f) t c) (omega arith) (booked (view f) t c) (λ b. cond b (c .number ∷ []) []) refl (λ T. book-keeps (view f) S t c T h)
-  call-keeps (anywhere t number) h =
-      answer-keeps (anywhereTests (view f) t number) (omega arith) (booked (view f) t (placedAt (view f) t number)) (λ b. cond b (number ∷ []) []) refl (λ T. anywhere-keeps (view f) S t number T h)
-  call-keeps (stop t) h = answer-keeps (stopTests (view f) t) (omega arith) (withTile (view f) t (stopped (tileOf (view f) t))) (λ _. []) refl (stop-keeps (view f) S t)
-  call-keeps (repair t) h = answer-keeps (repairTests (view f) t) (omega arith) (withTile (view f) t (repaired (tileOf (view f) t))) (λ _. []) refl (repair-keeps (view f) S t)
-  call-keeps round h =
-      subst (λ (g : Floor). KeepsWell f g [] (outcome f round .reported)) (sym round-floor)
-      (subst (λ (l : ℕ → List ℕ). KeepsWell f (pack (afterRound (view f))) [] l) (sym round-reported) (packed (afterRound (view f)) [] (went (view f)) (round-keeps (view f) S)))
-  call-keeps (keep name) h = answer-keeps (keepTests (view f .layouts) name) (omega arith) (keptUnder (view f) name) (λ _. []) refl (keep-keeps (view f) S name)
-  call-keeps (forget name) h = answer-keeps (heldTests (view f .layouts) name) (omega arith) (forgotten (view f) name) (λ _. []) refl (λ _. forget-keeps (view f) S name)
-  call-keeps (recall name) h = answer-keeps (heldTests (view f .layouts) name) (omega arith) (recalled (view f) (setOf (view f .layouts) name)) (λ _. []) refl (recall-keeps (view f) S name)
+  -- ---- a booking
+  booking-keeps : (t : ℕ) (c : Canister) → c .number < 2 ^ 32 → KeepsWell f (bookAnswer f t c .floor) (cond (eqb (bookAnswer f t c .refusal) 0) (c .number ∷ []) []) none
+  unfolding bookAnswer answer bookTests
+  booking-keeps t c h = answer-keeps (bookTests (view f) t c) (omega arith) (booked (view f) t c) (λ b. cond b (c .number ∷ []) []) refl (λ T. book-keeps (view f) S t c T h)
 
   never : (t : ℕ) (b : Bool) → cond (b && false) true (runsOf (view f) t) ≡ runsOf (view f) t
   never t true = refl
   never t false = refl
 
+  booking-runs : (u : ℕ) (c : Canister) → c .number < 2 ^ 32 → (t : ℕ) → runsOf (view (bookAnswer f u c .floor)) t ≡ runsOf (view f) t
+  unfolding bookAnswer answer bookTests
+  booking-runs u c h t =
+      answer-runs (bookTests (view f) u c) (omega arith) (booked (view f) u c) t false true S (λ T. book-keeps (view f) S u c T h .well) (λ T. book-runs (view f) S u c T t) ∙ never t (eqb (refusalOf f (bookTests (view f) u c)) 0)
+
+-- ---- lists of bookings
+-- more than 64 entries are refused, and nothing is booked; others are booked one after another
+pub list-refused : (f : Floor) (l : List Booking) → tooLong (length l) ≡ true
+    → (outcome f (list l) .refusal ≡ 42) × (outcome f (list l) .floor ≡ f) × (outcome f (list l) .booked ≡ []) × (outcome f (list l) .reported ≡ none)
+unfolding outcome listAnswer
+list-refused f l e = (rw e, rw e, rw e, refl)
+
+pub list-made : (f : Floor) (l : List Booking) → tooLong (length l) ≡ false
+    → (outcome f (list l) .refusal ≡ 0) × (outcome f (list l) .floor ≡ floorSingly f l) × (outcome f (list l) .booked ≡ acceptedIn (entriesSingly f l)) × (outcome f (list l) .reported ≡ none)
+unfolding outcome listAnswer listAfter
+list-made f l e = (rw e, rw e, rw e, refl)
+
+singly-keeps : (f : Floor) → wellFormed f ≡ true → (l : List Booking) → Typed (list l) → KeepsWell f (floorSingly f l) (acceptedIn (entriesSingly f l)) none
+unfolding floorSingly entriesSingly
+singly-keeps f w [] h = unchanged f w
+singly-keeps f w (b ∷ l) h =
+    let g = single f b .floor in
+    let K = booking-keeps f w (b .tile) (b .canister) (h .0) in
+    let J = singly-keeps g (K .0) l (h .1) in
+    (J .0, keeps-join (view f) (view g) (view (floorSingly g l)) (cond (eqb (single f b .refusal) 0) (b .canister .number ∷ []) []) none (acceptedIn (entriesSingly g l)) none (K .1) (J .1))
+
+-- what a booking keeps of a well-formed floor, a list of bookings keeps
+module _ (P : Floor → Type 0) (step : (g : Floor) → wellFormed g ≡ true → (t : ℕ) (c : Canister) → Typed (book t c) → P g → P (outcome g (book t c) .floor)) where
+  each-booking : (f : Floor) → wellFormed f ≡ true → (l : List Booking) → Typed (list l) → P f → P (floorSingly f l)
+  unfolding floorSingly outcome
+  each-booking f w [] h p = p
+  each-booking f w (b ∷ l) h p = each-booking (single f b .floor) (booking-keeps f w (b .tile) (b .canister) (h .0) .0) l (h .1) (step f w (b .tile) (b .canister) (h .0) p)
+
+  pub through-list : (f : Floor) → wellFormed f ≡ true → (l : List Booking) → Typed (list l) → P f → P (outcome f (list l) .floor)
+  through-list f w l h p = go (by-test (tooLong (length l)))
+    where
+      go : (tooLong (length l) ≡ true) ⊎ (tooLong (length l) ≡ false) → P (outcome f (list l) .floor)
+      go (inl e) = subst P (sym (list-refused f l e .1)) p
+      go (inr e) = subst P (sym (list-made f l e .1)) (each-booking f w l h p)
+
+list-call-keeps : (f : Floor) → wellFormed f ≡ true → (l : List Booking) → Typed (list l) → KeepsWell f (outcome f (list l) .floor) (outcome f (list l) .booked) (outcome f (list l) .reported)
+list-call-keeps f w l h = go (by-test (tooLong (length l)))
+  where
+    go : (tooLong (length l) ≡ true) ⊎ (tooLong (length l) ≡ false) → KeepsWell f (outcome f (list l) .floor) (outcome f (list l) .booked) (outcome f (list l) .reported)
+    go (inl e) = let k = list-refused f l e in rw (k .1, k .2, k .3) (unchanged f w)
+    go (inr e) = let k = list-made f l e in rw (k .1, k .2, k .3) (singly-keeps f w l h)
+
+-- a refused booking gives the floor back
+pub single-refused : (f : Floor) (b : Booking) → eqb (single f b .refusal) 0 ≡ false → single f b .floor ≡ f
+unfolding bookAnswer answer
+single-refused f b e = rw e
+
+-- all of them refused
+none-accepted : (f : Floor) (l : List Booking) → ltb 0 (length (acceptedIn (entriesSingly f l))) ≡ false → floorSingly f l ≡ f
+unfolding floorSingly entriesSingly
+none-accepted f [] h = refl
+none-accepted f (b ∷ l) h = go (eqb (single f b .refusal) 0) refl h (none-accepted g l)
+  where
+    g : Floor
+    g = single f b .floor
+
+    rest : List ℕ
+    rest = acceptedIn (entriesSingly g l)
+
+    go : (x : Bool) → eqb (single f b .refusal) 0 ≡ x → ltb 0 (length (cond x (b .canister .number ∷ []) [] ++ rest)) ≡ false → (ltb 0 (length rest) ≡ false → floorSingly g l ≡ g) → floorSingly g l ≡ f
+    go true e k ih = absurd (true≢false (sym (lt-ltb 0 (suc (length rest)) (omega arith)) ∙ k))
+    go false e k ih = ih k ∙ single-refused f b e
+
+-- ---- one call
+module _ (f : Floor) (w : wellFormed f ≡ true) where
+  pub call-keeps : (c : Call) → Typed c → KeepsWell f (outcome f c .floor) (outcome f c .booked) (outcome f c .reported)
+  unfolding outcome anywhereAnswer stopAnswer repairAnswer keepAnswer forgetAnswer recallAnswer answer anywhereTests stopTests repairTests keepTests heldTests
+  call-keeps (book t c) h = booking-keeps f w t c h
+  call-keeps (anywhere t number) h =
+      answer-keeps f w (anywhereTests (view f) t number) (omega arith) (booked (view f) t (placedAt (view f) t number)) (λ b. cond b (number ∷ []) []) refl (λ T. anywhere-keeps (view f) (S f w) t number T h)
+  call-keeps (stop t) h = answer-keeps f w (stopTests (view f) t) (omega arith) (withTile (view f) t (stopped (tileOf (view f) t))) (λ _. []) refl (stop-keeps (view f) (S f w) t)
+  call-keeps (repair t) h = answer-keeps f w (repairTests (view f) t) (omega arith) (withTile (view f) t (repaired (tileOf (view f) t))) (λ _. []) refl (repair-keeps (view f) (S f w) t)
+  call-keeps round h =
+      subst (λ (g : Floor). KeepsWell f g [] (outcome f round .reported)) (sym (round-floor f w))
+      (subst (λ (l : ℕ → List ℕ). KeepsWell f (pack (afterRound (view f))) [] l) (sym (round-reported f w)) (packed f w (afterRound (view f)) [] (went (view f)) (round-keeps (view f) (S f w))))
+  call-keeps (keep name) h = answer-keeps f w (keepTests (view f .layouts) name) (omega arith) (keptUnder (view f) name) (λ _. []) refl (keep-keeps (view f) (S f w) name)
+  call-keeps (forget name) h = answer-keeps f w (heldTests (view f .layouts) name) (omega arith) (forgotten (view f) name) (λ _. []) refl (λ _. forget-keeps (view f) (S f w) name)
+  call-keeps (recall name) h = answer-keeps f w (heldTests (view f .layouts) name) (omega arith) (recalled (view f) (setOf (view f .layouts) name)) (λ _. []) refl (recall-keeps (view f) (S f w) name)
+  call-keeps (list l) h = list-call-keeps f w l h
+
   -- which tiles run after it
   pub call-runs : (c : Call) → Typed c → (t : ℕ) → runsOf (view (outcome f c .floor)) t ≡ runsBy f c t (runsOf (view f) t)
-  unfolding outcome bookAnswer anywhereAnswer stopAnswer repairAnswer keepAnswer forgetAnswer recallAnswer answer bookTests anywhereTests stopTests repairTests keepTests heldTests keptUnder forgotten runsBy recallMakes recallSet view
-  call-runs (book u c) h t =
-      answer-runs (bookTests (view f) u c) (omega arith) (booked (view f) u c) t false true S (λ T. book-keeps (view f) S u c T h .well) (λ T. book-runs (view f) S u c T t) ∙ never t (eqb (refusalOf f (bookTests (view f) u c)) 0)
+  unfolding outcome anywhereAnswer stopAnswer repairAnswer keepAnswer forgetAnswer recallAnswer answer anywhereTests stopTests repairTests keepTests heldTests keptUnder forgotten runsBy recallMakes recallSet view
+  call-runs (book u c) h t = booking-runs f w u c h t
   call-runs (anywhere u number) h t =
-      answer-runs (anywhereTests (view f) u number) (omega arith) (booked (view f) u (placedAt (view f) u number)) t false true S (λ T. anywhere-keeps (view f) S u number T h .well)
-      (λ T. book-runs (view f) S u (placedAt (view f) u number) (anywhere-accepts (view f) u number T) t) ∙ never t (eqb (refusalOf f (anywhereTests (view f) u number)) 0)
+      answer-runs f w (anywhereTests (view f) u number) (omega arith) (booked (view f) u (placedAt (view f) u number)) t false true (S f w) (λ T. anywhere-keeps (view f) (S f w) u number T h .well)
+      (λ T. book-runs (view f) (S f w) u (placedAt (view f) u number) (anywhere-accepts (view f) u number T) t) ∙ never f w t (eqb (refusalOf f (anywhereTests (view f) u number)) 0)
   call-runs (stop u) h t =
-      answer-runs (stopTests (view f) u) (omega arith) (withTile (view f) u (stopped (tileOf (view f) u))) t (eqb u t) false S (λ T. stop-keeps (view f) S u T .well) (λ T. stop-runs (view f) S u T t)
+      answer-runs f w (stopTests (view f) u) (omega arith) (withTile (view f) u (stopped (tileOf (view f) u))) t (eqb u t) false (S f w) (λ T. stop-keeps (view f) (S f w) u T .well) (λ T. stop-runs (view f) (S f w) u T t)
   call-runs (repair u) h t =
-      answer-runs (repairTests (view f) u) (omega arith) (withTile (view f) u (repaired (tileOf (view f) u))) t (eqb u t) true S (λ T. repair-keeps (view f) S u T .well) (λ T. repair-runs (view f) S u T t)
-  call-runs round h t = ap (λ (x : Model). runsOf x t) (view-round round refl) ∙ round-runs (view f) (S .len) t
+      answer-runs f w (repairTests (view f) u) (omega arith) (withTile (view f) u (repaired (tileOf (view f) u))) t (eqb u t) true (S f w) (λ T. repair-keeps (view f) (S f w) u T .well) (λ T. repair-runs (view f) (S f w) u T t)
+  call-runs round h t = ap (λ (x : Model). runsOf x t) (view-round f w round refl) ∙ round-runs (view f) (S f w .len) t
   call-runs (keep name) h t =
-      by-answer (keepTests (view f .layouts) name) (omega arith) (λ b. runsOf (view (cond b (pack (keptUnder (view f) name)) f)) t ≡ runsOf (view f) t)
-      (λ T. ap (λ (x : Model). runsOf x t) (view-packed (keptUnder (view f) name) (keep-keeps (view f) S name T .well))) refl
+      by-answer f w (keepTests (view f .layouts) name) (omega arith) (λ b. runsOf (view (cond b (pack (keptUnder (view f) name)) f)) t ≡ runsOf (view f) t)
+      (λ T. ap (λ (x : Model). runsOf x t) (view-packed (keptUnder (view f) name) (keep-keeps (view f) (S f w) name T .well))) refl
   call-runs (forget name) h t =
-      by-answer (heldTests (view f .layouts) name) (omega arith) (λ b. runsOf (view (cond b (pack (forgotten (view f) name)) f)) t ≡ runsOf (view f) t)
-      (λ T. ap (λ (x : Model). runsOf x t) (view-packed (forgotten (view f) name) (forget-keeps (view f) S name .well))) refl
+      by-answer f w (heldTests (view f .layouts) name) (omega arith) (λ b. runsOf (view (cond b (pack (forgotten (view f) name)) f)) t ≡ runsOf (view f) t)
+      (λ T. ap (λ (x : Model). runsOf x t) (view-packed (forgotten (view f) name) (forget-keeps (view f) (S f w) name .well))) refl
   call-runs (recall name) h t =
       let set = setOf (view f .layouts) name in
-      by-answer (heldTests (view f .layouts) name) (omega arith)
+      by-answer f w (heldTests (view f .layouts) name) (omega arith)
       (λ b. runsOf (view (cond b (pack (recalled (view f) set)) f)) t ≡ cond (b && (ltb t (total (f .settings)) && cond (bit set t) (not (runsOf (view f) t)) (runsOf (view f) t))) (bit set t) (runsOf (view f) t))
-      (λ T. ap (λ (x : Model). runsOf x t) (view-packed (recalled (view f) set) (recall-keeps (view f) S name T .well)) ∙ recall-runs (view f) S set t) refl
+      (λ T. ap (λ (x : Model). runsOf x t) (view-packed (recalled (view f) set) (recall-keeps (view f) (S f w) name T .well)) ∙ recall-runs (view f) (S f w) set t) refl
+  call-runs (list l) h t = through-list (λ g. runsOf (view g) t ≡ runsOf (view f) t) (λ g k u c n e. booking-runs g k u c n t ∙ e) f w l h refl
 
   -- a refused call gives the floor back
   refused : (tests : List (Bool × ℕ)) (n : Model) → refusalOf f tests ≢ 0 → cond (eqb (refusalOf f tests) 0) (pack n) f ≡ f
@@ -208,6 +286,11 @@ module _ (f : Floor) (w : wellFormed f ≡ true) where
   call-refused (keep name) r h = refused (keepTests (view f .layouts) name) (keptUnder (view f) name) h
   call-refused (forget name) r h = refused (heldTests (view f .layouts) name) (forgotten (view f) name) h
   call-refused (recall name) r h = refused (heldTests (view f .layouts) name) (recalled (view f) (setOf (view f .layouts) name)) h
+  call-refused (list l) r h = go (by-test (tooLong (length l)))
+    where
+      go : (tooLong (length l) ≡ true) ⊎ (tooLong (length l) ≡ false) → outcome f (list l) .floor ≡ f
+      go (inl e) = list-refused f l e .1
+      go (inr e) = absurd (h (list-made f l e .0))
 
   -- ---- calls that change the layouts at most
   abbrev pub Relaid : Call → Type 0
@@ -218,13 +301,13 @@ module _ (f : Floor) (w : wellFormed f ≡ true) where
 
   pub relaid-keep : (name : ℕ) → Relaid (keep name)
   unfolding outcome keepAnswer answer keepTests keptUnder
-  relaid-keep name = by-answer (keepTests (view f .layouts) name) (omega arith) (λ b. (l : List Layout) × (view (cond b (pack (keptUnder (view f) name)) f) ≡ withLayouts (view f) l))
-      (λ T. (keptUnder (view f) name .layouts, view-packed (keptUnder (view f) name) (keep-keeps (view f) S name T .well))) (view f .layouts, refl)
+  relaid-keep name = by-answer f w (keepTests (view f .layouts) name) (omega arith) (λ b. (l : List Layout) × (view (cond b (pack (keptUnder (view f) name)) f) ≡ withLayouts (view f) l))
+      (λ T. (keptUnder (view f) name .layouts, view-packed (keptUnder (view f) name) (keep-keeps (view f) (S f w) name T .well))) (view f .layouts, refl)
 
   pub relaid-forget : (name : ℕ) → Relaid (forget name)
   unfolding outcome forgetAnswer answer heldTests forgotten
-  relaid-forget name = by-answer (heldTests (view f .layouts) name) (omega arith) (λ b. (l : List Layout) × (view (cond b (pack (forgotten (view f) name)) f) ≡ withLayouts (view f) l))
-      (λ T. (forgotten (view f) name .layouts, view-packed (forgotten (view f) name) (forget-keeps (view f) S name .well))) (view f .layouts, refl)
+  relaid-forget name = by-answer f w (heldTests (view f .layouts) name) (omega arith) (λ b. (l : List Layout) × (view (cond b (pack (forgotten (view f) name)) f) ≡ withLayouts (view f) l))
+      (λ T. (forgotten (view f) name .layouts, view-packed (forgotten (view f) name) (forget-keeps (view f) (S f w) name .well))) (view f .layouts, refl)
 
   not-made : (name t : ℕ) → ltb t (total (f .settings)) ≡ true → recallMakes f name t ≡ false → cond (bit (setOf (view f .layouts) name) t) (not (runsOf (view f) t)) (runsOf (view f) t) ≡ false
   unfolding recallMakes recallSet
@@ -244,12 +327,21 @@ module _ (f : Floor) (w : wellFormed f ≡ true) where
       go : (b : Bool) → eqb (refusalOf f (heldTests (view f .layouts) name)) 0 ≡ b → (l : List Layout) × (view (cond b (pack (recalled (view f) set)) f) ≡ withLayouts (view f) l)
       go false e = (view f .layouts, refl)
       go true e =
-          let T = passed (heldTests (view f .layouts) name) (omega arith) e in
+          let T = passed f w (heldTests (view f .layouts) name) (omega arith) e in
           let all : idle ≡ true = not-false idle (rw e at q) in (
             view f .layouts,
-            view-packed (recalled (view f) set) (recall-keeps (view f) S name T .well)
-                ∙ recall-none (view f) S set (λ t h. not-made name t (lt-ltb t (total (f .settings)) h) (not-true (recallMakes f name t) (below-at (λ t. not (recallMakes f name t)) (total (f .settings)) all t h))),
+            view-packed (recalled (view f) set) (recall-keeps (view f) (S f w) name T .well)
+                ∙ recall-none (view f) (S f w) set (λ t h. not-made name t (lt-ltb t (total (f .settings)) h) (not-true (recallMakes f name t) (below-at (λ t. not (recallMakes f name t)) (total (f .settings)) all t h))),
           )
+
+  -- a list call without an accepted entry
+  quiet-list : (l : List Booking) → disturbs f (list l) ≡ false → outcome f (list l) .floor ≡ f
+  unfolding disturbs
+  quiet-list l q = go (by-test (tooLong (length l)))
+    where
+      go : (tooLong (length l) ≡ true) ⊎ (tooLong (length l) ≡ false) → outcome f (list l) .floor ≡ f
+      go (inl e) = list-refused f l e .1
+      go (inr e) = let k = list-made f l e in k .1 ∙ none-accepted f l (ap (λ (b : List ℕ). ltb 0 (length b)) (sym (k .2)) ∙ q)
 
   -- a call that is neither a round nor an accepted booking, stop or repair
   quiet-call : (c : Call) → isRound c ≡ false → disturbs f c ≡ false → Relaid c
@@ -262,6 +354,7 @@ module _ (f : Floor) (w : wellFormed f ≡ true) where
   quiet-call (keep name) r q = relaid-keep name
   quiet-call (forget name) r q = relaid-forget name
   quiet-call (recall name) r q = relaid-recall name q
+  quiet-call (list l) r q = (view f .layouts, ap view (quiet-list l q))
 
 -- ---- lists
 pub list-keeps : (f : Floor) → wellFormed f ≡ true → (cs : List Call) → All Typed cs → KeepsWell f (floorAfter f cs) (bookedIn f cs) (reportedIn f cs)

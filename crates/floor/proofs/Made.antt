@@ -9,6 +9,7 @@ use Rattle.laws.specs.Define.{tab, allOf, sum, join, refusal}
 use Rattle.laws.proofs.Lists.{same}
 use Rattle.laws.specs.Every.{All}
 use Rattle.laws.proofs.Tests.{and-left, and-right, and-true}
+use Rattle.floor.specs.declared.Booking.{Booking}
 use Rattle.floor.specs.declared.Settings.{Settings}
 use Rattle.floor.specs.declared.Layout.{Layout}
 use Rattle.floor.specs.declared.Floor.{Floor}
@@ -20,13 +21,13 @@ use Rattle.floor.specs.Calls.{freshFloor, freshAnswer, reportOf, readTes
 use Rattle.floor.specs.Reports.{listedAt}
 use Rattle.floor.specs.Bound.{bound}
 use Rattle.floor.specs.Live.{connectedCount}
-use Rattle.floor.specs.Demand3.{Call, book as booking, anywhere as placing, stop as stopping, repair as repairing, round, keep as keeping, forget as forgetting, recall as recalling, Typed, outcome, bookedIn as bookedOn, reportedIn as reportedOn, runsAfter as runsOn}
-use Rattle.floor.specs.Together.{Said, placeTo, answersIn, saidIn}
+use Rattle.floor.specs.Demand3.{Call, book as booking, anywhere as placing, stop as stopping, repair as repairing, round, keep as keeping, forget as forgetting, recall as recalling, list as listing, Typed, outcome, bookedIn as bookedOn, reportedIn as reportedOn, runsAfter as runsOn}
+use Rattle.floor.specs.Together.{Said, placeTo, listTo, answersIn, saidIn}
 use Rattle.floor.specs.Fairness.{grantsIn}
 use Rattle.floor.proofs.Well.{settings-fact}
 use Rattle.floor.proofs.Capacity.{view-packed, sound-well}
 use Rattle.floor.proofs.First.{fresh-sound}
-use Rattle.floor.proofs.Shown.{Shows, testsOf, changed, refusalBy, placeBy, valueBy, readBy, shows-refusal, shows-place, shows-call, shows-read, shows-relaid, shows-round, shows-report}
+use Rattle.floor.proofs.Shown.{Shows, valueBooked, valueSingly, answersSingly, testsOf, changed, refusalBy, placeBy, listBy, valueBy, readBy, shows-refusal, shows-place, shows-list-after, shows-call, shows-read, shows-relaid, shows-round, shows-report}
 use Rattle.floor.proofs.Walked.{isTyped, typed, all-typed, valueAfter, answersBy, bookedOf, bookedBy, reportBy, saidBy, reportedOf, reportedBy, grantsBy, answers-same, booked-same, said-same, reported-same, grants-same, runs-same}
 use Rattle.floor.proofs.Calling.{got, settings, can, flat, counts, on as onFloor, distances as distancesOn, next as nextOn, reportedTo as reportedFrom, grant as grantOn, why as whyOn, layoutNumbers, laid as laidOn, has, whole as wholeOf, counted as countedOn, liveCount as liveOn, boundOf as boundOn}
 
@@ -91,6 +92,8 @@ pub data Seen : Type 0 where
   booked : List Call → Made → Seen
   reportedIn : ℕ → List Call → Made → Seen
   said : (Said → ℕ) → List Call → Made → Seen
+  -- a list of bookings: its number, then what is read of each entry
+  entries : (Booking → List ℕ) → List Booking → Made → Seen
   grants : ℕ → List Call → Made → Seen
   runsAfter : List ℕ → List Call → Made → Seen
   -- the refusal of reading it with these places of layouts
@@ -118,6 +121,7 @@ seen (answers cs e) = answersIn (floorOf e) cs
 seen (booked cs e) = bookedOn (floorOf e) cs
 seen (reportedIn k cs e) = reportedOn (floorOf e) cs k
 seen (said g cs e) = map g (saidIn (floorOf e) cs)
+seen (entries g l e) = outcome (floorOf e) (listing l) .refusal ∷ join (map g (listTo (floorOf e) (listing l)))
 seen (grants t cs e) = grantsIn (floorOf e) cs t
 seen (runsAfter ts cs e) = let r = runsOn (floorOf e) cs in map (λ t. cond (r t) 1 0) ts
 seen (laying ls e) = readAnswer (relaid (floorOf e) ls) 0 .refusal ∷ []
@@ -174,6 +178,7 @@ seenBy (answers cs e) = let p = made e in (p .0 && allOf isTyped cs, answersBy (
 seenBy (booked cs e) = let p = made e in (p .0 && allOf isTyped cs, bookedBy (p .1) cs)
 seenBy (reportedIn k cs e) = let p = made e in (p .0 && allOf isTyped cs, reportedBy (p .1) cs k)
 seenBy (said g cs e) = let p = made e in (p .0 && allOf isTyped cs, map g (saidBy (p .1) cs))
+seenBy (entries g l e) = let p = made e in (p .0 && isTyped (listing l), refusalBy (p .1) (listing l) ∷ join (map g (listBy (p .1) (listing l))))
 seenBy (grants t cs e) = let p = made e in (p .0 && allOf isTyped cs, grantsBy (p .1) cs t)
 seenBy (runsAfter ts cs e) = let p = made e in let m = valueAfter (p .1) cs in (p .0 && allOf isTyped cs, map (λ t. cond (runsOf m t) 1 0) ts)
 seenBy (laying ls e) = let p = made e in let m = p .1 in (p .0, refusal ((not (layoutsSound (m .settings) (usedLayouts ls) && layoutsFit ls), 30) ∷ readTests m 0) ∷ [])
@@ -212,13 +217,17 @@ seen-same (answers cs e) h = answers-same (floorOf e) (made e .1) (list-shows e 
 seen-same (booked cs e) h = booked-same (floorOf e) (made e .1) (list-shows e cs h) cs (list-typed e cs h)
 seen-same (reportedIn k cs e) h = reported-same (floorOf e) (made e .1) (list-shows e cs h) cs (list-typed e cs h) k
 seen-same (said g cs e) h = ap (map g) (said-same (floorOf e) (made e .1) (list-shows e cs h) cs (list-typed e cs h))
+seen-same (entries g l e) h =
+    let E = made-shows e (and-left (made e .0) _ h) in
+    let c = listing l in
+    rw (shows-refusal (floorOf e) (made e .1) E c, shows-list-after (floorOf e) (made e .1) E c (typed c (and-right (made e .0) _ h)))
 seen-same (grants t cs e) h = grants-same (floorOf e) (made e .1) (list-shows e cs h) cs (list-typed e cs h) t
 seen-same (runsAfter ts cs e) h = ap (λ (r : ℕ → Bool). map (λ t. cond (r t) 1 0) ts) (fun-ext (runs-same (floorOf e) (made e .1) (list-shows e cs h) cs (list-typed e cs h)))
 seen-same (laying ls e) h = ap (λ (n : ℕ). n ∷ []) (shows-relaid (floorOf e) (made e .1) (made-shows e h) ls)
 seen-same (given l) h = refl
 
 unfoldable pub holdBy : Rows → Bool
-unfolding made isTyped seenBy readBy refusalBy testsOf placeBy changed valueBy valueAfter answersBy bookedOf bookedBy reportBy saidBy reportedOf reportedBy grantsBy
+unfolding made isTyped seenBy readBy refusalBy testsOf placeBy listBy valueBooked valueSingly answersSingly changed valueBy valueAfter answersBy bookedOf bookedBy reportBy saidBy reportedOf reportedBy grantsBy
 holdBy rows = allOf (λ r. let p = seenBy (r .0) in p .0 && same (p .1) (r .1)) rows
 
 -- a table that holds by the values holds

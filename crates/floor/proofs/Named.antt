@@ -15,6 +15,7 @@ use Rattle.laws.proofs.Lists.{all-imp}
 use Rattle.laws.proofs.Tests.{by-test, test-none}
 use Rattle.laws.proofs.Tables.{tab-length, tab-at, tab-off, below-at, below-of}
 use Rattle.floor.specs.declared.Settings.{Settings}
+use Rattle.floor.specs.declared.Booking.{Booking}
 use Rattle.floor.specs.declared.Tile.{Tile}
 use Rattle.floor.specs.declared.Layout.{Layout}
 use Rattle.floor.specs.declared.Floor.{Floor}
@@ -28,7 +29,8 @@ use Rattle.floor.specs.Signal.{signal}
 use Rattle.floor.specs.Move.{move}
 use Rattle.floor.specs.Calls.{refusalOf, answer, freshFloor, freshAnswer, bookTests, booked, bookAnswer, stopTests, stopped, stopAnswer, repairTests, repaired, repairAnswer, keepTests, runningSet, keptUnder, keepAnswer, heldTests, forgotten, forgetAnswer, recallTile, recalled, recallAnswer, afterRound, roundAnswer}
 use Rattle.floor.specs.Anywhere.{anywhereTests, placedAt, anywhereAnswer}
-use Rattle.floor.specs.Demand3.{Call, book, anywhere, stop, repair, round, forget, recall, outcome, floorAfter, recallSet, recallMakes, runsBy, changesRunning, disturbs}
+use Rattle.floor.specs.Bookings.{single, floorSingly, tooLong, listAnswer}
+use Rattle.floor.specs.Demand3.{Call, book, anywhere, stop, repair, round, forget, recall, list, outcome, floorAfter, recallSet, recallMakes, runsBy, changesRunning, disturbs}
 use Rattle.floor.specs.Named.{needed, recallCalls, AllAccepted, Recalling, SameButLayouts, Keeping, Forgetting, changesLayouts, NamedLayouts}
 use Rattle.floor.proofs.Rows.{fits-layouts, layouts-back, view-at, view-settings}
 use Rattle.floor.proofs.Pack.{pack-heads, well-sound, well-fits, well-few, well-lengths, well-head}
@@ -362,8 +364,17 @@ forget-apart f name = by-call f (heldTests (view f .layouts) name) (forgotten (v
 stay : (f : Floor) (tests : List (Bool × ℕ)) (n : Model) → n .layouts ≡ view f .layouts → cond (eqb (refusalOf f tests) 0) (pack n) f .layouts ≡ f .layouts
 stay f tests n e = by-call f tests n (λ g. g .layouts ≡ f .layouts) (λ w. pack-laid f w n e) refl
 
+booking-stays : (f : Floor) (b : Booking) → single f b .floor .layouts ≡ f .layouts
+unfolding bookAnswer answer booked
+booking-stays f b = stay f (bookTests (view f) (b .tile) (b .canister)) (booked (view f) (b .tile) (b .canister)) refl
+
+bookings-stay : (f : Floor) (l : List Booking) → floorSingly f l .layouts ≡ f .layouts
+unfolding floorSingly
+bookings-stay f [] = refl
+bookings-stay f (b ∷ l) = bookings-stay (single f b .floor) l ∙ booking-stays f b
+
 others-stay : (f : Floor) (c : Call) → changesLayouts c ≡ false → outcome f c .floor .layouts ≡ f .layouts
-unfolding outcome bookAnswer anywhereAnswer stopAnswer repairAnswer recallAnswer roundAnswer answer booked recalled afterRound route signal move
+unfolding outcome bookAnswer anywhereAnswer stopAnswer repairAnswer recallAnswer roundAnswer listAnswer answer booked recalled afterRound route signal move
 others-stay f (book t c) e = stay f (bookTests (view f) t c) (booked (view f) t c) refl
 others-stay f (anywhere t number) e = stay f (anywhereTests (view f) t number) (booked (view f) t (placedAt (view f) t number)) refl
 others-stay f (stop t) e = stay f (stopTests (view f) t) _ refl
@@ -372,6 +383,11 @@ others-stay f round e = stay f [] (afterRound (view f)) refl
 others-stay f (Call.keep name) e = absurd (true≢false e)
 others-stay f (forget name) e = absurd (true≢false e)
 others-stay f (recall name) e = stay f (heldTests (view f .layouts) name) (recalled (view f) (setOf (view f .layouts) name)) refl
+others-stay f (list l) e = go (tooLong (length l))
+  where
+    go : (x : Bool) → cond x f (floorSingly f l) .layouts ≡ f .layouts
+    go true = refl
+    go false = bookings-stay f l
 
 fresh-none : (s : Settings) → freshAnswer s .floor .layouts ≡ replicate 8 zeroLayout
 unfolding freshAnswer freshFloor zeroFloor pack build layoutPlaces

@@ -1,15 +1,17 @@
 -- What a well-formed floor answers is computed on its value alone: no memory is laid out or checked between the calls. The tables of Trials, Samples and Instances speak of floors in memory, and are computed so.
 use mathlib.Core.Path.{_≡_, refl, sym, ap, _∙_}
+use mathlib.Core.Logic.{_⊎_, inl, inr}
 use mathlib.Core.Bool.{Bool, true, false, cond, not, _&&_}
 use mathlib.Core.List.{List, [], _∷_}
-use Prim.Native.Nat.{ℕ, _<_}
+use Prim.Native.Nat.{ℕ, _^_, _<_}
 use native.Mathlib.Omega.{arith}
 use lib.Dec.{eqb}
-use lib.ListN.{getD, replicate}
+use lib.ListN.{length, getD, replicate}
 use Rattle.laws.specs.Define.{tab, refusal}
 use Rattle.laws.specs.Every.{All}
-use Rattle.laws.proofs.Tests.{and-left}
+use Rattle.laws.proofs.Tests.{by-test, and-left}
 use Rattle.floor.specs.declared.Canister.{Canister}
+use Rattle.floor.specs.declared.Booking.{Booking}
 use Rattle.floor.specs.declared.Layout.{Layout}
 use Rattle.floor.specs.declared.Floor.{Floor}
 use Rattle.floor.specs.declared.Reading.{Reading}
@@ -19,20 +21,33 @@ use Rattle.floor.specs.Memory.{zeroTile, zeroCanister, stateOf, usedLayo
 use Rattle.floor.specs.Well.{stateSound, stateWell, layoutsWell, wellFormed}
 use Rattle.floor.specs.Calls.{refusalOf, answer, bookTests, booked, bookAnswer, stopTests, stopped, stopAnswer, repairTests, repaired, repairAnswer, keepTests, keptUnder, keepAnswer, heldTests, forgotten, forgetAnswer, recalled, recallAnswer, afterRound, reportOf, roundAnswer, readTests, readAnswer}
 use Rattle.floor.specs.Anywhere.{anywhereTests, placedAt, anywhereAnswer}
-use Rattle.floor.specs.Demand3.{Call, book, anywhere, stop, repair, round, keep, forget, recall, Typed, outcome}
-use Rattle.floor.specs.Together.{placeTo}
+use Rattle.floor.specs.Bookings.{answered, single, floorSingly, entriesSingly, tooLong, listAnswer, listAfter}
+use Rattle.floor.specs.Demand3.{Call, book, anywhere, stop, repair, round, keep, forget, recall, list, Typed, outcome}
+use Rattle.floor.specs.Together.{placeTo, listTo}
 use Rattle.floor.proofs.Sound.{Sound}
 use Rattle.floor.proofs.Pack.{well-sound, well-parts}
 use Rattle.floor.proofs.Capacity.{view-packed}
 use Rattle.floor.proofs.Calls.{Accepted, book-keeps, anywhere-keeps, stop-keeps, repair-keeps}
 use Rattle.floor.proofs.Laying.{keep-keeps, forget-keeps}
 use Rattle.floor.proofs.Stages.{recall-keeps}
-use Rattle.floor.proofs.Lists.{passed, round-accepted, round-report, view-round, call-keeps}
+use Rattle.floor.proofs.Lists.{list-refused, list-made, passed, round-accepted, round-report, view-round, call-keeps}
 
 -- f is well formed and its value is m
 pub record Shows (f : Floor) (m : Model) : Type 0 where
   pub well : wellFormed f ≡ true
   pub value : view f ≡ m
+
+-- ---- bookings on a value: what one makes of it, accepted or refused; what a list makes of it, and its entries with their answers
+unfoldable pub valueBooked : Model → Booking → Model
+valueBooked m b = cond (eqb (refusal (bookTests m (b .tile) (b .canister))) 0) (booked m (b .tile) (b .canister)) m
+
+unfoldable pub valueSingly : Model → List Booking → Model
+valueSingly m [] = m
+valueSingly m (b ∷ l) = valueSingly (valueBooked m b) l
+
+unfoldable pub answersSingly : Model → List Booking → List Booking
+answersSingly m [] = []
+answersSingly m (b ∷ l) = answered b (refusal (bookTests m (b .tile) (b .canister))) ∷ answersSingly (valueBooked m b) l
 
 -- ---- a call on a value: its tests but the first, 30, and what it makes of the value
 unfoldable pub testsOf : Model → Call → List (Bool × ℕ)
@@ -44,6 +59,7 @@ testsOf m round = []
 testsOf m (keep name) = keepTests (m .layouts) name
 testsOf m (forget name) = heldTests (m .layouts) name
 testsOf m (recall name) = heldTests (m .layouts) name
+testsOf m (list l) = (tooLong (length l), 42) ∷ []
 
 unfoldable pub changed : Model → Call → Model
 changed m (book t c) = booked m t c
@@ -54,6 +70,7 @@ changed m round = afterRound m
 changed m (keep name) = keptUnder m name
 changed m (forget name) = forgotten m name
 changed m (recall name) = recalled m (setOf (m .layouts) name)
+changed m (list l) = valueSingly m l
 
 unfoldable pub refusalBy : Model → Call → ℕ
 refusalBy m c = refusal (testsOf m c)
@@ -71,6 +88,18 @@ placeBy m round = (0, 0)
 placeBy m (keep name) = (0, 0)
 placeBy m (forget name) = (0, 0)
 placeBy m (recall name) = (0, 0)
+placeBy m (list l) = (0, 0)
+
+unfoldable pub listBy : Model → Call → List Booking
+listBy m (book t c) = []
+listBy m (anywhere t number) = []
+listBy m (stop t) = []
+listBy m (repair t) = []
+listBy m round = []
+listBy m (keep name) = []
+listBy m (forget name) = []
+listBy m (recall name) = []
+listBy m (list l) = cond (tooLong (length l)) l (answersSingly m l)
 
 unfoldable pub valueBy : Model → Call → Model
 valueBy m c = cond (eqb (refusalBy m c) 0) (changed m c) m
@@ -98,7 +127,7 @@ module _ (f : Floor) (w : wellFormed f ≡ true) where
       go false e = refl
 
   refusal-here : (c : Call) → outcome f c .refusal ≡ refusalBy (view f) c
-  unfolding outcome bookAnswer anywhereAnswer stopAnswer repairAnswer roundAnswer keepAnswer forgetAnswer recallAnswer answer refusalBy testsOf
+  unfolding outcome bookAnswer anywhereAnswer stopAnswer repairAnswer roundAnswer keepAnswer forgetAnswer recallAnswer listAnswer answer refusalBy testsOf refusal
   refusal-here (book t c) = plain (bookTests (view f) t c)
   refusal-here (anywhere t number) = plain (anywhereTests (view f) t number)
   refusal-here (stop t) = plain (stopTests (view f) t)
@@ -107,22 +136,60 @@ module _ (f : Floor) (w : wellFormed f ≡ true) where
   refusal-here (keep name) = plain (keepTests (view f .layouts) name)
   refusal-here (forget name) = plain (heldTests (view f .layouts) name)
   refusal-here (recall name) = plain (heldTests (view f .layouts) name)
+  refusal-here (list l) = refl
+
+  value-booked : (t : ℕ) (c : Canister) → c .number < 2 ^ 32 → view (bookAnswer f t c .floor) ≡ cond (eqb (refusal (bookTests (view f) t c)) 0) (booked (view f) t c) (view f)
+  unfolding bookAnswer answer bookTests
+  value-booked t c h = after (bookTests (view f) t c) (omega arith) (booked (view f) t c) (λ T. book-keeps (view f) S t c T h .well)
+
+  refusal-booked : (t : ℕ) (c : Canister) → bookAnswer f t c .refusal ≡ refusal (bookTests (view f) t c)
+  unfolding bookAnswer answer
+  refusal-booked t c = plain (bookTests (view f) t c)
+
+-- a list of bookings
+step-singly : (f : Floor) → wellFormed f ≡ true → (b : Booking) → b .canister .number < 2 ^ 32 → (wellFormed (single f b .floor) ≡ true) × (view (single f b .floor) ≡ valueBooked (view f) b)
+unfolding outcome valueBooked
+step-singly f w b h = (call-keeps f w (book (b .tile) (b .canister)) h .0, value-booked f w (b .tile) (b .canister) h)
+
+value-singly : (f : Floor) → wellFormed f ≡ true → (l : List Booking) → Typed (list l) → view (floorSingly f l) ≡ valueSingly (view f) l
+unfolding floorSingly valueSingly
+value-singly f w [] h = refl
+value-singly f w (b ∷ l) h =
+    let n = step-singly f w b (h .0) in
+    value-singly (single f b .floor) (n .0) l (h .1) ∙ ap (λ (m : Model). valueSingly m l) (n .1)
+
+entries-singly : (f : Floor) → wellFormed f ≡ true → (l : List Booking) → Typed (list l) → entriesSingly f l ≡ answersSingly (view f) l
+unfolding entriesSingly answersSingly
+entries-singly f w [] h = refl
+entries-singly f w (b ∷ l) h =
+    let n = step-singly f w b (h .0) in
+    (λ i. answered b (refusal-booked f w (b .tile) (b .canister) i) ∷ entries-singly (single f b .floor) (n .0) l (h .1) i) ∙ ap (λ (m : Model). answered b (refusal (bookTests (view f) (b .tile) (b .canister))) ∷ answersSingly m l) (n .1)
+
+module _ (f : Floor) (w : wellFormed f ≡ true) where
+  value-list : (l : List Booking) → Typed (list l) → view (outcome f (list l) .floor) ≡ valueBy (view f) (list l)
+  unfolding valueBy refusalBy testsOf changed refusal
+  value-list l h = go (by-test (tooLong (length l)))
+    where
+      go : (tooLong (length l) ≡ true) ⊎ (tooLong (length l) ≡ false) → view (outcome f (list l) .floor) ≡ cond (eqb (cond (tooLong (length l)) 42 0) 0) (valueSingly (view f) l) (view f)
+      go (inl e) = rw (list-refused f l e .1, e)
+      go (inr e) = rw (list-made f l e .1, e) (value-singly f w l h)
 
   value-here : (c : Call) → Typed c → view (outcome f c .floor) ≡ valueBy (view f) c
-  unfolding outcome bookAnswer anywhereAnswer stopAnswer repairAnswer keepAnswer forgetAnswer recallAnswer answer bookTests anywhereTests stopTests repairTests keepTests heldTests valueBy refusalBy testsOf changed refusal
-  value-here (book t c) h = after (bookTests (view f) t c) (omega arith) (booked (view f) t c) (λ T. book-keeps (view f) S t c T h .well)
+  unfolding outcome anywhereAnswer stopAnswer repairAnswer keepAnswer forgetAnswer recallAnswer answer anywhereTests stopTests repairTests keepTests heldTests valueBy refusalBy testsOf changed refusal
+  value-here (book t c) h = value-booked f w t c h
   value-here (anywhere t number) h =
-      after (anywhereTests (view f) t number) (omega arith) (booked (view f) t (placedAt (view f) t number)) (λ T. anywhere-keeps (view f) S t number T h .well)
-  value-here (stop t) h = after (stopTests (view f) t) (omega arith) (withTile (view f) t (stopped (tileOf (view f) t))) (λ T. stop-keeps (view f) S t T .well)
-  value-here (repair t) h = after (repairTests (view f) t) (omega arith) (withTile (view f) t (repaired (tileOf (view f) t))) (λ T. repair-keeps (view f) S t T .well)
+      after f w (anywhereTests (view f) t number) (omega arith) (booked (view f) t (placedAt (view f) t number)) (λ T. anywhere-keeps (view f) (S f w) t number T h .well)
+  value-here (stop t) h = after f w (stopTests (view f) t) (omega arith) (withTile (view f) t (stopped (tileOf (view f) t))) (λ T. stop-keeps (view f) (S f w) t T .well)
+  value-here (repair t) h = after f w (repairTests (view f) t) (omega arith) (withTile (view f) t (repaired (tileOf (view f) t))) (λ T. repair-keeps (view f) (S f w) t T .well)
   value-here round h = view-round f w round refl
-  value-here (keep name) h = after (keepTests (view f .layouts) name) (omega arith) (keptUnder (view f) name) (λ T. keep-keeps (view f) S name T .well)
-  value-here (forget name) h = after (heldTests (view f .layouts) name) (omega arith) (forgotten (view f) name) (λ _. forget-keeps (view f) S name .well)
-  value-here (recall name) h = after (heldTests (view f .layouts) name) (omega arith) (recalled (view f) (setOf (view f .layouts) name)) (λ T. recall-keeps (view f) S name T .well)
+  value-here (keep name) h = after f w (keepTests (view f .layouts) name) (omega arith) (keptUnder (view f) name) (λ T. keep-keeps (view f) (S f w) name T .well)
+  value-here (forget name) h = after f w (heldTests (view f .layouts) name) (omega arith) (forgotten (view f) name) (λ _. forget-keeps (view f) (S f w) name .well)
+  value-here (recall name) h = after f w (heldTests (view f .layouts) name) (omega arith) (recalled (view f) (setOf (view f .layouts) name)) (λ T. recall-keeps (view f) (S f w) name T .well)
+  value-here (list l) h = value-list l h
 
   read-here : (t : ℕ) → readAnswer f t ≡ readBy (view f) t
   unfolding readAnswer readBy
-  read-here t = rw (plain (readTests (view f) t))
+  read-here t = rw (plain f w (readTests (view f) t))
 
 module _ (f : Floor) (m : Model) (s : Shows f m) where
   pub shows-refusal : (c : Call) → outcome f c .refusal ≡ refusalBy m c
@@ -155,6 +222,26 @@ module _ (f : Floor) (m : Model) (s : Shows f m) where
   shows-place (keep name) = refl
   shows-place (forget name) = refl
   shows-place (recall name) = refl
+  shows-place (list l) = refl
+
+  -- an entry booked singly; the entries of a list, each with its answer
+  pub shows-booking : (b : Booking) → single f b .refusal ≡ refusal (bookTests m (b .tile) (b .canister))
+  shows-booking b = refusal-booked f (s .well) (b .tile) (b .canister) ∙ ap (λ (x : Model). refusal (bookTests x (b .tile) (b .canister))) (s .value)
+
+  pub shows-entries : (l : List Booking) → Typed (list l) → entriesSingly f l ≡ answersSingly m l
+  shows-entries l h = entries-singly f (s .well) l h ∙ ap (λ (x : Model). answersSingly x l) (s .value)
+
+  pub shows-list-after : (c : Call) → Typed c → listTo f c ≡ listBy m c
+  unfolding listTo listBy listAfter
+  shows-list-after (list l) h = ap (λ (k : List Booking). cond (tooLong (length l)) l k) (shows-entries l h)
+  shows-list-after (book t c) h = refl
+  shows-list-after (anywhere t number) h = refl
+  shows-list-after (stop t) h = refl
+  shows-list-after (repair t) h = refl
+  shows-list-after round h = refl
+  shows-list-after (keep name) h = refl
+  shows-list-after (forget name) h = refl
+  shows-list-after (recall name) h = refl
 
   pub shows-round : roundAnswer f .refusal ≡ 0
   unfolding roundAnswer

@@ -23,7 +23,7 @@ use Rattle.floor.specs.Move.{insert}
 use Rattle.floor.specs.Calls.{answer, bookTests, withBooking, booked, bookAnswer, stopTests, stopped, stopAnswer, repairTests, repaired, repairAnswer, zeroReport}
 use Rattle.floor.specs.Anywhere.{placeB, placeA, anywhereTests, placedAt, anywhereAnswer}
 use Rattle.floor.specs.Demand3.{Call, Typed, outcome, floorAfter}
-use Rattle.floor.specs.Together.{Presses, stops, repairs, Books, placed, unplaced, Exchangeable, presses, booking, placeTo, reportTo, Said, said, EitherOrder, saidIn, Exchanged, BothBooked, Together}
+use Rattle.floor.specs.Together.{Presses, stops, repairs, Books, placed, unplaced, Exchangeable, presses, booking, placeTo, reportTo, listTo, Said, said, EitherOrder, saidIn, Exchanged, BothBooked, Together}
 use Rattle.floor.proofs.Sound.{Sound}
 use Rattle.floor.proofs.Pack.{well-sound}
 use Rattle.floor.proofs.First.{pack-view-well}
@@ -90,28 +90,28 @@ module _ (t u : ℕ) (n : t ≢ u) where
 
 -- ---- what they say beside their refusal numbers
 -- a press says no more
-said-press : {t : ℕ} {c : Call} → Presses t c → (f : Floor) → said f c ≡ (outcome f c .refusal, (0, 0), zeroReport)
-unfolding placeTo reportTo
+said-press : {t : ℕ} {c : Call} → Presses t c → (f : Floor) → said f c ≡ (outcome f c .refusal, (0, 0), zeroReport, [])
+unfolding placeTo reportTo listTo
 said-press stops f = refl
 said-press repairs f = refl
 
 press-says : {t : ℕ} {c : Call} → Presses t c → (f g : Floor) → outcome g c .refusal ≡ outcome f c .refusal → said g c ≡ said f c
-press-says p f g e = said-press p g ∙ ap (λ (n : ℕ). (n, (0, 0), zeroReport)) e ∙ sym (said-press p f)
+press-says p f g e = said-press p g ∙ ap (λ (n : ℕ). (n, (0, 0), zeroReport, [])) e ∙ sym (said-press p f)
 
 -- a booking tells its place: the canister's, if it is accepted
 toldFrom : {t : ℕ} {c : Call} → Books t c → ℕ → Model → Said
-toldFrom (placed b) n m = (n, (0, 0), zeroReport)
-toldFrom {t} (unplaced number) n m = (n, (cond (eqb n 0) (placedAt m t number .a) 0, cond (eqb n 0) (placedAt m t number .b) 0), zeroReport)
+toldFrom (placed b) n m = (n, (0, 0), zeroReport, [])
+toldFrom {t} (unplaced number) n m = (n, (cond (eqb n 0) (placedAt m t number .a) 0, cond (eqb n 0) (placedAt m t number .b) 0), zeroReport, [])
 
 said-book : {t : ℕ} {c : Call} (p : Books t c) (f : Floor) → said f c ≡ toldFrom p (outcome f c .refusal) (view f)
-unfolding outcome anywhereAnswer answer placeTo reportTo toldFrom
+unfolding outcome anywhereAnswer answer placeTo reportTo listTo toldFrom
 said-book (placed b) f = refl
 said-book (unplaced number) f = refl
 
 told-same : {t : ℕ} {c : Call} (p : Books t c) (i : ℕ) (m n : Model) → canisterOf p m ≡ canisterOf p n → toldFrom p i m ≡ toldFrom p i n
 unfolding toldFrom
 told-same (placed b) i m n e = refl
-told-same (unplaced number) i m n e = ap (λ (x : Canister). (i, (cond (eqb i 0) (x .a) 0, cond (eqb i 0) (x .b) 0), zeroReport)) e
+told-same (unplaced number) i m n e = ap (λ (x : Canister). (i, (cond (eqb i 0) (x .a) 0, cond (eqb i 0) (x .b) 0), zeroReport, [])) e
 
 -- after a press of another tile it says the same
 book-says : {t u : ℕ} → t ≢ u → {c e : Call} (p : Books t c) (q : Presses u e) (f : Floor) → outcome (outcome f e .floor) c .refusal ≡ outcome f c .refusal → said (outcome f e .floor) c ≡ said f c

@@ -1,31 +1,40 @@
 -- Lists of calls from a floor that shows a value: their answers, what they book, report and grant, and the floor after them, by the value alone.
-use mathlib.Core.Path.{_≡_, refl, ap, _∙_}
+use mathlib.Core.Path.{_≡_, refl, ap, _∙_, fun-ext}
+use mathlib.Core.Logic.{_⊎_, inl, inr}
 use mathlib.Core.Bool.{Bool, true, false, cond, not, _&&_, _||_}
 use mathlib.Core.List.{List, [], _∷_, _++_}
-use Prim.Native.Nat.{ℕ, _^_}
+use Prim.Native.Nat.{ℕ, suc, _^_, _<_}
+use native.Mathlib.Omega.{arith}
 use lib.Dec.{ltb, eqb}
-use lib.ListN.{getD}
-use borrow.Author.Tests.{ltb-true, not-true}
-use Rattle.laws.specs.Define.{allOf, allBelow, bit}
+use lib.ListN.{length, getD}
+use borrow.Author.Tests.{ltb-true, lt-ltb, not-true}
+use Rattle.laws.specs.Define.{allOf, anyOf, allBelow, bit, refusal}
 use Rattle.laws.specs.Every.{All}
-use Rattle.laws.proofs.Tests.{and-left, and-right}
+use Rattle.laws.proofs.Tests.{by-test, and-left, and-right}
+use Rattle.laws.proofs.Lists.{all-imp, all-true}
+use Rattle.floor.specs.declared.Booking.{Booking}
 use Rattle.floor.specs.declared.Floor.{Floor}
 use Rattle.floor.specs.declared.Report.{Report}
 use Rattle.floor.specs.Settings.{total}
 use Rattle.floor.specs.Layouts.{setOf}
 use Rattle.floor.specs.Model.{Model, runsOf}
 use Rattle.floor.specs.Memory.{view}
-use Rattle.floor.specs.Calls.{zeroReport, reportOf}
+use Rattle.floor.specs.Calls.{bookTests, zeroReport, reportOf}
+use Rattle.floor.specs.Bookings.{single, entriesSingly, tooLong, acceptedIn}
 use Rattle.floor.specs.Reports.{listedAt}
-use Rattle.floor.specs.Demand3.{Call, book, anywhere, stop, repair, round, keep, forget, recall, Typed, outcome, floorAfter, bookedIn, reportedIn, recallSet, recallMakes, runsAfter, isRound, changesRunning, disturbs, Quiet}
+use Rattle.floor.specs.Demand3.{Call, book, anywhere, stop, repair, round, keep, forget, recall, list, Typed, outcome, floorAfter, bookedIn, reportedIn, recallSet, recallMakes, runsAfter, isRound, changesRunning, disturbs, Quiet}
 use Rattle.floor.specs.Together.{reportTo, Said, answersIn, saidIn}
 use Rattle.floor.specs.Fairness.{wants, Waiting, granted, grantsIn}
 use Rattle.floor.specs.Arrows.{Unpressed}
-use Rattle.floor.proofs.Lists.{list-runs}
-use Rattle.floor.proofs.Shown.{Shows, refusalBy, placeBy, valueBy, shows-refusal, shows-place, shows-call, shows-report}
+use Rattle.floor.proofs.Lists.{list-refused, list-made, single-refused, list-runs}
+use Rattle.floor.proofs.Shown.{Shows, answersSingly, refusalBy, placeBy, listBy, valueBy, shows-refusal, shows-place, shows-booking, shows-entries, shows-list-after, shows-call, shows-report}
 
 -- all that is asked of a call: a booking's number has 32 bits
+unfoldable pub isNarrow : Booking → Bool
+isNarrow b = ltb (b .canister .number) (2 ^ 32)
+
 unfoldable pub isTyped : Call → Bool
+unfolding isNarrow
 isTyped (book t c) = ltb (c .number) (2 ^ 32)
 isTyped (anywhere t number) = ltb number (2 ^ 32)
 isTyped (stop t) = true
@@ -34,9 +43,10 @@ isTyped round = true
 isTyped (keep name) = true
 isTyped (forget name) = true
 isTyped (recall name) = true
+isTyped (list l) = allOf isNarrow l
 
 pub typed : (c : Call) → isTyped c ≡ true → Typed c
-unfolding isTyped
+unfolding isNarrow isTyped
 typed (book t c) h = ltb-true (c .number) (2 ^ 32) h
 typed (anywhere t number) h = ltb-true number (2 ^ 32) h
 typed (stop t) h = tt
@@ -45,6 +55,7 @@ typed round h = tt
 typed (keep name) h = tt
 typed (forget name) h = tt
 typed (recall name) h = tt
+typed (list l) h = all-imp (λ b. isNarrow b ≡ true) (λ b. b .canister .number < 2 ^ 32) l (λ b e. ltb-true (b .canister .number) (2 ^ 32) e) (all-true isNarrow l h)
 
 pub all-typed : (cs : List Call) → allOf isTyped cs ≡ true → All Typed cs
 unfolding allOf
@@ -61,19 +72,20 @@ answersBy m [] = []
 answersBy m (c ∷ cs) = refusalBy m c ∷ answersBy (valueBy m c) cs
 
 -- n: the call's refusal number
-unfoldable pub bookedOf : ℕ → Call → List ℕ
-bookedOf n (book t c) = cond (eqb n 0) (c .number ∷ []) []
-bookedOf n (anywhere t number) = cond (eqb n 0) (number ∷ []) []
-bookedOf n (stop t) = []
-bookedOf n (repair t) = []
-bookedOf n round = []
-bookedOf n (keep name) = []
-bookedOf n (forget name) = []
-bookedOf n (recall name) = []
+unfoldable pub bookedOf : Model → ℕ → Call → List ℕ
+bookedOf m n (book t c) = cond (eqb n 0) (c .number ∷ []) []
+bookedOf m n (anywhere t number) = cond (eqb n 0) (number ∷ []) []
+bookedOf m n (stop t) = []
+bookedOf m n (repair t) = []
+bookedOf m n round = []
+bookedOf m n (keep name) = []
+bookedOf m n (forget name) = []
+bookedOf m n (recall name) = []
+bookedOf m n (list l) = cond (eqb n 0) (acceptedIn (answersSingly m l)) []
 
 unfoldable pub bookedBy : Model → List Call → List ℕ
 bookedBy m [] = []
-bookedBy m (c ∷ cs) = bookedOf (refusalBy m c) c ++ bookedBy (valueBy m c) cs
+bookedBy m (c ∷ cs) = bookedOf m (refusalBy m c) c ++ bookedBy (valueBy m c) cs
 
 unfoldable pub reportBy : Model → Call → Report
 reportBy m (book t c) = zeroReport
@@ -84,10 +96,11 @@ reportBy m round = reportOf m
 reportBy m (keep name) = zeroReport
 reportBy m (forget name) = zeroReport
 reportBy m (recall name) = zeroReport
+reportBy m (list l) = zeroReport
 
 unfoldable pub saidBy : Model → List Call → List Said
 saidBy m [] = []
-saidBy m (c ∷ cs) = (refusalBy m c, placeBy m c, reportBy m c) ∷ saidBy (valueBy m c) cs
+saidBy m (c ∷ cs) = (refusalBy m c, placeBy m c, reportBy m c, listBy m c) ∷ saidBy (valueBy m c) cs
 
 unfoldable pub reportedOf : Model → Call → ℕ → List ℕ
 reportedOf m (book t c) k = []
@@ -98,6 +111,7 @@ reportedOf m round k = listedAt (reportOf m) k
 reportedOf m (keep name) k = []
 reportedOf m (forget name) k = []
 reportedOf m (recall name) k = []
+reportedOf m (list l) k = []
 
 unfoldable pub reportedBy : Model → List Call → ℕ → List ℕ
 reportedBy m [] k = []
@@ -121,9 +135,14 @@ changesBy m round = false
 changesBy m (keep name) = false
 changesBy m (forget name) = false
 changesBy m (recall name) = eqb (refusalBy m (recall name)) 0 && not (allBelow (λ t. not (makesBy m name t)) (total (m .settings)))
+changesBy m (list l) = false
+
+-- whether an entry is accepted: the first that is finds the value as it was
+unfoldable pub takesOne : Model → List Booking → Bool
+takesOne m l = anyOf (λ b. eqb (refusal (bookTests m (b .tile) (b .canister))) 0) l
 
 unfoldable pub disturbsBy : Model → Call → Bool
-unfolding changesBy
+unfolding changesBy takesOne
 disturbsBy m (book t c) = eqb (refusalBy m (book t c)) 0
 disturbsBy m (anywhere t number) = eqb (refusalBy m (anywhere t number)) 0
 disturbsBy m (stop t) = changesBy m (stop t)
@@ -132,6 +151,7 @@ disturbsBy m round = false
 disturbsBy m (keep name) = false
 disturbsBy m (forget name) = false
 disturbsBy m (recall name) = changesBy m (recall name)
+disturbsBy m (list l) = not (tooLong (length l)) && takesOne m l
 
 unfoldable pub quietBy : Model → List Call → Bool
 unfolding disturbsBy
@@ -148,17 +168,41 @@ waitingBy m [] t k = true
 waitingBy m (c ∷ cs) t k = (not (isRound c) || wants m t k) && waitingBy (valueBy m c) cs t k
 
 -- ---- that is what the floor gives
+one-accepted : (f : Floor) (l : List Booking) → ltb 0 (length (acceptedIn (entriesSingly f l))) ≡ anyOf (λ b. eqb (single f b .refusal) 0) l
+unfolding entriesSingly anyOf
+one-accepted f [] = refl
+one-accepted f (b ∷ l) = go (eqb (single f b .refusal) 0) refl (one-accepted (single f b .floor) l)
+  where
+    rest : List ℕ
+    rest = acceptedIn (entriesSingly (single f b .floor) l)
+
+    some : Floor → Bool
+    some g = anyOf (λ b. eqb (single g b .refusal) 0) l
+
+    go : (x : Bool) → eqb (single f b .refusal) 0 ≡ x → ltb 0 (length rest) ≡ some (single f b .floor) → ltb 0 (length (cond x (b .canister .number ∷ []) [] ++ rest)) ≡ (x || some f)
+    go true e ih = lt-ltb 0 (suc (length rest)) (omega arith)
+    go false e ih = ih ∙ ap some (single-refused f b e)
+
 module _ (f : Floor) (m : Model) (s : Shows f m) where
-  call-booked : (c : Call) → outcome f c .booked ≡ bookedOf (outcome f c .refusal) c
+  list-booked : (l : List Booking) → Typed (list l) → outcome f (list l) .booked ≡ bookedOf m (outcome f (list l) .refusal) (list l)
+  unfolding bookedOf
+  list-booked l h = go (by-test (tooLong (length l)))
+    where
+      go : (tooLong (length l) ≡ true) ⊎ (tooLong (length l) ≡ false) → outcome f (list l) .booked ≡ cond (eqb (outcome f (list l) .refusal) 0) (acceptedIn (answersSingly m l)) []
+      go (inl e) = let k = list-refused f l e in rw (k .2, k .0)
+      go (inr e) = let k = list-made f l e in rw (k .2, k .0) (ap acceptedIn (shows-entries f m s l h))
+
+  call-booked : (c : Call) → Typed c → outcome f c .booked ≡ bookedOf m (outcome f c .refusal) c
   unfolding outcome bookedOf
-  call-booked (book t c) = refl
-  call-booked (anywhere t number) = refl
-  call-booked (stop t) = refl
-  call-booked (repair t) = refl
-  call-booked round = refl
-  call-booked (keep name) = refl
-  call-booked (forget name) = refl
-  call-booked (recall name) = refl
+  call-booked (book t c) h = refl
+  call-booked (anywhere t number) h = refl
+  call-booked (stop t) h = refl
+  call-booked (repair t) h = refl
+  call-booked round h = refl
+  call-booked (keep name) h = refl
+  call-booked (forget name) h = refl
+  call-booked (recall name) h = refl
+  call-booked (list l) h = list-booked l h
 
   call-report : (c : Call) → reportTo f c ≡ reportBy m c
   unfolding reportTo reportBy
@@ -170,6 +214,7 @@ module _ (f : Floor) (m : Model) (s : Shows f m) where
   call-report (keep name) = refl
   call-report (forget name) = refl
   call-report (recall name) = refl
+  call-report (list l) = refl
 
   call-reported : (c : Call) (k : ℕ) → outcome f c .reported k ≡ reportedOf m c k
   unfolding outcome reportedOf
@@ -181,6 +226,7 @@ module _ (f : Floor) (m : Model) (s : Shows f m) where
   call-reported (keep name) k = refl
   call-reported (forget name) k = refl
   call-reported (recall name) k = refl
+  call-reported (list l) k = refl
 
   pub call-granted : (t : ℕ) → granted f t ≡ getD (reportOf m .grants) t 0
   unfolding granted
@@ -198,6 +244,11 @@ module _ (f : Floor) (m : Model) (s : Shows f m) where
   call-changes (recall name) =
       let idle : Model → Bool = λ x. allBelow (λ t. not (makesBy x name t)) (total (x .settings)) in
       ap (λ (n : ℕ). eqb n 0 && not (idle (view f))) (shows-refusal f m s (recall name)) ∙ ap (λ (x : Model). eqb (refusalBy m (recall name)) 0 && not (idle x)) (s .value)
+  call-changes (list l) = refl
+
+  takes-same : (l : List Booking) → anyOf (λ b. eqb (single f b .refusal) 0) l ≡ takesOne m l
+  unfolding takesOne
+  takes-same l = ap (λ (p : Booking → Bool). anyOf p l) (fun-ext (λ b. ap (λ (n : ℕ). eqb n 0) (shows-booking f m s b)))
 
   pub call-disturbs : (c : Call) → disturbs f c ≡ disturbsBy m c
   unfolding disturbs disturbsBy
@@ -209,6 +260,11 @@ module _ (f : Floor) (m : Model) (s : Shows f m) where
   call-disturbs (keep name) = refl
   call-disturbs (forget name) = refl
   call-disturbs (recall name) = call-changes (recall name)
+  call-disturbs (list l) = go (by-test (tooLong (length l)))
+    where
+      go : (tooLong (length l) ≡ true) ⊎ (tooLong (length l) ≡ false) → ltb 0 (length (outcome f (list l) .booked)) ≡ (not (tooLong (length l)) && takesOne m l)
+      go (inl e) = rw (list-refused f l e .2, e)
+      go (inr e) = rw (list-made f l e .2, e) (one-accepted f l ∙ takes-same l)
 
 pub shows-list : (f : Floor) (m : Model) → Shows f m → (cs : List Call) → All Typed cs → Shows (floorAfter f cs) (valueAfter m cs)
 unfolding floorAfter valueAfter
@@ -223,12 +279,12 @@ answers-same f m s (c ∷ cs) h = rw (shows-refusal f m s c, answers-same (outco
 pub booked-same : (f : Floor) (m : Model) → Shows f m → (cs : List Call) → All Typed cs → bookedIn f cs ≡ bookedBy m cs
 unfolding bookedIn bookedBy
 booked-same f m s [] h = refl
-booked-same f m s (c ∷ cs) h = rw (call-booked f m s c, shows-refusal f m s c, booked-same (outcome f c .floor) (valueBy m c) (shows-call f m s c (h .0)) cs (h .1))
+booked-same f m s (c ∷ cs) h = rw (call-booked f m s c (h .0), shows-refusal f m s c, booked-same (outcome f c .floor) (valueBy m c) (shows-call f m s c (h .0)) cs (h .1))
 
 pub said-same : (f : Floor) (m : Model) → Shows f m → (cs : List Call) → All Typed cs → saidIn f cs ≡ saidBy m cs
 unfolding saidIn saidBy
 said-same f m s [] h = refl
-said-same f m s (c ∷ cs) h = rw (shows-refusal f m s c, shows-place f m s c, call-report f m s c, said-same (outcome f c .floor) (valueBy m c) (shows-call f m s c (h .0)) cs (h .1))
+said-same f m s (c ∷ cs) h = rw (shows-refusal f m s c, shows-place f m s c, call-report f m s c, shows-list-after f m s c (h .0), said-same (outcome f c .floor) (valueBy m c) (shows-call f m s c (h .0)) cs (h .1))
 
 pub reported-same : (f : Floor) (m : Model) → Shows f m → (cs : List Call) → All Typed cs → (k : ℕ) → reportedIn f cs k ≡ reportedBy m cs k
 unfolding reportedIn reportedBy

@@ -6,14 +6,16 @@ use Prim.Native.Nat.{ℕ}
 use lib.Dec.{eqb}
 use Rattle.laws.specs.Define.{bit}
 use Rattle.floor.specs.declared.Canister.{Canister}
+use Rattle.floor.specs.declared.Booking.{Booking}
 use Rattle.floor.specs.declared.Floor.{Floor}
 use Rattle.floor.specs.declared.Answer.{Answer}
 use Rattle.floor.specs.declared.Placed.{Placed}
 use Rattle.floor.specs.declared.Rounded.{Rounded}
 use Rattle.floor.specs.Calls.{bookAnswer, stopAnswer, repairAnswer, keepAnswer, forgetAnswer, recallAnswer, roundAnswer}
 use Rattle.floor.specs.Anywhere.{anywhereAnswer}
+use Rattle.floor.specs.Bookings.{acceptedIn, listAnswer, listAfter}
 use Rattle.floor.specs.Reports.{listedAt}
-use Rattle.floor.specs.Demand3.{Call, book, anywhere, stop, repair, round, keep, forget, recall, floorAfter, bookedIn, reportedIn, recallSet, recallMakes, latest}
+use Rattle.floor.specs.Demand3.{Call, book, anywhere, stop, repair, round, keep, forget, recall, list, floorAfter, bookedIn, reportedIn, recallSet, recallMakes, latest}
 
 -- the number that a booking's answer accepted
 abbrev pub bookedBy : Canister → Answer → List ℕ
@@ -22,6 +24,10 @@ bookedBy c r = cond (eqb (r .refusal) 0) (c .number ∷ []) []
 -- of a booking without a place
 abbrev pub placedBy : ℕ → Placed → List ℕ
 placedBy number r = cond (eqb (r .refusal) 0) (number ∷ []) []
+
+-- of a list of bookings, by its own answer and those written in its entries
+abbrev pub listedBy : Answer → List Booking → List ℕ
+listedBy r after = cond (eqb (r .refusal) 0) (acceptedIn after) []
 
 -- the numbers that a round's answer reported delivered to hopper k
 abbrev pub reportedBy : Rounded → ℕ → List ℕ
@@ -42,6 +48,8 @@ pub data Made : Floor → List Call → Floor → List ℕ → (ℕ → List ℕ
   keeps : {f g : Floor} {cs : List Call} {bs : List ℕ} {ns : ℕ → List ℕ} (name : ℕ) (r : Answer) → r ≡ keepAnswer f name → Made (r .floor) cs g bs ns → Made f (keep name ∷ cs) g bs ns
   forgets : {f g : Floor} {cs : List Call} {bs : List ℕ} {ns : ℕ → List ℕ} (name : ℕ) (r : Answer) → r ≡ forgetAnswer f name → Made (r .floor) cs g bs ns → Made f (forget name ∷ cs) g bs ns
   recalls : {f g : Floor} {cs : List Call} {bs : List ℕ} {ns : ℕ → List ℕ} (name : ℕ) (r : Answer) → r ≡ recallAnswer f name → Made (r .floor) cs g bs ns → Made f (recall name ∷ cs) g bs ns
+  lists : {f g : Floor} {cs : List Call} {bs : List ℕ} {ns : ℕ → List ℕ} (l : List Booking) (r : Answer) (after : List Booking) → r ≡ listAnswer f l → after ≡ listAfter f l
+      → Made (r .floor) cs g bs ns → Made f (list l ∷ cs) g (listedBy r after ++ bs) ns
 
 -- whether tile t runs, by the answers to its stops and repairs and to recalls, where b says whether it ran before
 unfoldable pub runsMade : {f g : Floor} {cs : List Call} {bs : List ℕ} {ns : ℕ → List ℕ} → Made f cs g bs ns → ℕ → Bool → Bool
@@ -54,6 +62,7 @@ runsMade (rounds r e p) t b = runsMade p t b
 runsMade (keeps name r e p) t b = runsMade p t b
 runsMade (forgets name r e p) t b = runsMade p t b
 runsMade (recalls {f = f} name r e p) t b = runsMade p t (cond (eqb (r .refusal) 0 && recallMakes f name t) (bit (recallSet f name) t) b)
+runsMade (lists l r after e a p) t b = runsMade p t b
 
 -- they lead to the floor of `floorAfter`; what the bookings accepted is `bookedIn`, what the rounds reported is `reportedIn`, and the tiles run as `latest` says
 pub record Chained {f g : Floor} {cs : List Call} {bs : List ℕ} {ns : ℕ → List ℕ} (m : Made f cs g bs ns) : Type 0 where

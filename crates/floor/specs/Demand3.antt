@@ -9,6 +9,7 @@ use lib.ListN.{length, getD}
 use Rattle.laws.specs.Define.{cat, allOf, pairsOf, allBelow, bit}
 use Rattle.laws.specs.Every.{All}
 use Rattle.floor.specs.declared.Canister.{Canister}
+use Rattle.floor.specs.declared.Booking.{Booking}
 use Rattle.floor.specs.declared.Floor.{Floor}
 use Rattle.floor.specs.Settings.{total, spacing}
 use Rattle.floor.specs.Layouts.{setOf}
@@ -17,11 +18,12 @@ use Rattle.floor.specs.Memory.{view}
 use Rattle.floor.specs.Well.{inside, apart, wellFormed}
 use Rattle.floor.specs.Calls.{bookAnswer, stopAnswer, repairAnswer, keepAnswer, forgetAnswer, recallAnswer, roundAnswer}
 use Rattle.floor.specs.Anywhere.{anywhereAnswer}
+use Rattle.floor.specs.Bookings.{acceptedIn, listAnswer, listAfter}
 use Rattle.floor.specs.Reports.{listedAt}
 use Rattle.floor.specs.Bound.{bound}
 use Rattle.floor.specs.Live.{LivePath, connected, connectedCount}
 
--- "a list holds bookings, stops, repairs and rounds in any order and number; it may be empty"; bookings without a place, by tile and number; recalls, and "Keeping and forgetting … may stand in its lists", each with the number of its name
+-- "a list holds bookings, stops, repairs and rounds in any order and number; it may be empty"; bookings without a place, by tile and number; [4]: lists of bookings; recalls, and "Keeping and forgetting … may stand in its lists", each with the number of its name
 pub data Call : Type 0 where
   book : ℕ → Canister → Call
   anywhere : ℕ → ℕ → Call
@@ -31,8 +33,9 @@ pub data Call : Type 0 where
   keep : ℕ → Call
   forget : ℕ → Call
   recall : ℕ → Call
+  list : List Booking → Call
 
--- a booking's number has its parameter's 32 bits; no other width is needed
+-- a booking's number has its parameter's 32 bits, that of each entry of a list too; no other width is needed
 abbrev pub Typed : Call → Type 0
 Typed (book t c) = c .number < 2 ^ 32
 Typed (anywhere t number) = number < 2 ^ 32
@@ -42,6 +45,7 @@ Typed round = Unit {0}
 Typed (keep name) = Unit {0}
 Typed (forget name) = Unit {0}
 Typed (recall name) = Unit {0}
+Typed (list l) = All (λ b. b .canister .number < 2 ^ 32) l
 
 -- a call's answer: its refusal number, 0 if accepted; its floor; the numbers that it booked; the numbers that it reported delivered to each hopper, the hoppers in tile order from 0 on
 pub record Outcome : Type 0 where
@@ -50,7 +54,7 @@ pub record Outcome : Type 0 where
   pub booked : List ℕ
   pub reported : ℕ → List ℕ
 
--- a booking's number counts if it is accepted; a round reports what its report lists
+-- a booking's number counts if it is accepted; a round reports what its report lists. A list call books the numbers of the entries that it answers by 0; refused by 42 it writes no answer and books nothing
 unfoldable pub outcome : Floor → Call → Outcome
 outcome f (book t c) = let r = bookAnswer f t c in record { refusal = r .refusal; floor = r .floor; booked = cond (eqb (r .refusal) 0) (c .number ∷ []) []; reported = λ _. [] }
 outcome f (anywhere t number) = let r = anywhereAnswer f t number in record { refusal = r .refusal; floor = r .floor; booked = cond (eqb (r .refusal) 0) (number ∷ []) []; reported = λ _. [] }
@@ -60,6 +64,7 @@ outcome f round = let r = roundAnswer f in record { refusal = r .refusal; floor 
 outcome f (keep name) = let r = keepAnswer f name in record { refusal = r .refusal; floor = r .floor; booked = []; reported = λ _. [] }
 outcome f (forget name) = let r = forgetAnswer f name in record { refusal = r .refusal; floor = r .floor; booked = []; reported = λ _. [] }
 outcome f (recall name) = let r = recallAnswer f name in record { refusal = r .refusal; floor = r .floor; booked = []; reported = λ _. [] }
+outcome f (list l) = let r = listAnswer f l in record { refusal = r .refusal; floor = r .floor; booked = cond (eqb (r .refusal) 0) (acceptedIn (listAfter f l)) []; reported = λ _. [] }
 
 -- "Each call gets its own arguments and the floor the last one gave; a refused call gives that floor back and stays in the list."
 unfoldable pub floorAfter : Floor → List Call → Floor
@@ -98,6 +103,7 @@ runsBy f round t r = r
 runsBy f (keep name) t r = r
 runsBy f (forget name) t r = r
 runsBy f (recall name) t r = cond (eqb (outcome f (recall name) .refusal) 0 && recallMakes f name t) (bit (recallSet f name) t) r
+runsBy f (list l) t r = r
 
 unfoldable pub latest : Floor → List Call → ℕ → Bool → Bool
 latest f [] t r = r
@@ -115,6 +121,7 @@ isRound round = true
 isRound (keep name) = false
 isRound (forget name) = false
 isRound (recall name) = false
+isRound (list l) = false
 
 -- whether it is an accepted stop or repair; a recall counts as those that it makes
 unfoldable pub changesRunning : Floor → Call → Bool
@@ -126,8 +133,9 @@ changesRunning f round = false
 changesRunning f (keep name) = false
 changesRunning f (forget name) = false
 changesRunning f (recall name) = eqb (outcome f (recall name) .refusal) 0 && not (allBelow (λ t. not (recallMakes f name t)) (total (f .settings)))
+changesRunning f (list l) = false
 
--- whether it is an accepted booking of either sort, stop or repair; keeping and forgetting are none
+-- whether it is an accepted booking of either sort, stop or repair; keeping and forgetting are none. A list call with an accepted entry is an accepted booking; one whose entries are all refused, or that 42 refuses, is not
 unfoldable pub disturbs : Floor → Call → Bool
 disturbs f (book t c) = eqb (outcome f (book t c) .refusal) 0
 disturbs f (anywhere t number) = eqb (outcome f (anywhere t number) .refusal) 0
@@ -137,6 +145,7 @@ disturbs f round = false
 disturbs f (keep name) = false
 disturbs f (forget name) = false
 disturbs f (recall name) = changesRunning f (recall name)
+disturbs f (list l) = ltb 0 (length (outcome f (list l) .booked))
 
 -- a list with "no accepted booking, stop or repair", and its rounds
 abbrev pub Quiet : Floor → List Call → Type 0

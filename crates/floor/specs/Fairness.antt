@@ -50,7 +50,7 @@ grantCount gs = length (keep (λ j. ltb 0 j) gs)
 unfoldable pub turnOf : Model → ℕ → ℕ
 turnOf m t = chosen (wants m t) (tokenOf m t)
 
--- f is any well-formed floor, so also the one that any stretch of a longer list begins with; a list holds bookings with and without a place, stops, repairs, recalls, keepings, forgettings and rounds, refused ones among them; t and k are any numbers
+-- f is any well-formed floor, so also the one that any stretch of a longer list begins with; a list holds bookings with and without a place, lists of bookings, stops, repairs, recalls, keepings, forgettings and rounds, refused ones among them; t and k are any numbers
 pub record NobodyWaits (f : Floor) : Type 0 where
   -- "while a side of a running tile wants in every round, no other side of that tile is granted twice without the waiting side granted between"
   pub fair : (cs : List Call) → All Typed cs → (t k : ℕ) → Waiting f cs t k → Fair k (grantsIn f cs t)

@@ -15,6 +15,7 @@ pub mod Local
 pub mod Capacity
 pub mod Anywhere
 pub mod Placing
+pub mod Bookings
 pub mod Reports
 pub mod Bound
 pub mod Live

@@ -15,7 +15,7 @@ use Rattle.floor.specs.Layouts.{nameNumber, letters, held, setOf}
 use Rattle.floor.specs.Model.{runsOf}
 use Rattle.floor.specs.Memory.{zeroLayout, view, headOf}
 use Rattle.floor.specs.Calls.{freshAnswer, runningSet}
-use Rattle.floor.specs.Demand3.{Call, book, anywhere, stop, repair, round, keep, forget, recall, outcome, floorAfter, recallSet, recallMakes, runsBy, latest, disturbs}
+use Rattle.floor.specs.Demand3.{Call, book, anywhere, stop, repair, round, keep, forget, recall, list, outcome, floorAfter, recallSet, recallMakes, runsBy, latest, disturbs}
 
 -- ---- a recall
 -- "the stops and repairs needed, in rising tile number": those of n tiles from t on
@@ -87,6 +87,7 @@ changesLayouts round = false
 changesLayouts (keep name) = true
 changesLayouts (forget name) = true
 changesLayouts (recall name) = false
+changesLayouts (list l) = false
 
 -- f is any floor, well formed or not
 pub record LayoutPromises (f : Floor) : Type 0 where

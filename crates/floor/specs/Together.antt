@@ -5,6 +5,7 @@ use mathlib.Core.Bool.{true, false}
 use mathlib.Core.List.{List, [], _∷_, _++_}
 use Prim.Native.Nat.{ℕ}
 use Rattle.floor.specs.declared.Canister.{Canister}
+use Rattle.floor.specs.declared.Booking.{Booking}
 use Rattle.floor.specs.declared.Floor.{Floor}
 use Rattle.floor.specs.declared.Report.{Report}
 use Rattle.floor.specs.Settings.{isHopper}
@@ -13,7 +14,8 @@ use Rattle.floor.specs.Memory.{view}
 use Rattle.floor.specs.Well.{wellFormed}
 use Rattle.floor.specs.Calls.{zeroReport, roundAnswer}
 use Rattle.floor.specs.Anywhere.{anywhereAnswer}
-use Rattle.floor.specs.Demand3.{Call, book, anywhere, stop, repair, round, keep, forget, recall, Typed, outcome, floorAfter}
+use Rattle.floor.specs.Bookings.{listAfter}
+use Rattle.floor.specs.Demand3.{Call, book, anywhere, stop, repair, round, keep, forget, recall, list, Typed, outcome, floorAfter}
 
 -- a stop or a repair of tile t
 pub data Presses (t : ℕ) : Call → Type 0 where
@@ -42,6 +44,7 @@ placeTo f round = (0, 0)
 placeTo f (keep name) = (0, 0)
 placeTo f (forget name) = (0, 0)
 placeTo f (recall name) = (0, 0)
+placeTo f (list l) = (0, 0)
 
 -- a round's report; zeros for the other calls, which have none
 unfoldable pub reportTo : Floor → Call → Report
@@ -53,13 +56,26 @@ reportTo f round = roundAnswer f .report
 reportTo f (keep name) = zeroReport
 reportTo f (forget name) = zeroReport
 reportTo f (recall name) = zeroReport
+reportTo f (list l) = zeroReport
 
--- all that a call answers beside its floor: its refusal number, the place found and its report
+-- the entries of a list of bookings as they come back; none for the other calls, which have none
+unfoldable pub listTo : Floor → Call → List Booking
+listTo f (book t b) = []
+listTo f (anywhere t number) = []
+listTo f (stop t) = []
+listTo f (repair t) = []
+listTo f round = []
+listTo f (keep name) = []
+listTo f (forget name) = []
+listTo f (recall name) = []
+listTo f (list l) = listAfter f l
+
+-- all that a call answers beside its floor: its refusal number, the place found, its report and its entries
 abbrev pub Said : Type 0
-Said = ℕ × (ℕ × ℕ) × Report
+Said = ℕ × (ℕ × ℕ) × Report × List Booking
 
 abbrev pub said : Floor → Call → Said
-said f c = (outcome f c .refusal, placeTo f c, reportTo f c)
+said f c = (outcome f c .refusal, placeTo f c, reportTo f c, listTo f c)
 
 -- c and e from f: "the same floor and the same two answers in either order"
 pub record EitherOrder (f : Floor) (c e : Call) : Type 0 where

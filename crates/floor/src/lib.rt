@@ -213,6 +213,15 @@ impl Layout {
     pub const ZERO: Layout = Layout { name: 0, set: 0 };
 }
 
+// An entry of a list of bookings: a tile, a canister with its place, and the number that the booking is refused by, 0 where
+// it is accepted.
+#[repr(C)]
+pub struct Booking {
+    pub tile: u32,
+    pub canister: Canister,
+    pub answer: u8,
+}
+
 // A floor. The canisters of tile t stand from place 16 * t on, by rising number, the layouts by rising name; unused places
 // are zero.
 #[repr(C)]

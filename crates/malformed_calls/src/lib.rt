@@ -1,6 +1,6 @@
 // Whether every call that takes a floor refuses one that isn't well formed: 30 and the same floor, zeros for a reading, the
 // same bytes for a writing and for a page; a list of bookings answers 30 in every entry; a release gives the plan back too.
-use book_list::Booking;
+use floor::Booking;
 use floor::Canister;
 use floor::Delivery;
 use floor::Floor;

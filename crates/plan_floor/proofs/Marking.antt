@@ -18,7 +18,7 @@ use Rattle.floor.specs.declared.Report.{Report}
 use Rattle.floor.specs.Well.{wellFormed}
 use Rattle.floor.specs.Calls.{noDelivery, roundAnswer}
 use Rattle.floor.specs.Reports.{listed, listedAt}
-use Rattle.floor.specs.Demand3.{Call, book, anywhere, stop, repair, round, keep as keeping, forget, recall, outcome, floorAfter, disturbs, Quiet}
+use Rattle.floor.specs.Demand3.{Call, book, anywhere, stop, repair, round, keep as keeping, forget, recall, list, outcome, floorAfter, disturbs, Quiet}
 use Rattle.floor.proofs.Reports.{reports}
 use Rattle.plan.specs.declared.Entry.{Entry}
 use Rattle.plan.specs.declared.Plan.{Plan}
@@ -123,6 +123,7 @@ call-lists f round j n w h m =
 call-lists f (keeping name) j n w h m = absurd (List·Memᴰ·not-nil m)
 call-lists f (forget name) j n w h m = absurd (List·Memᴰ·not-nil m)
 call-lists f (recall name) j n w h m = absurd (List·Memᴰ·not-nil m)
+call-lists f (list l) j n w h m = absurd (List·Memᴰ·not-nil m)
 
 step-lists : (s : State) (c : Step) (j n : ℕ) → wellFormed (s .floor) ≡ true → j < 4 → List·Memᴰ n (reportedOf s c j) → Lists (reportsOf s c) n
 unfolding reportedOf reportsOf

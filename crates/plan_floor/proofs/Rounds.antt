@@ -16,7 +16,7 @@ use Rattle.floor.specs.declared.Report.{Report}
 use Rattle.floor.specs.Memory.{view}
 use Rattle.floor.specs.Calls.{refusalOf, deliveryOf, delivered, noDelivery, reportOf, zeroReport, roundAnswer}
 use Rattle.floor.specs.Reports.{listed, listedAt}
-use Rattle.floor.specs.Demand3.{Call, book, anywhere, stop, repair, round, keep, forget, recall, outcome, reportedIn, reportedAll}
+use Rattle.floor.specs.Demand3.{Call, book, anywhere, stop, repair, round, keep, forget, recall, list, outcome, reportedIn, reportedAll}
 use Rattle.plan.specs.declared.Plan.{Plan}
 use Rattle.plan.specs.Entries.{used}
 use Rattle.plan.specs.Plans.{releaseAnswer, numbersIn, reportAnswer}
@@ -59,6 +59,7 @@ module _ (P : ℕ → Type 0) where
   call-known f (keep name) h = tt
   call-known f (forget name) h = tt
   call-known f (recall name) h = tt
+  call-known f (list l) h = tt
 
   step-known : (s : State) (c : Step) → ((k : ℕ) → k < 4 → All P (reportedOf s c k)) → All Known (reportsOf s c)
   unfolding reportsOf reportedOf

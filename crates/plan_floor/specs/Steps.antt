@@ -7,7 +7,7 @@ use Rattle.laws.specs.Define.{allOf, refusal}
 use Rattle.floor.specs.declared.Floor.{Floor}
 use Rattle.floor.specs.declared.Report.{Report}
 use Rattle.floor.specs.Calls.{roundAnswer}
-use Rattle.floor.specs.Demand3.{Call, book, anywhere, stop, repair, round, keep, forget, recall, Typed, outcome}
+use Rattle.floor.specs.Demand3.{Call, book, anywhere, stop, repair, round, keep, forget, recall, list, Typed, outcome}
 use Rattle.plan.specs.declared.Entry.{Entry}
 use Rattle.plan.specs.declared.Plan.{Plan}
 use Rattle.plan.specs.Entries.{waits, used, predecessors}
@@ -127,6 +127,7 @@ reportOfCall f round = roundAnswer f .report ∷ []
 reportOfCall f (keep name) = []
 reportOfCall f (forget name) = []
 reportOfCall f (recall name) = []
+reportOfCall f (list l) = []
 
 unfoldable pub reportsOf : State → Step → List Report
 reportsOf s (call c) = reportOfCall (s .floor) c

@@ -19,7 +19,7 @@ use Rattle.floor.specs.Memory.{view}
 use Rattle.floor.specs.Well.{wellFormed}
 use Rattle.floor.specs.Calls.{noDelivery, deliveryOf, roundAnswer, refusalOf, zeroReport}
 use Rattle.floor.specs.Reports.{listed, listedAt}
-use Rattle.floor.specs.Demand3.{Call, book, anywhere, stop, repair, round, keep, forget, recall, outcome, reportedIn, roundsIn}
+use Rattle.floor.specs.Demand3.{Call, book, anywhere, stop, repair, round, keep, forget, recall, list, outcome, reportedIn, roundsIn}
 use Rattle.floor.proofs.Pack.{well-sound}
 use Rattle.floor.proofs.Fields.{went}
 use Rattle.floor.proofs.Deliveries.{delivered-few}
@@ -77,6 +77,7 @@ adds (repair t ∷ cs) f k = let i = adds cs (outcome f (repair t) .floor) k in 
 adds (keep name ∷ cs) f k = let i = adds cs (outcome f (keep name) .floor) k in (i .0, omega (arith, i .1), i .2)
 adds (forget name ∷ cs) f k = let i = adds cs (outcome f (forget name) .floor) k in (i .0, omega (arith, i .1), i .2)
 adds (recall name ∷ cs) f k = let i = adds cs (outcome f (recall name) .floor) k in (i .0, omega (arith, i .1), i .2)
+adds (list l ∷ cs) f k = let i = adds cs (outcome f (list l) .floor) k in (i .0, omega (arith, i .1), i .2)
 adds (round ∷ cs) f k =
     let i = adds cs (outcome f round .floor) k in
     let c = round-counts f k in

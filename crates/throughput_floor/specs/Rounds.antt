@@ -10,7 +10,7 @@ use Rattle.floor.specs.declared.Floor.{Floor}
 use Rattle.floor.specs.declared.Report.{Report}
 use Rattle.floor.specs.Well.{wellFormed}
 use Rattle.floor.specs.Calls.{noDelivery, roundAnswer}
-use Rattle.floor.specs.Demand3.{Call, book, anywhere, stop, repair, round, keep, forget, recall, Typed, outcome, floorAfter, roundsIn}
+use Rattle.floor.specs.Demand3.{Call, book, anywhere, stop, repair, round, keep, forget, recall, list, Typed, outcome, floorAfter, roundsIn}
 use Rattle.throughput.specs.Rate.{rateOf}
 use Rattle.throughput.specs.Lists.{zeroThroughput, feedAll, ratesTold, windows, openRounds, openDeliveries, recordAfter}
 
@@ -28,6 +28,7 @@ countOf f round k = countAt (roundAnswer f .report) k ∷ []
 countOf f (keep name) k = []
 countOf f (forget name) k = []
 countOf f (recall name) k = []
+countOf f (list l) k = []
 
 unfoldable pub countsIn : Floor → List Call → ℕ → List ℕ
 countsIn f [] k = []

@@ -1,5 +1,5 @@
 // A list of bookings in one call, its entries by value.
-use book_list::Booking;
+use floor::Booking;
 use floor::Floor;
 use trials_tally::Tally;
 use trials_tally::floors;

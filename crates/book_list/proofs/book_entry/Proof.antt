@@ -3,8 +3,8 @@ use Rattle.floor.specs.Well.{wellFormed}
 use Rattle.book_list.proofs.Kept.{entry-still}
 use Rattle.book_list.proofs.Widths.{entry-typed}
 use Rattle.floor.specs.declared.Answer.{Answer}
+use Rattle.floor.specs.Bookings.{answered}
 use Rattle.book_list.specs.declared.Done.{Done}
-use Rattle.book_list.specs.Listing.{answered}
 use Rattle.book_list.specs.Parts.{entryOf}
 use Rattle.book_list.proofs.book_entry.Statement.{statement}
 use Rattle.book_list.proofs.book_entry.Tie as tie

@@ -47,17 +47,17 @@ use denote.Triple.Table.{entered, cited}
 use denote.Triple.Clauses.{ensured, lasts}
 use denote.Triple.Walked.{says, Stays, stay-none, stay-slice, walkOf, goes-none, goes-slice, Walks, ends-at, walked, walk-meets}
 use denote.Exit.{yes}
+use Rattle.floor.specs.declared.Booking.{Booking}
 use Rattle.floor.specs.declared.Floor.{Floor}
 use Rattle.floor.specs.declared.Answer.{Answer}
-use Rattle.book_list.specs.declared.Booking.{Booking}
 use Rattle.book_list.specs.declared.Done.{Done}
 use Rattle.book_list.specs.declared.Begun.{Begun}
 use Rattle.floor.specs.Well.{wellFormed}
 use Rattle.book_list.specs.Parts.{entryOf, entriesOf, begunOf, answerOf}
 use Rattle.book_list.proofs.Kept.{begun-well}
 use Rattle.book_list.proofs.Upto.{zeroBooking, floorUpto, listUpto, list-length, list-step, floor-step, entries-most, done-list, done-answer}
-use Rattle.book_list.proofs.Booking as S
-use Rattle.book_list.proofs.Booking.Laws as S′
+use Rattle.floor.proofs.Booking as S
+use Rattle.floor.proofs.Booking.Laws as S′
 use Rattle.floor.proofs.Floor as Z
 use Rattle.floor.proofs.Floor.Laws as Z′
 use Rattle.floor.proofs.Answer as R

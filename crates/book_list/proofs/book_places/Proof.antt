@@ -5,9 +5,9 @@ use native.Mathlib.Omega.{arith}
 use native.Mathlib.Numerals.{add-one}
 use lib.ListN.{length, set, getD, take, drop}
 use Rattle.floor.specs.declared.Answer.{Answer}
+use Rattle.floor.specs.Bookings.{floorSingly, entriesSingly}
 use Rattle.book_list.specs.declared.Begun.{Begun}
 use Rattle.book_list.specs.declared.Done.{Done}
-use Rattle.book_list.specs.Listing.{floorSingly, entriesSingly}
 use Rattle.book_list.specs.Parts.{entryOf, entriesOf, placesAnswer}
 use Rattle.book_list.proofs.Upto.{zeroBooking, floorUpto, listUpto, list-step, floor-step, upto-floor, upto-list, entries-few}
 use Rattle.book_list.proofs.Kept.{begun-well}

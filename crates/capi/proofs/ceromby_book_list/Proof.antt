@@ -36,9 +36,9 @@ use denote.Triple.Walked.{says, Stays, stay-none, gave-slice, walkOf, goes-none,
 use denote.Exit.{yes}
 use Rattle.floor.specs.declared.Floor.{Floor}
 use Rattle.floor.specs.declared.Answer.{Answer}
-use Rattle.book_list.specs.declared.Booking.{Booking}
-use Rattle.book_list.specs.Listing.{listAnswer, listAfter}
-use Rattle.book_list.proofs.Booking as S
+use Rattle.floor.specs.declared.Booking.{Booking}
+use Rattle.floor.specs.Bookings.{listAnswer, listAfter}
+use Rattle.floor.proofs.Booking as S
 use Rattle.floor.proofs.Floor as Z
 use Rattle.floor.proofs.Floor.Laws as Z′
 use Rattle.floor.proofs.Answer as R

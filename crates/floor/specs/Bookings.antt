@@ -1,13 +1,13 @@
 -- A list of bookings in one call: what its entries and the call answer, on all inputs.
 use mathlib.Core.Bool.{Bool, cond}
-use mathlib.Core.List.{List, [], _∷_}
+use mathlib.Core.List.{List, [], _∷_, _++_}
 use Prim.Native.Nat.{ℕ}
-use lib.Dec.{ltb}
+use lib.Dec.{ltb, eqb}
 use lib.ListN.{length}
+use Rattle.floor.specs.declared.Booking.{Booking}
 use Rattle.floor.specs.declared.Floor.{Floor}
 use Rattle.floor.specs.declared.Answer.{Answer}
 use Rattle.floor.specs.Calls.{bookAnswer}
-use Rattle.book_list.specs.declared.Booking.{Booking}
 
 -- "each entry, which names its place, receives its own answer": its answer is written, its tile and its canister stay
 abbrev pub answered : Booking → ℕ → Booking
@@ -37,3 +37,8 @@ listAnswer f l = record { refusal = cond (tooLong (length l)) 42 0; floor = cond
 -- the list as it comes back
 unfoldable pub listAfter : Floor → List Booking → List Booking
 listAfter f l = cond (tooLong (length l)) l (entriesSingly f l)
+
+-- the numbers of the entries that were accepted, by the answers written in them
+abbrev pub acceptedIn : List Booking → List ℕ
+acceptedIn [] = []
+acceptedIn (b ∷ l) = cond (eqb (b .answer) 0) (b .canister .number ∷ []) [] ++ acceptedIn l
