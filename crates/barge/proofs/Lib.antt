@@ -6,3 +6,4 @@ pub mod Alike
 pub mod Totals
 pub mod Alone
 pub mod ListSamples
+pub mod LiveInstances

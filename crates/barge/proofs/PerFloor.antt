@@ -84,6 +84,11 @@ both true true z h = absurd (true≢false h)
 both true false z h = refl
 both false y z h = refl
 
+and-flip : (x y : Bool) → (x && y) ≡ false → (y && x) ≡ false
+and-flip true true h = absurd (true≢false h)
+and-flip true false h = refl
+and-flip false y h = and-no y
+
 runs-none : (j : ℕ) (b : Barge) (c : BargeCall) → (eqb (outcome b c .refusal) 0 && eqb (named c) j) ≡ false → (t : ℕ) (r : Bool) → runsBy j b c t r ≡ r
 unfolding runsBy
 runs-none j b (book k u c) e t r = refl
@@ -91,6 +96,29 @@ runs-none j b (anywhere k u number) e t r = refl
 runs-none j b (stop k u) e t r = ap (λ (x : Bool). cond x false r) (both (eqb (outcome b (stop k u) .refusal) 0) (eqb k j) (eqb u t) e)
 runs-none j b (repair k u) e t r = ap (λ (x : Bool). cond x true r) (both (eqb (outcome b (repair k u) .refusal) 0) (eqb k j) (eqb u t) e)
 runs-none j b (round k) e t r = refl
+
+-- a call that is no accepted stop or repair on floor j
+runs-quiet : (j : ℕ) (b : Barge) (c : BargeCall) → disturbs j b c ≡ false → (t : ℕ) (r : Bool) → runsBy j b c t r ≡ r
+unfolding disturbs runsBy
+runs-quiet j b (book k u c) q t r = refl
+runs-quiet j b (anywhere k u number) q t r = refl
+runs-quiet j b (stop k u) q t r = runs-none j b (stop k u) (and-flip (eqb k j) (eqb (outcome b (stop k u) .refusal) 0) q) t r
+runs-quiet j b (repair k u) q t r = runs-none j b (repair k u) (and-flip (eqb k j) (eqb (outcome b (repair k u) .refusal) 0) q) t r
+runs-quiet j b (round k) q t r = refl
+
+quiet-latest : (j : ℕ) (b : Barge) (ds : List BargeCall) → QuietOn j b ds → (t : ℕ) (r : Bool) → latest j b ds t r ≡ r
+unfolding latest
+quiet-latest j b [] q t r = refl
+quiet-latest j b (c ∷ ds) q t r = ap (latest j (outcome b c .barge) ds t) (runs-quiet j b c (q .0) t r) ∙ quiet-latest j (outcome b c .barge) ds (q .1) t r
+
+latest-both : (j : ℕ) (b : Barge) (cs ds : List BargeCall) (t : ℕ) (r : Bool) → latest j b (cs ++ ds) t r ≡ latest j (bargeAfter b cs) ds t (latest j b cs t r)
+unfolding latest bargeAfter
+latest-both j b [] ds t r = refl
+latest-both j b (c ∷ cs) ds t r = latest-both j (outcome b c .barge) cs ds t (runsBy j b c t r)
+
+quiet-runs : (j : ℕ) (b : Barge) (cs ds : List BargeCall) → QuietOn j (bargeAfter b cs) ds → (t : ℕ) → runsOn j b (cs ++ ds) t ≡ runsOn j b cs t
+unfolding runsOn
+quiet-runs j b cs ds q t = latest-both j b cs ds t (runsOf (view (floorAt b j)) t) ∙ quiet-latest j (bargeAfter b cs) ds q t (latest j b cs t (runsOf (view (floorAt b j)) t))
 
 cond-nil : (x : Bool) {l : List ℕ} → l ≡ [] → cond x l [] ≡ []
 cond-nil true e = e
@@ -288,6 +316,10 @@ module _ (j : ℕ) (j4 : j < 4) (b : Barge) (s : bargeSound b ≡ true) (cs : Li
         ap (λ (x : Floor). membersOf (view x) t) (F .floor ∙ ap back (sym is-now))
         ∙ P .emptied (own j (bargeAfter b cs) ds) (F .typed) (subst (λ (x : Floor). Lone.Quiet x (own j (bargeAfter b cs) ds)) (sym is-now) (F .quiet q))
         (enough ds F n) t (subst (λ (r : ℕ → Bool). LivePath (first .settings) r t) (sym runs-are) p);
+    runs-same = quiet-runs j b cs;
+    live-same = λ ds q t.
+        let e : runsOn j b (cs ++ ds) ≡ runsOn j b cs = fun-ext (quiet-runs j b cs ds q) in
+        (subst (λ (r : ℕ → Bool). LivePath (first .settings) r t) e, subst (λ (r : ℕ → Bool). LivePath (first .settings) r t) (sym e));
   }
     where
       enough : (ds : List BargeCall) → Same j (bargeAfter b cs) ds (own j (bargeAfter b cs) ds) → bound (first .settings) (connectedCount (view (P .now)) (runsOn j b cs)) ≤ roundsOn j ds

@@ -77,6 +77,8 @@ pub record Promises (j : ℕ) (b : Barge) (cs : List BargeCall) : Type 0 where
   pub counts-live : (t : ℕ) → LivePath (first .settings) (runsOn j b cs) t ↔ connected (first .settings) (runsOn j b cs) t ≡ true
   pub emptied : (ds : List BargeCall) → All Typed ds → QuietOn j (bargeAfter b cs) ds → bound (first .settings) (connectedCount (view now) (runsOn j b cs)) ≤ roundsOn j ds
       → (t : ℕ) → LivePath (first .settings) (runsOn j b cs) t → membersOf (view (floorAt (bargeAfter (bargeAfter b cs) ds) j)) t ≡ []
+  pub runs-same : (ds : List BargeCall) → QuietOn j (bargeAfter b cs) ds → (t : ℕ) → runsOn j b (cs ++ ds) t ≡ runsOn j b cs t
+  pub live-same : (ds : List BargeCall) → QuietOn j (bargeAfter b cs) ds → (t : ℕ) → LivePath (first .settings) (runsOn j b (cs ++ ds)) t ↔ LivePath (first .settings) (runsOn j b cs) t
 
 -- each of the four floors
 abbrev pub PerFloor : Type 0

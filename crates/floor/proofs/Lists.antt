@@ -8,7 +8,7 @@ use native.Mathlib.Omega.{arith}
 use native.Mathlib.Decide.{decLe}
 use lib.Dec.{ltb, eqb}
 use lib.ListN.{length, getD, take, List·getD-eq-default}
-use borrow.Author.Tests.{eqb-true, eqb-false, ne-eqb, lt-ltb, not-true, not-false}
+use borrow.Author.Tests.{eqb-true, eqb-false, ne-eqb, lt-ltb, le-ltb, not-true, not-false}
 use Rattle.laws.specs.Define.{tab, allBelow, bit, refusal}
 use Rattle.laws.specs.Every.{All}
 use Rattle.laws.proofs.Tests.{by-test, refusal-none, test-none}
@@ -31,7 +31,7 @@ use Rattle.floor.specs.Calls.{refusalOf, answer, bookTests, booked, book
 use Rattle.floor.specs.Anywhere.{anywhereTests, placedAt, anywhereAnswer}
 use Rattle.floor.specs.Bookings.{single, floorSingly, entriesSingly, tooLong, acceptedIn, listAnswer, listAfter}
 use Rattle.floor.specs.Reports.{listed, listedAt}
-use Rattle.floor.specs.Demand3.{Call, book, anywhere, stop, repair, round, keep, forget, recall, list, Typed, outcome, floorAfter, bookedIn, reportedIn, recallSet, recallMakes, runsBy, latest, isRound, changesRunning, disturbs, Quiet, roundsIn}
+use Rattle.floor.specs.Demand3.{Call, book, anywhere, stop, repair, round, keep, forget, recall, list, Typed, outcome, floorAfter, bookedIn, reportedIn, recallSet, recallMakes, runsBy, latest, runsAfter, isRound, changesRunning, disturbs, Quiet, roundsIn}
 use Rattle.floor.proofs.Sound.{Sound}
 use Rattle.floor.proofs.Pack.{well-sound}
 use Rattle.floor.proofs.Capacity.{sound-well, view-packed}
@@ -372,6 +372,52 @@ unfolding latest floorAfter
 list-runs f w [] h t = refl
 list-runs f w (c ∷ cs) h t =
     ap (latest (outcome f c .floor) cs t) (sym (call-runs f w c (h .0) t)) ∙ list-runs (outcome f c .floor) (call-keeps f w c (h .0) .0) cs (h .1) t
+
+-- ---- what runs after a further list
+latest-both : (f : Floor) (cs ds : List Call) (t : ℕ) (r : Bool) → latest f (cs ++ ds) t r ≡ latest (floorAfter f cs) ds t (latest f cs t r)
+unfolding latest floorAfter
+latest-both f [] ds t r = refl
+latest-both f (c ∷ cs) ds t r = latest-both (outcome f c .floor) cs ds t (runsBy f c t r)
+
+makes-beyond : (f : Floor) (name t : ℕ) → total (f .settings) ≤ t → recallMakes f name t ≡ false
+unfolding recallMakes
+makes-beyond f name t h = rw (le-ltb t (total (f .settings)) h)
+
+-- a call that is no accepted stop or repair changes nothing that runs
+runs-by-none : (f : Floor) (c : Call) → disturbs f c ≡ false → (t : ℕ) (r : Bool) → runsBy f c t r ≡ r
+unfolding disturbs changesRunning runsBy
+runs-by-none f (book u c) q t r = refl
+runs-by-none f (anywhere u number) q t r = refl
+runs-by-none f (stop u) q t r = rw q
+runs-by-none f (repair u) q t r = rw q
+runs-by-none f round q t r = refl
+runs-by-none f (keep name) q t r = refl
+runs-by-none f (forget name) q t r = refl
+runs-by-none f (recall name) q t r = go (eqb (outcome f (recall name) .refusal) 0) q
+  where
+    idle : Bool
+    idle = allBelow (λ t. not (recallMakes f name t)) (total (f .settings))
+
+    makes-none : idle ≡ true → recallMakes f name t ≡ false
+    makes-none h = pick (decLe (suc t) (total (f .settings)))
+      where
+        pick : Dec (t < total (f .settings)) → recallMakes f name t ≡ false
+        pick (yes k) = not-true (recallMakes f name t) (below-at (λ t. not (recallMakes f name t)) (total (f .settings)) h t k)
+        pick (no k) = makes-beyond f name t (omega arith)
+
+    go : (x : Bool) → (x && not idle) ≡ false → cond (x && recallMakes f name t) (bit (recallSet f name) t) r ≡ r
+    go true h = rw (makes-none (not-false idle h))
+    go false h = refl
+runs-by-none f (list l) q t r = refl
+
+quiet-latest : (f : Floor) (ds : List Call) → Quiet f ds → (t : ℕ) (r : Bool) → latest f ds t r ≡ r
+unfolding latest
+quiet-latest f [] q t r = refl
+quiet-latest f (c ∷ ds) q t r = ap (latest (outcome f c .floor) ds t) (runs-by-none f c (q .0) t r) ∙ quiet-latest (outcome f c .floor) ds (q .1) t r
+
+pub quiet-runs : (f : Floor) (cs ds : List Call) → Quiet (floorAfter f cs) ds → (t : ℕ) → runsAfter f (cs ++ ds) t ≡ runsAfter f cs t
+unfolding runsAfter
+quiet-runs f cs ds q t = latest-both f cs ds t (runsOf (view f) t) ∙ quiet-latest (floorAfter f cs) ds q t (latest f cs t (runsOf (view f) t))
 
 -- rounds don't look at layouts
 round-relaid : (m : Model) (l : List Layout) → afterRound (withLayouts m l) ≡ withLayouts (afterRound m) l

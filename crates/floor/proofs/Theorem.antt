@@ -27,7 +27,7 @@ use Rattle.floor.proofs.Nearest.{laid}
 use Rattle.floor.proofs.Paths.{live-iff}
 use Rattle.floor.proofs.Clearing.{cleared}
 use Rattle.floor.proofs.Calls.{Keeps}
-use Rattle.floor.proofs.Lists.{list-keeps, list-runs, quiet-rounds}
+use Rattle.floor.proofs.Lists.{list-keeps, list-runs, quiet-runs, quiet-rounds}
 
 -- different numbers, as the statement tests it
 distinct : (l : List ℕ) → Pairs (λ x y. x ≢ y) l → pairsOf (λ x y. not (eqb x y)) l ≡ true
@@ -85,6 +85,8 @@ module _ (f : Floor) (w : wellFormed f ≡ true) (cs : List Call) (typed : All T
     emptied = λ ds h q.
         carry (λ s r. bound s (connectedCount (view now) r) ≤ roundsIn ds → (t : ℕ) → LivePath s r t → membersOf (view (floorAfter now ds)) t ≡ [])
         (λ b t p. ap (λ (x : Model). membersOf x t) (quiet-rounds now well ds h q .1) ∙ cleared (view now) S (roundsIn ds) b t p);
+    runs-same = quiet-runs f cs;
+    live-same = λ ds q t. let e : runsAfter f (cs ++ ds) ≡ runsAfter f cs = fun-ext (quiet-runs f cs ds q) in (subst (λ (r : ℕ → Bool). LivePath (f .settings) r t) e, subst (λ (r : ℕ → Bool). LivePath (f .settings) r t) (sym e));
   }
 
 pub demand3 : Demand3

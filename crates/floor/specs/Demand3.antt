@@ -178,6 +178,9 @@ pub record Promises (f : Floor) (cs : List Call) : Type 0 where
   -- "after any further list with at least (C - 1) × (1 + K × M) rounds and no accepted booking, stop or repair, no canister is on a tile with a live path" to a hopper
   pub emptied : (ds : List Call) → All Typed ds → Quiet now ds → bound (f .settings) (connectedCount (view now) (runsAfter f cs)) ≤ roundsIn ds
       → (t : ℕ) → LivePath (f .settings) (runsAfter f cs) t → membersOf (view (floorAfter now ds)) t ≡ []
+  -- the same tiles run after such a list, so that the live paths are those before it
+  pub runs-same : (ds : List Call) → Quiet now ds → (t : ℕ) → runsAfter f (cs ++ ds) t ≡ runsAfter f cs t
+  pub live-same : (ds : List Call) → Quiet now ds → (t : ℕ) → LivePath (f .settings) (runsAfter f (cs ++ ds)) t ↔ LivePath (f .settings) (runsAfter f cs) t
 
 -- the theorem: for every well-formed floor in memory and every list of calls
 abbrev pub Demand3 : Type 0
