@@ -2,4 +2,5 @@ pub mod Upto
 pub mod Kept
 pub mod Widths
 pub mod Singly
+pub mod Instances
 pub mod Loops

@@ -64,3 +64,4 @@ pub mod DistanceInstances
 pub mod StandingInstances
 pub mod LayoutInstances
 pub mod AnywhereInstances
+pub mod ListInstances
