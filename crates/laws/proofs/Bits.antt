@@ -1,14 +1,14 @@
 -- Bits of a number, and of one that is changed by a power of two, as the code of `sets` changes it.
 use Prim.Native.Nat.{ℕ, zero, suc, _+_, _-_, _*_, _/_, _%_, _^_, _≤_, _<_}
-use mathlib.Core.Path.{_≡_, refl, ap, sym, _∙_}
-use mathlib.Core.Bool.{Bool, true, false, cond, _||_, _&&_, not}
+use mathlib.Core.Path.{_≡_, refl, ap, sym, _∙_, subst}
+use mathlib.Core.Bool.{Bool, true, false, cond, _||_, _&&_, not, true≢false, false≢true}
 use mathlib.Core.Logic.{_⊎_, inl, inr}
-use native.Mathlib.Nat.{one-mul, div-eq-of-lt, zero-mod, mod-lt}
+use native.Mathlib.Nat.{lt-of-lt-of-le, one-mul, mul-comm, pow-suc, div-one, div-div-eq-div-mul, div-lt-iff-lt-mul, div-add-mod', div-eq-of-lt, zero-mod, mod-lt}
 use native.Mathlib.Numerals.{add-one}
 use native.Mathlib.Omega.{arith}
 use lib.Dec.{eqb, ltb, lit<}
-use lib.Pow.{pow-lt, pow-add, pow-pos, shl-shr, shl-exact, split}
-use lib.Bits.{bitAnd, bitOr, bitXor, or-shr, or-mod, xor-shr, xor-mod, shifted-even, and-mask}
+use lib.Pow.{pow-lt, pow-mono, pow-add, pow-pos, shl-shr, shl-exact, split}
+use lib.Bits.{bitAnd, bitOr, bitXor, or-lt, or-shifted-r, or-shr, or-mod, xor-shr, xor-mod, shifted-even, and-mask}
 use borrow.Author.Tests.{eqb-true, eqb-false, ltb-true, ltb-false, eq-eqb, lt-ltb}
 use Rattle.laws.specs.Define.{bit}
 use Rattle.laws.proofs.Tests.{same-test}
@@ -51,12 +51,41 @@ xor-cases true r s h = rw (h refl)
 xor-cases false r (inl e) h = rw e
 xor-cases false r (inr e) h = rw e
 
+-- ---- numbers with the same bits are the same
+half-bit : (x k : ℕ) → bit (x / 2) k ≡ bit x (suc k)
+unfolding bit
+half-bit x k = ap (λ (y : ℕ). eqb (y % 2) 1) (div-div-eq-div-mul x 2 (2 ^ k) ∙ ap (λ (y : ℕ). x / y) (mul-comm 2 (2 ^ k) ∙ sym (pow-suc 2 k)))
+
+same-parity : (x y : ℕ) → bit x 0 ≡ bit y 0 → x % 2 ≡ y % 2
+unfolding bit
+same-parity x y e = go (x % 2) (y % 2) (below-two _ (mod-lt x (lit< tt))) (below-two _ (mod-lt y (lit< tt))) (sym (ap (λ (z : ℕ). eqb (z % 2) 1) (div-one x)) ∙ e ∙ ap (λ (z : ℕ). eqb (z % 2) 1) (div-one y))
+  where
+    go : (a b : ℕ) → (a ≡ 0) ⊎ (a ≡ 1) → (b ≡ 0) ⊎ (b ≡ 1) → eqb a 1 ≡ eqb b 1 → a ≡ b
+    go a b (inl p) (inl q) h = p ∙ sym q
+    go a b (inl p) (inr q) h = absurd (false≢true (rw (p, q) at h))
+    go a b (inr p) (inl q) h = absurd (true≢false (rw (p, q) at h))
+    go a b (inr p) (inr q) h = p ∙ sym q
+
+pub bits-same : (n x y : ℕ) → x < 2 ^ n → y < 2 ^ n → ((k : ℕ) → bit x k ≡ bit y k) → x ≡ y
+bits-same zero x y h j e = omega (arith, h, j)
+bits-same (suc n) x y h j e =
+    let half : (z : ℕ) → z < 2 ^ suc n → z / 2 < 2 ^ n = λ z l. div-lt-iff-lt-mul (lit< tt) .1 (subst (λ (m : ℕ). z < m) (pow-suc 2 n) l) in
+    let q = bits-same n (x / 2) (y / 2) (half x h) (half y j) (λ k. half-bit x k ∙ e (suc k) ∙ sym (half-bit y k)) in
+    sym (div-add-mod' x 2) ∙ (λ i. q i * 2 + same-parity x y (e 0) i) ∙ div-add-mod' y 2
+
 -- ---- a bit set, cleared and tested
 pub with-bit : (s t k : ℕ) → bit (bitOr s (2 ^ t)) k ≡ (eqb k t || bit s k)
 unfolding bit
 with-bit s t k =
     rw (or-shr s (2 ^ t) k, or-mod (s / 2 ^ k) (2 ^ t / 2 ^ k) 1, one-at t k (eqb k t) refl)
     (or-cases (eqb k t) (s / 2 ^ k % 2) (below-two _ (mod-lt (s / 2 ^ k) (lit< tt))))
+
+-- above all bits of s
+pub with-above : (s t r : ℕ) → t < 64 → r < 2 ^ 64 → s < 2 ^ t → ((k : ℕ) → bit r k ≡ (eqb k t || bit s k)) → r ≡ 2 ^ t + s
+with-above s t r h w l e =
+    let q : bitOr s (2 ^ t) ≡ 2 ^ t + s = ap (bitOr s) (sym (one-mul (2 ^ t))) ∙ or-shifted-r 1 t s l ∙ ap (λ (x : ℕ). x + s) (one-mul (2 ^ t)) in
+    let le : t ≤ 64 = omega arith in
+    bits-same 64 r (bitOr s (2 ^ t)) w (or-lt 64 s (2 ^ t) (lt-of-lt-of-le l (pow-mono le)) (pow-lt h)) (λ k. e k ∙ sym (with-bit s t k)) ∙ q
 
 pub without-bit : (s t k : ℕ) → bit s t ≡ true → bit (bitXor s (2 ^ t)) k ≡ (not (eqb k t) && bit s k)
 unfolding bit
