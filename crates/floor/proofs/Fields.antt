@@ -162,7 +162,7 @@ module _ (m : Model) (w : Whole m) where
 
   pub round-own : (t : ℕ) → t < total (m .settings) → isHopper (m .settings) t ≡ false → membersOf (afterRound m) t ≡ insertEach (comes m t) (stays m t)
   unfolding membersNext
-  round-own t h n = round-at t h ∙ rw n
+  round-own t h n = round-at t h ∙ ap (λ (b : Bool). cond b [] (insertEach (comes m t) (stays m t))) n
 
   pub round-members : (P : ℕ → List Canister → Type 0) → ((t : ℕ) → P t []) → ((t : ℕ) → t < total (m .settings) → isHopper (m .settings) t ≡ false → P t (insertEach (comes m t) (stays m t))) → (t : ℕ) → P t (membersOf (afterRound m) t)
   unfolding membersNext

@@ -94,11 +94,11 @@ fn added(came: Takings, more: Delivery) -> Takings
     requires { ⌜ came .found < 4 ⌝ }
     ensures { λ r. ⌜ (r .found ≡ came .found + 1) × (r .deliveries ≡ set (came .deliveries) (came .found) more) ⌝ }
 {
-    let mut d = came.deliveries;
+    let mut taken = came.deliveries;
     let k = came.found as usize;
-    d[k] = more;
+    taken[k] = more;
     Takings {
-        deliveries: d,
+        deliveries: taken,
         found: came.found + 1,
     }
 }
