@@ -65,3 +65,4 @@ pub mod StandingInstances
 pub mod LayoutInstances
 pub mod AnywhereInstances
 pub mod ListInstances
+pub mod TogetherInstances
