@@ -66,3 +66,4 @@ pub mod LayoutInstances
 pub mod AnywhereInstances
 pub mod ListInstances
 pub mod TogetherInstances
+pub mod FairnessInstances
