@@ -67,3 +67,4 @@ pub mod AnywhereInstances
 pub mod ListInstances
 pub mod TogetherInstances
 pub mod FairnessInstances
+pub mod ArrowInstances
