@@ -68,3 +68,4 @@ pub mod ListInstances
 pub mod TogetherInstances
 pub mod FairnessInstances
 pub mod ArrowInstances
+pub mod ReasonInstances
