@@ -69,3 +69,4 @@ pub mod TogetherInstances
 pub mod FairnessInstances
 pub mod ArrowInstances
 pub mod ReasonInstances
+pub mod PlacingInstances
