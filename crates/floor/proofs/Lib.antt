@@ -70,3 +70,4 @@ pub mod FairnessInstances
 pub mod ArrowInstances
 pub mod ReasonInstances
 pub mod PlacingInstances
+pub mod ReportInstances
