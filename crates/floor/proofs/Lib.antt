@@ -71,3 +71,4 @@ pub mod ArrowInstances
 pub mod ReasonInstances
 pub mod PlacingInstances
 pub mod ReportInstances
+pub mod Demand3Instances
