@@ -72,3 +72,4 @@ pub mod ReasonInstances
 pub mod PlacingInstances
 pub mod ReportInstances
 pub mod Demand3Instances
+pub mod NamedInstances
