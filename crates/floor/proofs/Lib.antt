@@ -73,3 +73,4 @@ pub mod PlacingInstances
 pub mod ReportInstances
 pub mod Demand3Instances
 pub mod NamedInstances
+pub mod LocalInstances
