@@ -74,3 +74,4 @@ pub mod ReportInstances
 pub mod Demand3Instances
 pub mod NamedInstances
 pub mod LocalInstances
+pub mod ChainInstances
