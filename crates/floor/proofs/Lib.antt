@@ -75,3 +75,4 @@ pub mod Demand3Instances
 pub mod NamedInstances
 pub mod LocalInstances
 pub mod ChainInstances
+pub mod PathInstances
