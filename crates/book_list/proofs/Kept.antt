@@ -9,10 +9,10 @@ use Rattle.floor.specs.declared.Booking.{Booking}
 use Rattle.floor.specs.declared.Floor.{Floor}
 use Rattle.floor.specs.Well.{wellFormed}
 use Rattle.floor.specs.Calls.{refusalOf, answer, bookAnswer}
-use Rattle.floor.specs.Bookings.{tooLong}
 use Rattle.floor.specs.Demand3.{book, Typed, outcome}
 use Rattle.floor.proofs.Lists.{call-keeps}
-use Rattle.book_list.specs.Parts.{entriesOf, entryOf, begunOf}
+use Rattle.floor.specs.Bookings.{single, tooLong}
+use Rattle.book_list.specs.Parts.{entriesOf, begunOf}
 
 pub book-malformed : (f : Floor) (t : ℕ) (c : Canister) → wellFormed f ≡ false → bookAnswer f t c ≡ record { refusal = 30; floor = f }
 unfolding bookAnswer answer refusalOf refusal
@@ -27,8 +27,7 @@ still f t c h = go (wellFormed f) refl
     go true w = rw w (call-keeps f w (book t c) h .0)
     go false w = rw (book-malformed f t c w)
 
-pub entry-still : (f : Floor) (b : Booking) → Typed (book (b .tile) (b .canister)) → wellFormed (entryOf f b .floor) ≡ wellFormed f
-unfolding entryOf
+pub entry-still : (f : Floor) (b : Booking) → Typed (book (b .tile) (b .canister)) → wellFormed (single f b .floor) ≡ wellFormed f
 entry-still f b h = still f (b .tile) (b .canister) h
 
 -- where there is a turn, the floor was checked

@@ -9,10 +9,10 @@ use Rattle.floor.specs.declared.Booking.{Booking}
 use Rattle.floor.specs.declared.Floor.{Floor}
 use Rattle.book_list.proofs.Upto.{floorUpto, listUpto}
 
-pub record EntriesBooked (f : Floor) (list : List Booking) (entries : ℕ) (well : Bool) (now : Floor) (places : List Booking) (i : ℕ) : Type 0 where
+pub record EntriesBooked (f : Floor) (list : List Booking) (entries : ℕ) (well : Bool) (current : Floor) (places : List Booking) (i : ℕ) : Type 0 where
   pub below : i ≤ entries
   pub few : entries ≤ 64
   pub list-length : length list ≡ 64
   pub answered : places ≡ listUpto i f list
-  pub floored : now ≡ floorUpto i f list
-  pub known : i < entries → well ≡ wellFormed now
+  pub floored : current ≡ floorUpto i f list
+  pub known : i < entries → well ≡ wellFormed current

@@ -7,9 +7,8 @@ use Rattle.floor.specs.declared.Booking.{Booking}
 use Rattle.floor.specs.declared.Floor.{Floor}
 use Rattle.floor.specs.declared.Answer.{Answer}
 use Rattle.floor.specs.Well.{wellFormed}
-use Rattle.floor.specs.Bookings.{answered, single, floorSingly, entriesSingly, tooLong}
+use Rattle.floor.specs.Bookings.{floorSingly, entriesSingly, tooLong}
 use Rattle.book_list.specs.declared.Begun.{Begun}
-use Rattle.book_list.specs.declared.Done.{Done}
 use Rattle.book_list.specs.declared.Listed.{Listed}
 
 -- how many of n entries are booked: all of them, or none
@@ -19,10 +18,6 @@ entriesOf n = cond (tooLong n) 0 n
 -- the floor is checked once, and not where the list is too long
 abbrev pub begunOf : Floor → ℕ → Begun
 begunOf f n = record { entries = entriesOf n; well = cond (tooLong n) false (wellFormed f) }
-
--- one entry booked
-unfoldable pub entryOf : Floor → Booking → Done
-entryOf f b = record { floor = single f b .floor; booking = answered b (single f b .refusal) }
 
 -- the call's own answer
 abbrev pub answerOf : ℕ → Floor → Answer

@@ -2,8 +2,8 @@
 // of them.
 ghost use mathlib.Core.Path.{_≡_};
 ghost use Rattle.floor.specs.Well.{wellFormed};
-ghost use Rattle.floor.specs.Bookings.{listAnswer, listAfter};
-ghost use Rattle.book_list.specs.Parts.{begunOf, entryOf, answerOf, placesAnswer};
+ghost use Rattle.floor.specs.Bookings.{single, listAnswer, listAfter};
+ghost use Rattle.book_list.specs.Parts.{begunOf, answerOf, placesAnswer};
 use book_call::book_checked;
 use check_floor::well_formed;
 use floor::Answer;
@@ -37,28 +37,12 @@ fn begin_list(floor: Floor, n: usize) -> Begun
     }
 }
 
-// One entry booked: the floor, and the entry with its answer.
-pub struct Done {
-    pub floor: Floor,
-    pub booking: Booking,
-}
-
 // Books one entry where it is known whether the floor is well formed; it is afterwards if it was before.
-fn book_entry(floor: Floor, b: Booking, well: bool) -> Done
+fn book_entry(floor: Floor, b: Booking, well: bool) -> Answer
     requires { ⌜ well ≡ wellFormed floor ⌝ }
-    ensures { λ r. ⌜ (r ≡ entryOf floor b) × (wellFormed (r .floor) ≡ wellFormed floor) ⌝ }
+    ensures { λ r. ⌜ (r ≡ single floor b) × (wellFormed (r .floor) ≡ wellFormed floor) ⌝ }
 {
-    let canister = b.canister;
-    let r = book_checked(floor, b.tile, canister, well);
-    let after = r.floor;
-    Done {
-        floor: after,
-        booking: Booking {
-            tile: b.tile,
-            canister: canister,
-            answer: r.refusal,
-        },
-    }
+    book_checked(floor, b.tile, b.canister, well)
 }
 
 // The call's own answer.
@@ -80,16 +64,16 @@ pub fn book_list(floor: Floor, list: &mut [Booking]) -> Answer
     ensures { λ r. ⌜ (r ≡ listAnswer floor (now (list .entry))) × (now (list .exit) ≡ listAfter floor (now (list .entry))) ⌝ }
 {
     let start = begin_list(floor, list.len());
-    let mut now = floor;
+    let mut current = floor;
     let mut i: usize = 0;
     while i < start.entries {
         let b = list[i];
-        let r = book_entry(now, b, start.well);
-        list[i] = r.booking;
-        now = r.floor;
+        let r = book_entry(current, b, start.well);
+        list[i].answer = r.refusal;
+        current = r.floor;
         i += 1;
     }
-    answer_of(list.len(), now)
+    answer_of(list.len(), current)
 }
 
 // A list by value: 64 places, with the answers of those that were used.
@@ -106,19 +90,17 @@ pub fn book_places(floor: Floor, list: [Booking; 64], n: usize) -> Listed
     let start = begin_list(floor, n);
     let entries = start.entries;
     let well = start.well;
-    let mut now = floor;
+    let mut current = floor;
     let mut places = list;
     for i in 0usize..entries {
         let b = places[i];
-        let r = book_entry(now, b, well);
-        let done = r.booking;
-        let after = r.floor;
-        places[i] = done;
-        now = after;
+        let r = book_entry(current, b, well);
+        places[i].answer = r.refusal;
+        current = r.floor;
     }
-    let own = answer_of(n, now);
+    let own = answer_of(n, current);
     Listed {
-        floor: now,
+        floor: current,
         list: places,
         refusal: own.refusal,
     }

@@ -1,4 +1,4 @@
--- `book_list::book_list` meets its contract: a walk of its MIR, by hand. The floor goes through the loop by value, and each entry is booked by the covered `book_entry`.
+-- `book_list::book_list` meets its contract: a walk of its MIR, by hand. The floor goes through the loop by value, each entry is booked by the covered `book_entry`, and its answer field is stored.
 use mathlib.Core.Path.{_≡_, refl, sym, _∙_, ap, subst}
 use Prim.Native.Nat.{ℕ, zero, suc, _+_, _-_, _*_, _<_, _≤_, _^_}
 use native.Mathlib.Nat.{lt-irrefl}
@@ -24,8 +24,8 @@ use contract.Running.{givenOf, tables, tablesOf}
 use sound.Loop.{loop-rule}
 use sound.WpLaws.{fmOf, WpFn-mono}
 use types.Kit.{Given, Item, ‵, raw, _⊛_, some, later, ⋆, anyQ, atRet, _$_, _∵_, !, qed, by, move, keep, drop, use1, use2, split, join, pick, rewrite, fsplit, fjoin, suffices, frame, await, done}
-use types.Part.{whole, sub, look-in}
-use types.Run.{look, look-raw, store, store-raw, init, forget, stop, hop, fld, from, load, lit, of-opd, bin, and-then, no-more, land, assigns, assigns-last, stays, leaves-loop, returns, enter, alloc1, alloc0, params1, pass1, pass0, free1, free0, exec}
+use types.Part.{whole, sub, look-in, store-in}
+use types.Run.{look, look-raw, store, init, forget, stop, hop, fld, from, load, lit, of-opd, bin, and-then, no-more, land, assigns, assigns-last, stays, leaves-loop, returns, enter, alloc1, alloc0, params1, pass1, pass0, free1, free0, exec}
 use denote.RattleType.{owns}
 use denote.Shadow.{pureI}
 use denote.Laws.{Is, shows}
@@ -50,10 +50,10 @@ use denote.Exit.{yes}
 use Rattle.floor.specs.declared.Booking.{Booking}
 use Rattle.floor.specs.declared.Floor.{Floor}
 use Rattle.floor.specs.declared.Answer.{Answer}
-use Rattle.book_list.specs.declared.Done.{Done}
 use Rattle.book_list.specs.declared.Begun.{Begun}
 use Rattle.floor.specs.Well.{wellFormed}
-use Rattle.book_list.specs.Parts.{entryOf, entriesOf, begunOf, answerOf}
+use Rattle.floor.specs.Bookings.{answered, single}
+use Rattle.book_list.specs.Parts.{entriesOf, begunOf, answerOf}
 use Rattle.book_list.proofs.Kept.{begun-well}
 use Rattle.book_list.proofs.Upto.{zeroBooking, floorUpto, listUpto, list-length, list-step, floor-step, entries-most, done-list, done-answer}
 use Rattle.floor.proofs.Booking as S
@@ -64,8 +64,6 @@ use Rattle.floor.proofs.Answer as R
 use Rattle.floor.proofs.Answer.Laws as R′
 use Rattle.book_list.proofs.Begun as E
 use Rattle.book_list.proofs.Begun.Laws as E′
-use Rattle.book_list.proofs.Done as D
-use Rattle.book_list.proofs.Done.Laws as D′
 use Rattle.book_list.proofs.begin_list as first
 use Rattle.book_list.proofs.begin_list.Symbol as first-def
 use Rattle.book_list.proofs.begin_list.Symbol.{name as #first}
@@ -101,15 +99,15 @@ valB = LL.val S.the-type S′.the-laws
 abbrev valZ : Floor → Val
 valZ = LL.val Z.the-type Z′.the-laws
 
-abbrev valD : Done → Val
-valD = LL.val D.the-type D′.the-laws
+abbrev valR : Answer → Val
+valR = LL.val R.the-type R′.the-laws
 
 abbrev valE : Begun → Val
 valE = LL.val E.the-type E′.the-laws
 
 -- what one entry's booking ensures
-abbrev Booked : Floor → Booking → Done → Type 0
-Booked z y r = (r ≡ entryOf z y) × (wellFormed (r .floor) ≡ wellFormed z)
+abbrev Booked : Floor → Booking → Answer → Type 0
+Booked z y r = (r ≡ single z y) × (wellFormed (r .floor) ≡ wellFormed z)
 
 abbrev word : Ty
 word = tyInt w64
@@ -119,7 +117,7 @@ slice = sliceTy (tyRef (named 0) mut (pointee (S.the-row .written)))
 
 -- the function's MIR with its locals' types by the names that the walk uses
 abbrev locals : List Local
-locals = local R′.mir valueLocal ∷ local Z′.mir valueLocal ∷ local slice valueLocal ∷ local E′.mir valueLocal ∷ local Z′.mir valueLocal ∷ local word valueLocal ∷ local S′.mir valueLocal ∷ local D′.mir valueLocal ∷ local word valueLocal ∷ local tyBool valueLocal ∷ local word valueLocal ∷ local tyPtr valueLocal ∷ local S′.mir valueLocal ∷ local tyPtr valueLocal ∷ []
+locals = local R′.mir valueLocal ∷ local Z′.mir valueLocal ∷ local slice valueLocal ∷ local E′.mir valueLocal ∷ local Z′.mir valueLocal ∷ local word valueLocal ∷ local S′.mir valueLocal ∷ local R′.mir valueLocal ∷ local word valueLocal ∷ local tyBool valueLocal ∷ local word valueLocal ∷ local tyPtr valueLocal ∷ local S′.mir valueLocal ∷ local tyPtr valueLocal ∷ []
 
 abbrev function : Fn
 function = record { lifetimes = 1; outlives = []; params = 2; locals = locals; body = steps.t-1 }
@@ -141,7 +139,7 @@ module _ {M : Type 1} (𝓤 : URA M) (H : Heap 𝓤) (A : Atoms 𝓤) (at-mem : 
   first-of : (z : Floor) (k : ℕ) (r : Begun) → ent 𝓤 (ensured 𝓤 H A first.ended (first.clauses 𝓤 H A at-mem run) tt (z, (k, tt)) tt r) (fact 𝓤 (r ≡ begunOf z k))
   first-of z k r = exE 𝓤 _ (λ ws. snd∗ 𝓤 (sem 𝓤 H A (lasts first.ended tt (z, (k, tt)) ws)) (fact 𝓤 (r ≡ begunOf z k)))
 
-  made-of : (z : Floor) (y : Booking) (w : Bool) (r : Done) → ent 𝓤 (ensured 𝓤 H A one.ended (one.clauses 𝓤 H A at-mem run) tt (z, (y, (w, tt))) tt r) (fact 𝓤 (Booked z y r))
+  made-of : (z : Floor) (y : Booking) (w : Bool) (r : Answer) → ent 𝓤 (ensured 𝓤 H A one.ended (one.clauses 𝓤 H A at-mem run) tt (z, (y, (w, tt))) tt r) (fact 𝓤 (Booked z y r))
   made-of z y w r = exE 𝓤 _ (λ ws. snd∗ 𝓤 (sem 𝓤 H A (lasts one.ended tt (z, (y, (w, tt))) ws)) (fact 𝓤 (Booked z y r)))
 
   last-of : (k : ℕ) (z : Floor) (r : Answer) → ent 𝓤 (ensured 𝓤 H A last.ended (last.clauses 𝓤 H A at-mem run) tt (k, (z, tt)) tt r) (fact 𝓤 (r ≡ answerOf k z))
@@ -213,11 +211,11 @@ module _ {M : Type 1} (𝓤 : URA M) (H : Heap 𝓤) (A : Atoms 𝓤) (W : Given
     Λ = 𝓣 .Λ
 
     abbrev En : Env 𝓤 H
-    En = (R′.mir, l₀) ∷ (Z′.mir, l₁) ∷ (slice, l₂) ∷ (E′.mir, l₃) ∷ (Z′.mir, l₄) ∷ (word, l₅) ∷ (S′.mir, l₆) ∷ (D′.mir, l₇) ∷ (word, l₈) ∷ (tyBool, l₉) ∷ (word, l₁₀) ∷ (tyPtr, l₁₁) ∷ (S′.mir, l₁₂) ∷ (tyPtr, l₁₃) ∷ []
+    En = (R′.mir, l₀) ∷ (Z′.mir, l₁) ∷ (slice, l₂) ∷ (E′.mir, l₃) ∷ (Z′.mir, l₄) ∷ (word, l₅) ∷ (S′.mir, l₆) ∷ (R′.mir, l₇) ∷ (word, l₈) ∷ (tyBool, l₉) ∷ (word, l₁₀) ∷ (tyPtr, l₁₁) ∷ (S′.mir, l₁₂) ∷ (tyPtr, l₁₃) ∷ []
 
     -- after i entries
     abbrev I : ℕ → List (Item 𝓤)
-    I i = ‵ (row S.the-row fullShare (listUpto i s xs) b o) ∷ ‵ (fobor κ q (Held S.the-row n b o γ)) ∷ ‵ (fobs γ (codedHoleys S.the-row .code (heres S.the-row xs))) ∷ ‵ (fauth γ (codedHoleys S.the-row .code (heres S.the-row xs))) ∷ ‵ (Z.the-row .own (floorUpto i s xs) (valZ (floorUpto i s xs) ∷ [])) ∷ ‵ (froom tyPtr l₁₃ 0) ∷ ‵ (froom S′.mir l₁₂ 0) ∷ ‵ (froom tyPtr l₁₁ 0) ∷ ‵ (froom word l₁₀ 0) ∷ ‵ (froom tyBool l₉ 0) ∷ ‵ (fat fullShare word l₈ 0 (vint w64 n)) ∷ ‵ (froom D′.mir l₇ 0) ∷ ‵ (froom S′.mir l₆ 0) ∷ ‵ (fat fullShare word l₅ 0 (vint w64 i)) ∷ ‵ (fat fullShare Z′.mir l₄ 0 (valZ (floorUpto i s xs))) ∷ ‵ (fat fullShare E′.mir l₃ 0 (valE start)) ∷ ‵ (fat fullShare slice l₂ 0 (sliceVal (b, o) n)) ∷ ‵ (fat fullShare Z′.mir l₁ 0 (valZ s)) ∷ ‵ (froom R′.mir l₀ 0) ∷ ‵ (fdies tyPtr l₁₃) ∷ ‵ (fdies S′.mir l₁₂) ∷ ‵ (fdies tyPtr l₁₁) ∷ ‵ (fdies word l₁₀) ∷ ‵ (fdies tyBool l₉) ∷ ‵ (fdies word l₈) ∷ ‵ (fdies D′.mir l₇) ∷ ‵ (fdies S′.mir l₆) ∷ ‵ (fdies word l₅) ∷ ‵ (fdies Z′.mir l₄) ∷ ‵ (fdies E′.mir l₃) ∷ ‵ (fdies slice l₂) ∷ ‵ (fdies Z′.mir l₁) ∷ ‵ (fdies R′.mir l₀) ∷ []
+    I i = ‵ (row S.the-row fullShare (listUpto i s xs) b o) ∷ ‵ (fobor κ q (Held S.the-row n b o γ)) ∷ ‵ (fobs γ (codedHoleys S.the-row .code (heres S.the-row xs))) ∷ ‵ (fauth γ (codedHoleys S.the-row .code (heres S.the-row xs))) ∷ ‵ (Z.the-row .own (floorUpto i s xs) (valZ (floorUpto i s xs) ∷ [])) ∷ ‵ (froom tyPtr l₁₃ 0) ∷ ‵ (froom S′.mir l₁₂ 0) ∷ ‵ (froom tyPtr l₁₁ 0) ∷ ‵ (froom word l₁₀ 0) ∷ ‵ (froom tyBool l₉ 0) ∷ ‵ (fat fullShare word l₈ 0 (vint w64 n)) ∷ ‵ (froom R′.mir l₇ 0) ∷ ‵ (froom S′.mir l₆ 0) ∷ ‵ (fat fullShare word l₅ 0 (vint w64 i)) ∷ ‵ (fat fullShare Z′.mir l₄ 0 (valZ (floorUpto i s xs))) ∷ ‵ (fat fullShare E′.mir l₃ 0 (valE start)) ∷ ‵ (fat fullShare slice l₂ 0 (sliceVal (b, o) n)) ∷ ‵ (fat fullShare Z′.mir l₁ 0 (valZ s)) ∷ ‵ (froom R′.mir l₀ 0) ∷ ‵ (fdies tyPtr l₁₃) ∷ ‵ (fdies S′.mir l₁₂) ∷ ‵ (fdies tyPtr l₁₁) ∷ ‵ (fdies word l₁₀) ∷ ‵ (fdies tyBool l₉) ∷ ‵ (fdies word l₈) ∷ ‵ (fdies R′.mir l₇) ∷ ‵ (fdies S′.mir l₆) ∷ ‵ (fdies word l₅) ∷ ‵ (fdies Z′.mir l₄) ∷ ‵ (fdies E′.mir l₃) ∷ ‵ (fdies slice l₂) ∷ ‵ (fdies Z′.mir l₁) ∷ ‵ (fdies R′.mir l₀) ∷ []
 
     abbrev Inv : ℕ → SProp 𝓤
     Inv t = guard 𝓤 ((t ≤ m) × Kept (m - t)) (⋆ 𝓤 H A (I (m - t)))
@@ -244,24 +242,24 @@ module _ {M : Type 1} (𝓤 : URA M) (H : Heap 𝓤) (A : Atoms 𝓤) (W : Given
         assigns ! (of-opd ! (load ! (from ! (stop !)) (look ! 8 refl))) (from ! (stop !)) (init ! 14 refl (typedB y (valB y) was)) $
         move ! (6 ∷ 1 ∷ []) $ use2 W (raw (One 𝓤 H A at-mem run .pre (to-one z y w))) (goes-one z y w checked) $
         calls-at ! (fmOf 𝓤 H (W .laws) 𝓣) (One 𝓤 H A at-mem run) known-one (to-one z y w) (and-then ! (load ! (from ! (stop !)) (look ! 15 refl)) (and-then ! (load ! (from ! (stop !)) (look ! 13 refl)) (and-then ! (load ! (from ! (fld ! refl (stop !))) (look-in ! 16 (sub ! 1 refl (whole !)))) (no-more !)))) (λ v.
-        use1 W (later (some (λ (r : Done). (‵ ftrue ⊛ ‵ (D.the-row .own r (v ∷ []))) ⊛ raw (ensured 𝓤 H A one.ended (one.clauses 𝓤 H A at-mem run) tt (z, (y, (w, tt))) tt r)))) (id⊢ 𝓤 _) $ await ! tt $ pick ! (λ r.
+        use1 W (later (some (λ (r : Answer). (‵ ftrue ⊛ ‵ (R.the-row .own r (v ∷ []))) ⊛ raw (ensured 𝓤 H A one.ended (one.clauses 𝓤 H A at-mem run) tt (z, (y, (w, tt))) tt r)))) (id⊢ 𝓤 _) $ await ! tt $ pick ! (λ r.
         split ! $ move ! (1 ∷ []) $ use1 W (raw (fact 𝓤 (Booked z y r))) (made-of 𝓤 H A at-mem run z y w r) $ heard ! (Booked z y r) (λ e. split ! $ drop ! $
-        peeks ! D.the-row (Is D.the-row) (shows 𝓤 H A D.the-row) r (v ∷ []) (λ is.
-        land ! (from ! (stop !)) (init ! 12 refl (LL.lawful D.the-type D′.the-laws 𝓤 H A W .typed r (v ∷ []) is .0)) $
-        rewrite ! 12 (λ (w : Val). ‵ (fat fullShare D′.mir l₇ 0 w)) (ap only (LL.tells D.the-type D′.the-laws r (v ∷ []) is)) refl $ drop ! $
+        peeks ! R.the-row (Is R.the-row) (shows 𝓤 H A R.the-row) r (v ∷ []) (λ is.
+        land ! (from ! (stop !)) (init ! 12 refl (LL.lawful R.the-type R′.the-laws 𝓤 H A W .typed r (v ∷ []) is .0)) $
+        rewrite ! 12 (λ (w : Val). ‵ (fat fullShare R′.mir l₇ 0 w)) (ap only (LL.tells R.the-type R′.the-laws r (v ∷ []) is)) refl $ drop ! $
         -- [the element's cell; the others; the open borrow; obs; auth; _13; .. ; _0; ..]
         assigns ! (bin ! (load ! (from ! (stop !)) (look ! 13 refl)) (lit ! tt) (record { fits = scaled })) (from ! (stop !)) (store ! 8 refl (tt, record { fits = scaled })) $
         assigns ! (bin ! (load ! (from ! (fld ! refl (stop !))) (look-in ! 16 (sub ! 0 refl (whole !)))) (load ! (from ! (stop !)) (look ! 8 refl)) tt) (from ! (stop !)) (init ! 5 refl (tt, tt)) $
         rewrite ! 5 (λ (k : ℕ). ‵ (fat fullShare tyPtr l₁₃ 0 (vptr b k))) (sym (place-is 16 o i)) refl $
-        assigns ! (of-opd ! (load ! (from ! (fld ! refl (stop !))) (look-in ! 11 (sub ! 1 refl (whole !))))) (from ! (hop ! (look ! 5 refl) (stop !))) (store-raw ! 0 refl (typedB (r .booking) (valB (r .booking)) (is-b r v is))) $
+        assigns ! (of-opd ! (load ! (from ! (fld ! refl (stop !))) (look-in ! 11 (sub ! 1 refl (whole !))))) (from ! (hop ! (look ! 5 refl) (fld ! refl (stop !)))) (store-in ! 0 (sub ! 2 refl (whole !)) (tt, record { fits = number-fits r v is })) $
         assigns ! (of-opd ! (load ! (from ! (fld ! refl (stop !))) (look-in ! 11 (sub ! 0 refl (whole !))))) (from ! (stop !)) (store ! 14 refl (typedZ (r .floor) (is-z r v is))) $
-        owned ! S.the-row (Is S.the-row) (LL.makes S.the-type S′.the-plain 𝓤 H A) (r .booking) (valB (r .booking) ∷ []) (is-b r v is) $
-        move ! (1 ∷ 0 ∷ []) $ elem-put ! S.the-row fullShare (listUpto i s xs) i (r .booking) (valB (r .booking) ∷ []) b o inside $
+        owned ! S.the-row (Is S.the-row) (LL.makes S.the-type S′.the-plain 𝓤 H A) (written r) (valB (written r) ∷ []) (is-b r v is was) $
+        move ! (1 ∷ 0 ∷ []) $ elem-put ! S.the-row fullShare (listUpto i s xs) i (written r) (valB (written r) ∷ []) b o inside $
         assigns-last ! (bin ! (load ! (from ! (stop !)) (look ! 12 refl)) (lit ! tt) (record { fits = next-fits })) (from ! (stop !)) (store ! 12 refl (tt, record { fits = next-fits })) $
         forget ! 4 refl $ forget ! 5 refl $ forget ! 6 refl $ forget ! 7 refl $ forget ! 8 refl $ forget ! 10 refl $ forget ! 11 refl $
         owned ! Z.the-row (Is Z.the-row) (LL.makes Z.the-type Z′.the-plain 𝓤 H A) (r .floor) (valZ (r .floor) ∷ []) (is-z r v is) $ move ! (1 ∷ 2 ∷ 3 ∷ 4 ∷ []) $
         rewrite ! 13 (λ (j : ℕ). ‵ (fat fullShare word l₅ 0 (vint w64 j))) (add-one i) refl $
-        rewrite ! 0 (λ (ws : List Booking). ‵ (row S.the-row fullShare ws b o)) (ap (λ (t : Done). set (listUpto i s xs) i (t .booking)) (e .0) ∙ list-step i s xs zeroBooking small) refl $
+        rewrite ! 0 (λ (ws : List Booking). ‵ (row S.the-row fullShare ws b o)) (ap (λ (t : Answer). set (listUpto i s xs) i (written t)) (e .0) ∙ list-step i s xs zeroBooking small) refl $
         rewrite ! 4 (λ (t : Floor). ‵ (Z.the-row .own t (valZ t ∷ []))) (next r (e .0)) refl $
         rewrite ! 14 (λ (t : Floor). ‵ (fat fullShare Z′.mir l₄ 0 (valZ t))) (next r (e .0)) refl $ by ! (k (again r e)))))))
       where
@@ -277,6 +275,9 @@ module _ {M : Type 1} (𝓤 : URA M) (H : Heap 𝓤) (A : Atoms 𝓤) (W : Given
         w : Bool
         w = start .well
 
+        written : Answer → Booking
+        written r = answered y (r .refusal)
+
         checked : w ≡ wellFormed z
         checked = begun-well s n i turn ∙ sym kept
 
@@ -289,10 +290,10 @@ module _ {M : Type 1} (𝓤 : URA M) (H : Heap 𝓤) (A : Atoms 𝓤) (W : Given
         next-fits : i + 1 < 2 ^ 64
         next-fits = omega (arith, small, g .0)
 
-        next : (r : Done) → r ≡ entryOf z y → r .floor ≡ floorUpto (suc i) s xs
-        next r e = ap (λ (t : Done). t .floor) e ∙ floor-step i s xs zeroBooking small
+        next : (r : Answer) → r ≡ single z y → r .floor ≡ floorUpto (suc i) s xs
+        next r e = ap (λ (t : Answer). t .floor) e ∙ floor-step i s xs zeroBooking small
 
-        again : (r : Done) → Booked z y r → Kept (suc i)
+        again : (r : Answer) → Booked z y r → Kept (suc i)
         again r e = ap wellFormed (sym (next r (e .0))) ∙ e .1 ∙ kept
 
         typedB : (t : Booking) (v : Val) → Is S.the-row t (v ∷ []) → T (hasTy S′.mir v) × WT v
@@ -301,14 +302,20 @@ module _ {M : Type 1} (𝓤 : URA M) (H : Heap 𝓤) (A : Atoms 𝓤) (W : Given
         typedZ : (t : Floor) → Is Z.the-row t (valZ t ∷ []) → T (hasTy Z′.mir (valZ t)) × WT (valZ t)
         typedZ t is = LL.lawful Z.the-type Z′.the-laws 𝓤 H A W .typed t (valZ t ∷ []) is .0
 
-        parts : (r : Done) (v : Val) → Is D.the-row r (v ∷ []) → Is D.the-row r (valD r ∷ [])
-        parts r v is = subst (Is D.the-row r) (LL.tells D.the-type D′.the-laws r (v ∷ []) is) is
+        parts : (r : Answer) (v : Val) → Is R.the-row r (v ∷ []) → Is R.the-row r (valR r ∷ [])
+        parts r v is = subst (Is R.the-row r) (LL.tells R.the-type R′.the-laws r (v ∷ []) is) is
 
-        is-z : (r : Done) (v : Val) → Is D.the-row r (v ∷ []) → Is Z.the-row (r .floor) (valZ (r .floor) ∷ [])
-        is-z r v is = LL.owed D.the-type D′.the-laws r (valD r ∷ []) (parts r v is) .0
+        is-z : (r : Answer) (v : Val) → Is R.the-row r (v ∷ []) → Is Z.the-row (r .floor) (valZ (r .floor) ∷ [])
+        is-z r v is = LL.owed R.the-type R′.the-laws r (valR r ∷ []) (parts r v is) .0
 
-        is-b : (r : Done) (v : Val) → Is D.the-row r (v ∷ []) → Is S.the-row (r .booking) (valB (r .booking) ∷ [])
-        is-b r v is = LL.owed D.the-type D′.the-laws r (valD r ∷ []) (parts r v is) .1 .0
+        number-fits : (r : Answer) (v : Val) → Is R.the-row r (v ∷ []) → r .refusal < 2 ^ 8
+        number-fits r v is = LL.owed R.the-type R′.the-laws r (valR r ∷ []) (parts r v is) .1 .0 .1
+
+        -- the entry's tile and canister stay
+        is-b : (r : Answer) (v : Val) → Is R.the-row r (v ∷ []) → Is S.the-row y (valB y ∷ []) → Is S.the-row (written r) (valB (written r) ∷ [])
+        is-b r v is was =
+            let p = LL.owed S.the-type S′.the-laws y (valB y ∷ []) was in
+            LL.owes S.the-type S′.the-laws (written r) (p .0, (p .1 .0, ((refl, number-fits r v is), tt)))
 
     ends : (X : SProp 𝓤) → ent 𝓤 (⋆ 𝓤 H A (I m)) (Wp 𝓤 H C Λ En steps.turn-1 (afterTurn 𝓤 H X Left))
     unfolding afterTurn
@@ -348,7 +355,7 @@ module _ {M : Type 1} (𝓤 : URA M) (H : Heap 𝓤) (A : Atoms 𝓤) (W : Given
 
     -- where the loop begins, with the arguments not yet taken apart
     abbrev G : List (Item 𝓤)
-    G = ‵ (froom tyPtr l₁₃ 0) ∷ ‵ (fdies tyPtr l₁₃) ∷ ‵ (froom S′.mir l₁₂ 0) ∷ ‵ (fdies S′.mir l₁₂) ∷ ‵ (froom tyPtr l₁₁ 0) ∷ ‵ (fdies tyPtr l₁₁) ∷ ‵ (froom word l₁₀ 0) ∷ ‵ (fdies word l₁₀) ∷ ‵ (froom tyBool l₉ 0) ∷ ‵ (fdies tyBool l₉) ∷ ‵ (fat fullShare word l₈ 0 (vint w64 n)) ∷ ‵ (fdies word l₈) ∷ ‵ (froom D′.mir l₇ 0) ∷ ‵ (fdies D′.mir l₇) ∷ ‵ (froom S′.mir l₆ 0) ∷ ‵ (fdies S′.mir l₆) ∷ ‵ (fat fullShare word l₅ 0 (vint w64 0)) ∷ ‵ (fdies word l₅) ∷ ‵ (fat fullShare Z′.mir l₄ 0 (valZ s)) ∷ ‵ (fdies Z′.mir l₄) ∷ ‵ (fat fullShare E′.mir l₃ 0 (valE start)) ∷ ‵ (fdies E′.mir l₃) ∷ ‵ (fat fullShare slice l₂ 0 (sliceVal (b, o) n)) ∷ ‵ (fdies slice l₂) ∷ ‵ (fat fullShare Z′.mir l₁ 0 (valZ s)) ∷ ‵ (fdies Z′.mir l₁) ∷ ‵ (froom R′.mir l₀ 0) ∷ ‵ (fdies R′.mir l₀) ∷ (‵ (flft κ q) ⊛ ‵ ftrue) ∷ ‵ (owns (Z.the-row ∷ MutSlice (named 0) κ S.the-row ∷ []) x at) ∷ []
+    G = ‵ (froom tyPtr l₁₃ 0) ∷ ‵ (fdies tyPtr l₁₃) ∷ ‵ (froom S′.mir l₁₂ 0) ∷ ‵ (fdies S′.mir l₁₂) ∷ ‵ (froom tyPtr l₁₁ 0) ∷ ‵ (fdies tyPtr l₁₁) ∷ ‵ (froom word l₁₀ 0) ∷ ‵ (fdies word l₁₀) ∷ ‵ (froom tyBool l₉ 0) ∷ ‵ (fdies tyBool l₉) ∷ ‵ (fat fullShare word l₈ 0 (vint w64 n)) ∷ ‵ (fdies word l₈) ∷ ‵ (froom R′.mir l₇ 0) ∷ ‵ (fdies R′.mir l₇) ∷ ‵ (froom S′.mir l₆ 0) ∷ ‵ (fdies S′.mir l₆) ∷ ‵ (fat fullShare word l₅ 0 (vint w64 0)) ∷ ‵ (fdies word l₅) ∷ ‵ (fat fullShare Z′.mir l₄ 0 (valZ s)) ∷ ‵ (fdies Z′.mir l₄) ∷ ‵ (fat fullShare E′.mir l₃ 0 (valE start)) ∷ ‵ (fdies E′.mir l₃) ∷ ‵ (fat fullShare slice l₂ 0 (sliceVal (b, o) n)) ∷ ‵ (fdies slice l₂) ∷ ‵ (fat fullShare Z′.mir l₁ 0 (valZ s)) ∷ ‵ (fdies Z′.mir l₁) ∷ ‵ (froom R′.mir l₀ 0) ∷ ‵ (fdies R′.mir l₀) ∷ (‵ (flft κ q) ⊛ ‵ ftrue) ∷ ‵ (owns (Z.the-row ∷ MutSlice (named 0) κ S.the-row ∷ []) x at) ∷ []
 
     starts : ent 𝓤 (⋆ 𝓤 H A G) (Wp 𝓤 H C Λ En steps.t-5 (atReturn 𝓤 H En Post))
     starts =

@@ -1,14 +1,14 @@
 use mathlib.Core.Path.{_≡_, refl, sym, ap, _∙_, subst}
-use mathlib.Core.List.{_++_}
+use mathlib.Core.List.{List, _++_}
 use Prim.Native.Nat.{ℕ, _-_, _<_}
 use native.Mathlib.Omega.{arith}
 use native.Mathlib.Numerals.{add-one}
 use lib.ListN.{length, set, getD, take, drop}
 use Rattle.floor.specs.declared.Answer.{Answer}
-use Rattle.floor.specs.Bookings.{floorSingly, entriesSingly}
+use Rattle.floor.specs.declared.Booking.{Booking}
 use Rattle.book_list.specs.declared.Begun.{Begun}
-use Rattle.book_list.specs.declared.Done.{Done}
-use Rattle.book_list.specs.Parts.{entryOf, entriesOf, placesAnswer}
+use Rattle.floor.specs.Bookings.{answered, single, floorSingly, entriesSingly}
+use Rattle.book_list.specs.Parts.{entriesOf, placesAnswer}
 use Rattle.book_list.proofs.Upto.{zeroBooking, floorUpto, listUpto, list-step, floor-step, upto-floor, upto-list, entries-few}
 use Rattle.book_list.proofs.Kept.{begun-well}
 use Rattle.book_list.proofs.Loops.{EntriesBooked}
@@ -22,10 +22,10 @@ use Rattle.book_list.proofs.begin_list.Reads as begin-list-reads
 use Rattle.book_list.proofs.book_entry.Reads as book-entry-reads
 
 abbrev Inv-loop : tie.InvT-loop
-Inv-loop n entries well now₀ places₀ i₀ now places i = EntriesBooked now₀ places₀ entries well now places i
+Inv-loop n entries well current₀ places₀ i₀ current places i = EntriesBooked current₀ places₀ entries well current places i
 
 abbrev μ-loop : tie.MeasureT-loop
-μ-loop n entries well now₀ places₀ i₀ now places i = entries - i
+μ-loop n entries well current₀ places₀ i₀ current places i = entries - i
 
 begin-list-requires : tie.Need-begin-list-requires Inv-loop μ-loop
 begin-list-requires c κs = search needs
@@ -55,8 +55,8 @@ book-entry-requires c κs = c .before .before .loop .inv .known (omega arith)
 mul-places : tie.Need-mul-places Inv-loop μ-loop
 mul-places c = search needs
 
-array-set-from-places : tie.Need-array-set-from-places Inv-loop μ-loop
-array-set-from-places c = omega arith
+way-write-given-places : tie.Need-way-write-given-places Inv-loop μ-loop
+way-write-given-places c = (omega arith, tt)
 
 add-i : tie.Need-add-i Inv-loop μ-loop
 add-i c = search needs
@@ -66,20 +66,19 @@ loop-less c = search needs
 
 loop-again : tie.Need-loop-again Inv-loop μ-loop
 loop-again c =
-    let p = c .before .before .before in
-    let o = p .before .before in
+    let o = c .before .before .before .before .before in
     let l = o .loop in
     let g = o .before .before .args in
     let r = c .before .before .book-entry in
     let small : l .i < length (g.list) = omega arith in
-    let e : r .result ≡ entryOf (floorUpto (l .i) g.floor g.list) (getD (listUpto (l .i) g.floor g.list) (l .i) zeroBooking) =
-    r .ensures .0 ∙ (λ j. entryOf (l .inv .floored j) (getD (l .inv .answered j) (l .i) zeroBooking)) in
+    let y : List Booking → Booking = λ t. getD t (l .i) zeroBooking in
+    let e : r .result ≡ single (floorUpto (l .i) g.floor g.list) (y (listUpto (l .i) g.floor g.list)) = r .ensures .0 ∙ (λ j. single (l .inv .floored j) (y (l .inv .answered j))) in
     record {
       below = omega arith;
       few = l .inv .few;
       list-length = l .inv .list-length;
-      answered = (λ j. set (l .inv .answered j) (l .i) (e j .booking)) ∙ list-step (l .i) g.floor g.list zeroBooking small ∙ ap (λ (k : ℕ). listUpto k g.floor g.list) (sym (add-one (l .i)));
-      floored = ap (λ (d : Done). d .floor) e ∙ floor-step (l .i) g.floor g.list zeroBooking small ∙ ap (λ (k : ℕ). floorUpto k g.floor g.list) (sym (add-one (l .i)));
+      answered = (λ j. set (l .inv .answered j) (l .i) (answered (y (l .inv .answered j)) (e j .refusal))) ∙ list-step (l .i) g.floor g.list zeroBooking small ∙ ap (λ (k : ℕ). listUpto k g.floor g.list) (sym (add-one (l .i)));
+      floored = ap (λ (a : Answer). a .floor) e ∙ floor-step (l .i) g.floor g.list zeroBooking small ∙ ap (λ (k : ℕ). floorUpto k g.floor g.list) (sym (add-one (l .i)));
       known = λ h. l .inv .known (omega arith) ∙ sym (r .ensures .1);
     }
 
@@ -95,10 +94,10 @@ returns c =
     let b = o .before .begin-list in
     let z : l .i ≡ b .result .entries = omega arith in
     let k : l .i ≡ entriesOf g.n = z ∙ ap (λ (x : Begun). x .entries) (b .ensures) in
-    let pf : l .now ≡ floorSingly g.floor (take (entriesOf g.n) g.list) = l .inv .floored ∙ ap (λ (j : ℕ). floorUpto j g.floor g.list) k ∙ upto-floor (entriesOf g.n) g.floor g.list in
+    let pf : l .current ≡ floorSingly g.floor (take (entriesOf g.n) g.list) = l .inv .floored ∙ ap (λ (j : ℕ). floorUpto j g.floor g.list) k ∙ upto-floor (entriesOf g.n) g.floor g.list in
     let pl : l .places ≡ entriesSingly g.floor (take (entriesOf g.n) g.list) ++ drop (entriesOf g.n) g.list = l .inv .answered ∙ ap (λ (j : ℕ). listUpto j g.floor g.list) k ∙ upto-list (entriesOf g.n) g.floor g.list in
     let pr = ap (λ (a : Answer). a .refusal) (c .answer-of .ensures) in
     λ i. record { floor = pf i; list = pl i; refusal = pr i }
 
 pub book-places-spec : {M : Type 1} → statement M
-book-places-spec = tie.close (tie.spec Inv-loop μ-loop begin-list-requires loop-holds mul-b array-copy-out-b book-entry-requires mul-places array-set-from-places add-i loop-less loop-again answer-of-requires returns)
+book-places-spec = tie.close (tie.spec Inv-loop μ-loop begin-list-requires loop-holds mul-b array-copy-out-b book-entry-requires mul-places way-write-given-places add-i loop-less loop-again answer-of-requires returns)
