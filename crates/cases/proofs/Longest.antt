@@ -1,9 +1,9 @@
--- "The longest image is 8,908 bytes": a well-formed floor has an image of that length. That none is longer is `image-most` in crates/image/proofs/Promises.antt.
-use mathlib.Core.Path.{_≡_, refl}
+-- "The longest image is 8,908 bytes": a well-formed floor has an image of that length, and by `most` of the theorem `images` none is longer.
+use mathlib.Core.Path.{_≡_, refl, sym, subst}
 use mathlib.Core.Logic.{_≢_}
 use mathlib.Core.Bool.{Bool, true, cond, not, _&&_}
 use mathlib.Core.List.{List, [], _∷_}
-use Prim.Native.Nat.{ℕ, _+_, _-_, _*_, _/_, _%_, _^_, _<_}
+use Prim.Native.Nat.{ℕ, _+_, _-_, _*_, _/_, _%_, _^_, _≤_, _<_}
 use native.Mathlib.Omega.{arith}
 use lib.Dec.{ltb, eqb}
 use lib.ListN.{length, replicate}
@@ -15,6 +15,7 @@ use Rattle.laws.proofs.Lists.{all-imp}
 use Rattle.floor.specs.declared.Canister.{Canister}
 use Rattle.floor.specs.declared.Settings.{Settings}
 use Rattle.floor.specs.declared.Layout.{Layout}
+use Rattle.floor.specs.declared.Floor.{Floor}
 use Rattle.floor.specs.Settings.{isHopper, hoppersOf, settingsTests, settingsRefusal, settingsPass}
 use Rattle.floor.specs.Layouts.{letters, isLetter, spelled, nameOk, layoutOk, layoutsSound}
 use Rattle.floor.specs.Model.{TileState, Model, numbersOn}
@@ -24,6 +25,7 @@ use Rattle.floor.proofs.Well.{sound-fact}
 use Rattle.floor.proofs.Capacity.{view-packed, well-pack}
 use Rattle.image.specs.Image.{several, encode}
 use Rattle.image.proofs.Sizes.{tileSize, encode-size}
+use Rattle.image.proofs.Theorem.{images}
 
 -- ---- the floor: 8 x 8 tiles, tile 0 the hopper
 -- d = 30 and (100 - 10) div 30 = 3: four places along each axis
@@ -88,3 +90,7 @@ longest-well = well-pack longest longest-sound
 pub longest-reached : length (encode (view (pack longest))) ≡ 8908
 unfolding settings tile layout longest tab sum tileSize several hoppersOf bitsBelow bit
 longest-reached = rw (view-packed longest (sound-fact longest .0 longest-sound)) (encode-size longest)
+
+-- the greatest length of an image is that of this one
+pub longest-image : (length (encode (view (pack longest))) ≡ 8908) × ((f : Floor) → wellFormed f ≡ true → length (encode (view f)) ≤ length (encode (view (pack longest))))
+longest-image = (longest-reached, λ f w. subst (λ (n : ℕ). length (encode (view f)) ≤ n) (sym longest-reached) (images .floors f w .most))

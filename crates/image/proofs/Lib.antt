@@ -11,3 +11,4 @@ pub mod Before
 pub mod Theorem
 pub mod Trials
 pub mod LayoutTrials
+pub mod Instances

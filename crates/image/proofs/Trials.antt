@@ -24,7 +24,7 @@ shows xs k = eqb (loadAnswer xs .refusal) k
 
 -- ---- the floors
 -- "a fresh floor, H 1, U 100, l 30, r 10, v 20, every tile but the hopper a fill tile"; W 2, hopper 1
-unfoldable blank : Floor
+unfoldable pub blank : Floor
 blank = fresh 2 1 1
 
 -- with canister 5 at (70, 7) on tile 0
@@ -36,11 +36,11 @@ unfoldable moved : Floor
 moved = rounds 1 (book 9 13 5 2 (book 4 0 7 1 (rounds 2 (fresh 3 1 0))))
 
 -- W 4, hoppers 0 and 3, after a round: 4 and 8 delivered to hopper 0, 10 to hopper 3, and 9 on tile 2 at (33, 5)
-unfoldable pair : Floor
+unfoldable pub pair : Floor
 pair = rounds 1 (book 10 70 50 2 (book 9 13 5 2 (book 8 0 40 1 (book 4 0 0 1 (got (freshAnswer (several 4 1 9 20)))))))
 
 -- ---- the bytes
-unfoldable good : List ℕ
+unfoldable pub good : List ℕ
 good =
     20 ∷ 0 ∷ 1 ∷ 0
     ∷ 2 ∷ 1 ∷ 1 ∷ 0 ∷ 100 ∷ 0 ∷ 30 ∷ 0 ∷ 10 ∷ 0 ∷ 20 ∷ 0 ∷ 1 ∷ 0 ∷ 0 ∷ 0 ∷ 0 ∷ 0 ∷ 0 ∷ 0
@@ -61,7 +61,7 @@ movedBytes =
     ∷ 6 ∷ 0 ∷ 3 ∷ 0 ∷ 2 ∷ 1 ∷ 2 ∷ 1 ∷ 0 ∷ 0
     ∷ 0 ∷ 0 ∷ 4 ∷ 0 ∷ []
 
-unfoldable pairBytes : List ℕ
+unfoldable pub pairBytes : List ℕ
 pairBytes =
     28 ∷ 0 ∷ 1 ∷ 0
     ∷ 4 ∷ 1 ∷ 0 ∷ 0 ∷ 100 ∷ 0 ∷ 30 ∷ 0 ∷ 10 ∷ 0 ∷ 20 ∷ 0 ∷ 6 ∷ 0 ∷ 0 ∷ 0 ∷ 0 ∷ 0 ∷ 0 ∷ 0 ∷ 9 ∷ 0 ∷ 0 ∷ 0 ∷ 0 ∷ 0 ∷ 0 ∷ 0
@@ -132,11 +132,13 @@ table =
     ∷ shows (hoppers 3 0 9) 11
     ∷ shows (set (hoppers 3 0 9) 4 9) 11
     ∷ shows (hoppers 0 0 8) 11
+    ∷ shows (hoppers 5 0 1) 11
     ∷ shows (set (larger 7 0 0) 29 1) 11
     -- 2: no hopper, whatever the byte; one; one and another off the floor; five
     ∷ shows (hoppers 77 0 0) 2
     ∷ shows (set (hoppers 77 0 0) 4 9) 1
     ∷ shows (hoppers 3 0 8) 2
+    ∷ shows (hoppers 0 0 1) 2
     ∷ shows (hoppers 0 0 17) 2
     ∷ shows (set (larger 40 0 0) 29 1) 2
     ∷ shows (larger 0 0 31) 2
