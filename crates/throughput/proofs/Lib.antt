@@ -6,3 +6,4 @@ pub mod Records
 pub mod Keeps
 pub mod Promises
 pub mod Cases
+pub mod Instances
