@@ -13,11 +13,11 @@ use Rattle.throughput.proofs.Cases.{fed}
 use Rattle.throughput_floor.specs.Rounds.{countAt}
 
 -- W 4, hoppers 0 and 3; l 21 and r 0, so that four stand along each border
-unfoldable ends : Settings
+unfoldable pub ends : Settings
 ends = record { columns = 4; rows = 1; hoppers = 9; sources = 6; width = 100; length = 21; gap = 0; travel = 10 }
 
 -- four at the west border of tile 1, four at the east border of tile 2
-unfoldable eight : Floor
+unfoldable pub eight : Floor
 eight =
     book 8 79 78 2 (book 7 79 52 2 (book 6 79 26 2 (book 5 79 0 2 (book 4 0 78 1 (book 3 0 52 1 (book 2 0 26 1 (book 1 0 0 1 (got (freshAnswer ends)))))))))
 
