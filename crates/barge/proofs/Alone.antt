@@ -14,12 +14,12 @@ use Rattle.laws.proofs.Tests.{by-test}
 use Rattle.floor.specs.declared.Floor.{Floor}
 use Rattle.floor.specs.Memory.{view}
 use Rattle.floor.specs.Well.{wellFormed}
-use Rattle.floor.specs.Calls.{refusalOf, answer, bookTests, bookAnswer, stopTests, stopAnswer, repairTests, repairAnswer, zeroReport, roundAnswer}
+use Rattle.floor.specs.Calls.{refusalOf, answer, bookTests, bookAnswer, stopTests, stopAnswer, repairTests, repairAnswer, roundAnswer}
 use Rattle.floor.specs.Anywhere.{anywhereTests, anywhereAnswer}
 use Rattle.floor.specs.Demand3 as Lone
 use Rattle.barge.specs.declared.Barge.{Barge}
 use Rattle.barge.specs.Barges.{floorAt, aboard, bargeSound, bargeRefusal, allowed, bargeBookAnywhere, bargeRound}
-use Rattle.barge.specs.Lists.{BargeCall, book, anywhere, stop, repair, round, named, lone, outcome, alone, books, Told, told, toldAlone, toldZeros, AsAlone, Alone, Refused}
+use Rattle.barge.specs.Lists.{BargeCall, book, anywhere, stop, repair, round, named, lone, outcome, alone, books, told, toldAlone, toldZeros, AsAlone, Alone, Refused}
 use Rattle.barge.proofs.Answers.{extra, refusal-is, only-50, done, undone}
 use Rattle.barge.proofs.PerFloor.{Listed, listed}
 
@@ -157,9 +157,7 @@ by-49 b c s l = refusal-is b c ∙ rw (s, le-leb 4 (named c) l)
 
 pub refused : Refused
 refused b c = record {
-  barge = λ z. undone b c z .barge;
-  tells = told-refused b c;
-  booked = λ z. undone b c z .booked;
+  given-back = λ z. let U = undone b c z in record { barge = U .barge; tells = told-refused b c z; booked = U .booked; reported = U .reported };
   unsound = by-30 b c;
   no-floor = by-49 b c;
 }

@@ -109,7 +109,7 @@ toldAlone f (stop k t) = nothing
 toldAlone f (repair k t) = nothing
 toldAlone f (round k) = report (roundAnswer f .report)
 
--- "a report of zeros"
+-- of a refused call: "a report of zeros"
 abbrev pub toldZeros : BargeCall → Told
 toldZeros (book k t c) = nothing
 toldZeros (anywhere k t number) = place 0 0
@@ -132,17 +132,23 @@ pub record AsAlone (b : Barge) (c : BargeCall) : Type 0 where
 abbrev pub Alone : Type 0
 Alone = (b : Barge) → bargeSound b ≡ true → (c : BargeCall) → named c < 4 → AsAlone b c
 
--- "A refusal gives its number, a report of zeros, the same floor": the barge as it was, on every barge, sound or not, whatever floor is named and whatever the number
+-- "A refusal gives its number, a report of zeros, the same floor": of a refused call
 pub record GivenBack (b : Barge) (c : BargeCall) : Type 0 where
-  pub barge : outcome b c .refusal ≢ 0 → outcome b c .barge ≡ b
-  pub tells : outcome b c .refusal ≢ 0 → told b c ≡ toldZeros c
-  pub booked : outcome b c .refusal ≢ 0 → outcome b c .booked ≡ []
+  pub barge : outcome b c .barge ≡ b
+  pub tells : told b c ≡ toldZeros c
+  pub booked : outcome b c .booked ≡ []
+  pub reported : outcome b c .reported ≡ (λ _. [])
+
+pub record Refusals (b : Barge) (c : BargeCall) : Type 0 where
+  -- by whatever number
+  pub given-back : outcome b c .refusal ≢ 0 → GivenBack b c
   -- "the barge is 30"; "49, floor number not 0 to 3, after 30"
   pub unsound : bargeSound b ≡ false → outcome b c .refusal ≡ 30
   pub no-floor : bargeSound b ≡ true → 4 ≤ named c → outcome b c .refusal ≡ 49
 
+-- on every barge, sound or not, whatever floor is named
 abbrev pub Refused : Type 0
-Refused = (b : Barge) (c : BargeCall) → GivenBack b c
+Refused = (b : Barge) (c : BargeCall) → Refusals b c
 
 -- "leave the other three", on every barge, sound or not
 abbrev pub Others : Type 0
