@@ -7,3 +7,6 @@ pub mod Totals
 pub mod Alone
 pub mod ListSamples
 pub mod LiveInstances
+pub mod AloneInstances
+pub mod AlikeInstances
+pub mod Instances

@@ -19,7 +19,7 @@ use Rattle.floor.proofs.Calling.{got, can, Table, holds}
 use Rattle.floor.proofs.Calling as Calling
 use Rattle.floor.proofs.AnywhereSamples.{small}
 use Rattle.barge.specs.declared.Barge.{Barge}
-use Rattle.barge.specs.Barges.{floorAt, onFloor, aboard, allowanceSound, bargeSound, bargeRefusal, allowed, bargeWith, bargeBook, bargeBookAnywhere, bargeStop, bargeRepair, bargeRound}
+use Rattle.barge.specs.Barges.{floorAt, withFloor, onFloor, aboard, allowanceSound, bargeSound, bargeRefusal, allowed, bargeWith, bargeBook, bargeBookAnywhere, bargeStop, bargeRepair, bargeRound}
 use Rattle.barge.specs.Lists.{BargeCall, book, anywhere, stop, repair, round, Typed, outcome, bargeAfter, bookedIn, reportedIn}
 use Rattle.barge.specs.PerFloor.{bookedOn, reportedOn, reportedAllOn, runsBy, latest, runsOn, disturbs, QuietOn, roundsOn}
 use Rattle.barge.proofs.Samples.{four}
@@ -108,48 +108,75 @@ emptied-from j j4 b s cs ds typed further q enough t live =
     (subst (λ (g : Floor). bound (g .settings) (connectedCount (view (floorAt (bargeAfter b cs) j)) r) ≤ roundsOn j ds) (sym (P .is-first)) enough) in
     P .emptied ds further q enough′ t (P .counts-live t .1 (subst (λ (g : Floor). connected (g .settings) r t ≡ true) (sym (P .is-first)) live))
 
--- U 9, l 8, r 0: places 0 and 1, so M is 2 and the bound 3. Canister 5 is on floor 1
-unfoldable wide : Barge
-wide =
+-- U 9, l 8, r 0: places 0 and 1, so M is 2 and the bound 3. Canister 5 is on floor j
+unfoldable wide : ℕ → Barge
+wide j =
     let f = got (freshAnswer (small 8 0)) in
-    four f (Calling.book 5 0 0 0 f) f f 3
+    let b = four f f f f 3 in
+    withFloor b j (Calling.book 5 0 0 0 f)
 
--- floor 1 is stopped and repaired; then three rounds of it, with a refused stop (8), while floor 3 books
-unfoldable paused : List BargeCall
-paused = stop 1 0 ∷ repair 1 0 ∷ []
+-- floor j is stopped and repaired; then three rounds of it, with a refused stop (8), while floor i books
+unfoldable paused : ℕ → List BargeCall
+paused j = stop j 0 ∷ repair j 0 ∷ []
 
-unfoldable further : List BargeCall
-further = round 1 ∷ stop 1 1 ∷ anywhere 3 0 9 ∷ round 1 ∷ round 1 ∷ []
+unfoldable further : ℕ → ℕ → List BargeCall
+further j i = round j ∷ stop j 1 ∷ anywhere i 0 9 ∷ round j ∷ round j ∷ []
 
-unfoldable enough : Bool
-enough = leb (bound (floorAt wide 1 .settings) (connectedCount (view (floorAt (bargeAfter wide paused) 1)) (runsOn 1 wide paused))) (roundsOn 1 further)
+-- the premises as a test: the barge is sound and the rounds enough, tile 0 is live, floor j is quiet and floor i is not
+unfoldable met : ℕ → ℕ → Bool
+met j i =
+    let d = bargeAfter (wide j) (paused j) in
+    (bargeSound (wide j) && leb (bound (floorAt (wide j) j .settings) (connectedCount (view (floorAt d j)) (runsOn j (wide j) (paused j)))) (roundsOn j (further j i)))
+    && (connected (floorAt (wide j) j .settings) (runsOn j (wide j) (paused j)) 0 && (quietBy j d (further j i) && not (quietBy i d (further j i))))
 
-wide-test : (bargeSound wide && enough) && (connected (floorAt wide 1 .settings) (runsOn 1 wide paused) 0 && (quietBy 1 (bargeAfter wide paused) further && not (quietBy 3 (bargeAfter wide paused) further))) ≡ true
-unfolding holds small four wide paused further enough quietBy onFloor aboard allowanceSound bargeSound bargeRefusal allowed bargeWith bargeBook bargeBookAnywhere bargeStop bargeRepair bargeRound outcome bargeAfter runsBy latest runsOn disturbs
-wide-test = refl
+wide-test : (met 1 3 ≡ true) × (met 3 1 ≡ true)
+unfolding holds small four wide paused further met quietBy onFloor aboard allowanceSound bargeSound bargeRefusal allowed bargeWith bargeBook bargeBookAnywhere bargeStop bargeRepair bargeRound outcome bargeAfter runsBy latest runsOn disturbs
+wide-test = (refl, refl)
 
-wide-quiet : quietBy 1 (bargeAfter wide paused) further && not (quietBy 3 (bargeAfter wide paused) further) ≡ true
-wide-quiet = and-right (connected (floorAt wide 1 .settings) (runsOn 1 wide paused) 0) _ (and-right (bargeSound wide && enough) _ wide-test)
+module _ (j i : ℕ) (h : met j i ≡ true) where
+  abbrev paused-barge : Barge
+  paused-barge = bargeAfter (wide j) (paused j)
 
--- the accepted booking on floor 3 leaves floor 1 quiet, and not floor 3
-one-quiet : QuietOn 1 (bargeAfter wide paused) further
-one-quiet = quiet 1 (bargeAfter wide paused) further (and-left (quietBy 1 (bargeAfter wide paused) further) _ wide-quiet)
+  abbrev enough : Bool
+  enough = leb (bound (floorAt (wide j) j .settings) (connectedCount (view (floorAt paused-barge j)) (runsOn j (wide j) (paused j)))) (roundsOn j (further j i))
 
-three-not-quiet : ¬ (QuietOn 3 (bargeAfter wide paused) further)
-three-not-quiet q = true≢false (sym (quiet-by 3 (bargeAfter wide paused) further q) ∙ not-true _ (and-right (quietBy 1 (bargeAfter wide paused) further) _ wide-quiet))
+  abbrev live : Bool
+  live = connected (floorAt (wide j) j .settings) (runsOn j (wide j) (paused j)) 0
 
-typed-paused : All Typed paused
-unfolding paused
-typed-paused = (tt, (tt, tt))
+  begun : bargeSound (wide j) && enough ≡ true
+  unfolding met
+  begun = and-left (bargeSound (wide j) && enough) _ h
 
-typed-further : All Typed further
-unfolding further
-typed-further = (tt, (tt, (omega arith, (tt, (tt, tt)))))
+  rest : live && (quietBy j paused-barge (further j i) && not (quietBy i paused-barge (further j i))) ≡ true
+  unfolding met
+  rest = and-right (bargeSound (wide j) && enough) _ h
 
--- by the theorem alone
-one-emptied : membersOf (view (floorAt (bargeAfter (bargeAfter wide paused) further) 1)) 0 ≡ []
-unfolding enough
-one-emptied =
-    let first = and-left (bargeSound wide && enough) _ wide-test in
-    emptied-from 1 (omega arith) wide (and-left (bargeSound wide) _ first) paused further typed-paused typed-further one-quiet
-    (leb-true _ (roundsOn 1 further) (and-right (bargeSound wide) _ first)) 0 (and-left (connected (floorAt wide 1 .settings) (runsOn 1 wide paused) 0) _ (and-right (bargeSound wide && enough) _ wide-test))
+  -- the accepted booking on floor i leaves floor j quiet, and not floor i
+  here-quiet : QuietOn j paused-barge (further j i)
+  here-quiet = quiet j paused-barge (further j i) (and-left (quietBy j paused-barge (further j i)) _ (and-right live _ rest))
+
+  other-not-quiet : ¬ (QuietOn i paused-barge (further j i))
+  other-not-quiet q = true≢false (sym (quiet-by i paused-barge (further j i) q) ∙ not-true _ (and-right (quietBy j paused-barge (further j i)) _ (and-right live _ rest)))
+
+  typed-paused : All Typed (paused j)
+  unfolding paused
+  typed-paused = (tt, (tt, tt))
+
+  typed-further : All Typed (further j i)
+  unfolding further
+  typed-further = (tt, (tt, (omega arith, (tt, (tt, tt)))))
+
+  -- by the theorem alone
+  here-emptied : j < 4 → membersOf (view (floorAt (bargeAfter paused-barge (further j i)) j)) 0 ≡ []
+  here-emptied l =
+      emptied-from j l (wide j) (and-left (bargeSound (wide j)) _ begun) (paused j) (further j i) typed-paused typed-further here-quiet
+      (leb-true _ (roundsOn j (further j i)) (and-right (bargeSound (wide j)) _ begun)) 0 (and-left live _ rest)
+
+one-emptied : membersOf (view (floorAt (bargeAfter (bargeAfter (wide 1) (paused 1)) (further 1 3)) 1)) 0 ≡ []
+one-emptied = here-emptied 1 3 (wide-test .0) (omega arith)
+
+three-not-quiet : ¬ (QuietOn 3 (bargeAfter (wide 1) (paused 1)) (further 1 3))
+three-not-quiet = other-not-quiet 1 3 (wide-test .0)
+
+three-emptied : membersOf (view (floorAt (bargeAfter (bargeAfter (wide 3) (paused 3)) (further 3 1)) 3)) 0 ≡ []
+three-emptied = here-emptied 3 1 (wide-test .1) (omega arith)
