@@ -3,20 +3,20 @@ use mathlib.Core.Path.{_≡_, refl, _∙_}
 use mathlib.Core.List.{List, [], _∷_, _++_}
 use Prim.Native.Nat.{ℕ}
 use Rattle.plan.specs.declared.Plan.{Plan}
-use Rattle.plan_floor.specs.Steps.{look, releaseOn, hand, planned, planAfter, Event, eventsOf, eventsIn, bookingsOf, bookingsIn, Step, call, offer, release, report, State, stepped, stateAfter, planCallsOf, planCallsIn, stepEvents, stepBookings}
+use Rattle.plan_floor.specs.Steps.{planOffer, planRelease, planReport, planned, planAfter, Event, eventsOf, eventsIn, bookingsOf, bookingsIn, Step, call, offer, release, report, State, stepped, stateAfter, planCallsOf, planCallsIn, stepEvents, stepBookings}
 use Rattle.plan_floor.specs.Promises.{PlanCallsPromise}
 
 -- ---- one step
 unfoldable pub eventsAt : State → Step → List Event
 eventsAt s (call c) = []
 eventsAt s offer = []
-eventsAt s (release k) = eventsOf (s .plan) (releaseOn (s .floor) k)
-eventsAt s (report r) = eventsOf (s .plan) (hand r)
+eventsAt s (release k) = eventsOf (s .plan) (planRelease (s .floor) k)
+eventsAt s (report r) = eventsOf (s .plan) (planReport r)
 
 unfoldable pub bookingsAt : State → Step → List (ℕ × ℕ)
 bookingsAt s (call c) = []
 bookingsAt s offer = []
-bookingsAt s (release k) = bookingsOf (s .plan) (releaseOn (s .floor) k)
+bookingsAt s (release k) = bookingsOf (s .plan) (planRelease (s .floor) k)
 bookingsAt s (report r) = []
 
 -- ---- and those after it

@@ -18,7 +18,7 @@ use Rattle.plan.specs.declared.Entry.{Entry}
 use Rattle.plan.specs.declared.Plan.{Plan}
 use Rattle.plan.specs.Entries.{Stage, waiting, booked, delivered, stageOf, isWaiting, isDelivered, waits, wasDelivered, used, predecessors, done, present, planSound, numbersUpto, entryFits, planFits, ready, readyLabel, changed, bookedAs, released, reported}
 use Rattle.plan.specs.Plans.{numberAfter, releaseTests, releaseBooking, releaseAnswer, numbersIn, reportTests, reportAnswer}
-use Rattle.plan_floor.specs.Steps.{PlanCall, look, releaseOn, hand, planned, planAfter, allWaiting, Event, booking, listing, eventsOf, eventsIn, BookedThenListed, here, later, predecessorsOf}
+use Rattle.plan_floor.specs.Steps.{PlanCall, planOffer, planRelease, planReport, planned, planAfter, allWaiting, Event, booking, listing, eventsOf, eventsIn, BookedThenListed, here, later, predecessorsOf}
 use Rattle.plan_floor.specs.Promises.{HistoryPromise}
 use Rattle.plan.proofs.Stages.{marked, booked-stage, reported-stage, reported-label, changed-all}
 use Rattle.plan_floor.proofs.Written.{list-predecessors}
@@ -80,8 +80,8 @@ none-new p past h = rw (append-nil past) h
 
 call-inv : (p : Plan) (c : PlanCall) (past : List Event) → Inv p past → Inv (planned p c) (past ++ eventsOf p c)
 unfolding planned eventsOf releaseAnswer reportAnswer
-call-inv p look past h = none-new p past h
-call-inv p (releaseOn f k) past h = go (eqb (releaseAnswer p f k .refusal) 0)
+call-inv p planOffer past h = none-new p past h
+call-inv p (planRelease f k) past h = go (eqb (releaseAnswer p f k .refusal) 0)
   where
     n : ℕ
     n = numberAfter f
@@ -89,7 +89,7 @@ call-inv p (releaseOn f k) past h = go (eqb (releaseAnswer p f k .refusal) 0)
     go : (b : Bool) → Inv (cond b (changed p (released k n)) p) (past ++ cond b (booking k (cond b n 0) ∷ []) [])
     go true = changed-all (Recorded past) (Recorded (past ++ (booking k n ∷ []))) p (released k n) (λ e r. booked-told k n e past r) h
     go false = none-new p past h
-call-inv p (hand r) past h = go (eqb (refusal (reportTests p r)) 0)
+call-inv p (planReport r) past h = go (eqb (refusal (reportTests p r)) 0)
   where
     go : (b : Bool) → Inv (cond b (changed p (reported (numbersIn r))) p) (past ++ cond b (map listing (numbersIn r)) [])
     go true = changed-all (Recorded past) (Recorded (past ++ map listing (numbersIn r))) p (reported (numbersIn r)) (λ e q. marks-told (numbersIn r) e past q) h

@@ -17,7 +17,7 @@ use Rattle.plan.specs.declared.Entry.{Entry}
 use Rattle.plan.specs.declared.Plan.{Plan}
 use Rattle.plan.specs.Entries.{isWaiting, waits, used, predecessors, done, ready, changed, released, reported}
 use Rattle.plan.specs.Plans.{numberAfter, releaseAnswer, numbersIn, reportTests, reportAnswer}
-use Rattle.plan_floor.specs.Steps.{PlanCall, look, releaseOn, hand, planned, planAfter, bookingsOf, bookingsIn, Step, call, offer, release, report, State, stepped, planCallsIn, stepBookings, TypedStep, bookedOf}
+use Rattle.plan_floor.specs.Steps.{PlanCall, planOffer, planRelease, planReport, planned, planAfter, bookingsOf, bookingsIn, Step, call, offer, release, report, State, stepped, planCallsIn, stepBookings, TypedStep, bookedOf}
 use Rattle.plan_floor.specs.Promises.{OncePromise, RisingPromise}
 use Rattle.plan.proofs.Stages.{booked-stage, reported-same, released-label, reported-label, released-there, other-label, used-changed, changed-all}
 use Rattle.plan_floor.proofs.History.{accepted, ready-entry}
@@ -46,13 +46,13 @@ not-again p f k n j U e q =
 -- nothing changes that
 call-under : (p : Plan) (c : PlanCall) (k n : ℕ) → Under p k n → Under (planned p c) k n
 unfolding planned releaseAnswer reportAnswer
-call-under p look k n U = U
-call-under p (releaseOn f j) k n U = go (eqb (releaseAnswer p f j .refusal) 0) refl
+call-under p planOffer k n U = U
+call-under p (planRelease f j) k n U = go (eqb (releaseAnswer p f j .refusal) 0) refl
   where
     go : (b : Bool) → eqb (releaseAnswer p f j .refusal) 0 ≡ b → Under (cond b (changed p (released j (numberAfter f))) p) k n
     go true e = changed-all (IsUnder k n) (IsUnder k n) p (released j (numberAfter f)) (other-label (λ e. (e .number ≡ n) × (waits e ≡ false)) k j (numberAfter f) (not-again p f k n j U e)) U
     go false e = U
-call-under p (hand r) k n U = go (eqb (refusal (reportTests p r)) 0)
+call-under p (planReport r) k n U = go (eqb (refusal (reportTests p r)) 0)
   where
     l : List ℕ
     l = numbersIn r
@@ -65,8 +65,8 @@ pub step-under : (s : State) (c : Step) (k n : ℕ) → Under (s .plan) k n → 
 unfolding stepped planned
 step-under s (call c) k n U = U
 step-under s offer k n U = U
-step-under s (release j) k n U = call-under (s .plan) (releaseOn (s .floor) j) k n U
-step-under s (report r) k n U = call-under (s .plan) (hand r) k n U
+step-under s (release j) k n U = call-under (s .plan) (planRelease (s .floor) j) k n U
+step-under s (report r) k n U = call-under (s .plan) (planReport r) k n U
 
 list-under : (p : Plan) (cs : List PlanCall) (k n : ℕ) → Under p k n → Under (planAfter p cs) k n
 unfolding planAfter
@@ -76,13 +76,13 @@ list-under p (c ∷ cs) k n U = list-under (planned p c) cs k n (call-under p c 
 -- and it is not booked again
 call-away : (p : Plan) (c : PlanCall) (k n : ℕ) → Under p k n → All (λ y. k ≢ y .0) (bookingsOf p c)
 unfolding bookingsOf
-call-away p look k n U = tt
-call-away p (releaseOn f j) k n U = go (eqb (releaseAnswer p f j .refusal) 0) refl
+call-away p planOffer k n U = tt
+call-away p (planRelease f j) k n U = go (eqb (releaseAnswer p f j .refusal) 0) refl
   where
     go : (b : Bool) → eqb (releaseAnswer p f j .refusal) 0 ≡ b → All (λ (y : ℕ × ℕ). k ≢ y .0) (cond b ((j, releaseAnswer p f j .number) ∷ []) [])
     go true e = (not-again p f k n j U e, tt)
     go false e = tt
-call-away p (hand r) k n U = tt
+call-away p (planReport r) k n U = tt
 
 list-away : (p : Plan) (cs : List PlanCall) (k n : ℕ) → Under p k n → All (λ y. k ≢ y .0) (bookingsIn p cs)
 unfolding bookingsIn
@@ -99,8 +99,8 @@ booked-under p k n = subst (All (IsUnder k n)) (sym (used-changed p (released k 
 
 call-booked : (p : Plan) (c : PlanCall) → All (λ x. Under (planned p c) (x .0) (x .1)) (bookingsOf p c)
 unfolding bookingsOf planned releaseAnswer
-call-booked p look = tt
-call-booked p (releaseOn f k) = go (eqb (releaseAnswer p f k .refusal) 0)
+call-booked p planOffer = tt
+call-booked p (planRelease f k) = go (eqb (releaseAnswer p f k .refusal) 0)
   where
     n : ℕ
     n = numberAfter f
@@ -108,18 +108,18 @@ call-booked p (releaseOn f k) = go (eqb (releaseAnswer p f k .refusal) 0)
     go : (b : Bool) → All (λ (x : ℕ × ℕ). Under (cond b (changed p (released k n)) p) (x .0) (x .1)) (cond b ((k, cond b n 0) ∷ []) [])
     go true = (booked-under p k n, tt)
     go false = tt
-call-booked p (hand r) = tt
+call-booked p (planReport r) = tt
 
 -- at most one of them in a call
 call-pairs : (R : ℕ × ℕ → ℕ × ℕ → Type 0) (p : Plan) (c : PlanCall) → Pairs R (bookingsOf p c)
 unfolding bookingsOf
-call-pairs R p look = tt
-call-pairs R p (releaseOn f k) = go (eqb (releaseAnswer p f k .refusal) 0)
+call-pairs R p planOffer = tt
+call-pairs R p (planRelease f k) = go (eqb (releaseAnswer p f k .refusal) 0)
   where
     go : (b : Bool) → Pairs R (cond b ((k, releaseAnswer p f k .number) ∷ []) [])
     go true = (tt, tt)
     go false = tt
-call-pairs R p (hand r) = tt
+call-pairs R p (planReport r) = tt
 
 labels : (p : Plan) (cs : List PlanCall) → Pairs (λ x y. x .0 ≢ y .0) (bookingsIn p cs)
 unfolding bookingsIn
@@ -144,7 +144,7 @@ step-pairs : (R : ℕ × ℕ → ℕ × ℕ → Type 0) (s : State) (c : Step) �
 unfolding bookingsAt
 step-pairs R s (call c) = tt
 step-pairs R s offer = tt
-step-pairs R s (release k) = call-pairs R (s .plan) (releaseOn (s .floor) k)
+step-pairs R s (release k) = call-pairs R (s .plan) (planRelease (s .floor) k)
 step-pairs R s (report r) = tt
 
 pub step-numbers : (P : ℕ → Type 0) (s : State) (c : Step) → All P (bookedOf s c) → All (λ x. P (x .1)) (bookingsAt s c)

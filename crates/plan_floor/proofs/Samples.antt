@@ -13,7 +13,7 @@ use Rattle.floor.proofs.AnywhereSamples.{small}
 use Rattle.plan.specs.Entries.{stageOf, predecessors, done, present, bookedNumbers, afterPredecessors, planSound, numbersUpto, entryFits, planFits, ready, readyLabel, released, reported}
 use Rattle.plan.specs.Plans.{offerTests, offered, offerAnswer, releaseTests, numberAfter, tileFor, releaseBooking, releaseAnswer, numbersIn, reportTests, reportAnswer}
 use Rattle.plan.proofs.Samples.{entry, plan, two, entries, delivery, report}
-use Rattle.plan_floor.specs.Steps.{PlanCall, look, releaseOn, hand, planned, planAfter, Step, call, offer, release, report as handed, State, stepped, stateAfter, Event, booking, listing, eventsOf, eventsIn, bookingsOf, bookingsIn, planCallsOf, planCallsIn, stepEvents, stepBookings, reportOfCall, reportsOf, FromRounds, callsOf, callsIn, bookedOf, bookedBy, reportedOf, reportedBy}
+use Rattle.plan_floor.specs.Steps.{PlanCall, planOffer, planRelease, planReport, planned, planAfter, Step, call, offer, release, report as handed, State, stepped, stateAfter, Event, booking, listing, eventsOf, eventsIn, bookingsOf, bookingsIn, planCallsOf, planCallsIn, stepEvents, stepBookings, reportOfCall, reportsOf, FromRounds, callsOf, callsIn, bookedOf, bookedBy, reportedOf, reportedBy}
 use Rattle.plan_floor.specs.Ending.{releaseOffered, afterCycles, refusalsIn, handedRounds, schedule}
 
 -- a booking by label and number, a listing by 0 and number
@@ -34,7 +34,7 @@ walking =
     let one = report (delivery 1 (1 ∷ []) ∷ []) in
     -- 2 must wait until 1 was booked and reported; 1 is not booked again; a report that comes too early marks nothing
     let cs : List Step = offer ∷ handed one ∷ release 2 ∷ release 1 ∷ release 1 ∷ release 2 ∷ handed one ∷ handed (report (delivery 5 [] ∷ [])) ∷ release 2 ∷ release 9 ∷ [] in
-    let apart : List PlanCall = releaseOn (s .floor) 1 ∷ look ∷ releaseOn (wide .floor) 2 ∷ hand one ∷ releaseOn (wide .floor) 2 ∷ [] in
+    let apart : List PlanCall = planRelease (s .floor) 1 ∷ planOffer ∷ planRelease (wide .floor) 2 ∷ planReport one ∷ planRelease (wide .floor) 2 ∷ [] in
     let first = releaseOffered wide in
     let ended = afterCycles wide (schedule 2 wide) in
     (shown (stepEvents s cs), 0 ∷ 1 ∷ 1 ∷ 1 ∷ 0 ∷ 1 ∷ 2 ∷ 2 ∷ [])
@@ -63,7 +63,7 @@ unfolding holds small entry plan two entries delivery report shown paired walkin
 walking-holds = refl
 
 -- the reports of such cycles are those of their rounds; a report that no round gave is not
-handed-from-rounds : (n : ℕ) (s : State) (rs : List Report) → FromRounds s rs (handedRounds n s)
+pub handed-from-rounds : (n : ℕ) (s : State) (rs : List Report) → FromRounds s rs (handedRounds n s)
 unfolding handedRounds reportsOf reportOfCall
 handed-from-rounds zero s rs = tt
 handed-from-rounds (suc n) s rs = let r = roundAnswer (s .floor) .report in (tt, (List·Memᴰ·head refl, handed-from-rounds n (stepped (stepped s (call round)) (handed r)) (r ∷ rs)))

@@ -22,8 +22,8 @@ use Rattle.plan.specs.declared.Entry.{Entry}
 use Rattle.plan.specs.declared.Plan.{Plan}
 use Rattle.plan.specs.Entries.{waits, heldBy, used, predecessors, done, bookedNumbers, afterPredecessors, planSound, numbersUpto, entryFits, planFits, ready, readyLabel, changed, released, reported}
 use Rattle.plan.specs.Plans.{offerTests, offerAnswer, releaseTests, numberAfter, tileFor, releaseBooking, releaseAnswer, numbersIn, reportTests, reportAnswer}
-use Rattle.plan_floor.specs.Steps.{PlanCall, look, releaseOn, hand, planned, planAfter, allWaiting, Step, call, offer, release, report, State, stepped, stateAfter, TypedStep, bookedOf}
-use Rattle.plan_floor.specs.Promises.{SoundPromise, WaitingPromise, PlanSoundPromise}
+use Rattle.plan_floor.specs.Steps.{PlanCall, planOffer, planRelease, planReport, planned, planAfter, allWaiting, Step, call, offer, release, report, State, stepped, stateAfter, TypedStep, bookedOf}
+use Rattle.plan_floor.specs.Promises.{PlanStays, SoundPromise, WaitingPromise, PlanSoundPromise}
 use Rattle.plan.proofs.Stages.{used-changed, waiting-held, none-held}
 use Rattle.plan_floor.proofs.History.{accepted, all-ready}
 use Rattle.plan_floor.proofs.AsCalls.{StepKeeps, step-keeps}
@@ -222,6 +222,14 @@ module _ (p : Plan) (S : planSound p ≡ true) where
   unfolding reportAnswer reportTests refusal
   reports-by r h = rw (S, none-any (λ d. ltb 4 (d .count)) (r .deliveries) (all-imp (λ d. d .count ≤ 4) (λ d. ltb 4 (d .count) ≡ false) (r .deliveries) (λ d l. le-ltb 4 (d .count) l) h)) (not-or (planFits p))
 
+stays : (p q : Plan) → planSound q ≡ true → planFits q ≡ planFits p → PlanStays p q
+stays p q S e = record {
+  sound = S;
+  same-fits = e;
+  offer-refusal = offers-by q S ∙ ap (λ (b : Bool). cond b 0 47) e;
+  report-refusal = λ r l. reports-by q S r l ∙ ap (λ (b : Bool). cond b 0 47) e;
+}
+
 pub stays-sound : SoundPromise
 stays-sound s S U w cs t =
     let now = stateAfter s cs in
@@ -230,18 +238,15 @@ stays-sound s S U w cs t =
     let S′ = good-sound (now .floor .counters .last) (now .plan) (F .1) in
     let U′ = good-upto (now .floor .counters .last) (now .plan) (F .1) in
     record {
-      sound = S′;
+      plan = stays (s .plan) (now .plan) S′ (R .1);
       upto = U′;
-      same-fits = R .1;
       well = F .0;
-      offer-refusal = offers-by (now .plan) S′ ∙ ap (λ (b : Bool). cond b 0 47) (R .1);
-      report-refusal = λ r l. reports-by (now .plan) S′ r l ∙ ap (λ (b : Bool). cond b 0 47) (R .1);
       release-sound = λ k. never-30 (now .plan) (now .floor) k S′ (F .0) U′;
       release-fits = λ fits k. never-47 (now .plan) (now .floor) k S′ (F .0) U′ (R .1 ∙ fits);
     }
 
 -- ---- whatever floors the releases were on
-release-sound : (p : Plan) (f : Floor) (k : ℕ) → planSound p ≡ true → (planSound (planned p (releaseOn f k)) ≡ true) × (planFits (planned p (releaseOn f k)) ≡ planFits p)
+release-sound : (p : Plan) (f : Floor) (k : ℕ) → planSound p ≡ true → (planSound (planned p (planRelease f k)) ≡ true) × (planFits (planned p (planRelease f k)) ≡ planFits p)
 unfolding planned stepped releaseAnswer
 release-sound p f k S = go (eqb (releaseAnswer p f k .refusal) 0) refl
   where
@@ -259,7 +264,7 @@ release-sound p f k S = go (eqb (releaseAnswer p f k .refusal) 0) refl
         (subst (λ (x : Plan). planSound x ≡ true) q (good-sound (g .counters .last) (stepped s (release k) .plan) (R .0 .1)), subst (λ (x : Plan). planFits x ≡ planFits p) q (R .1))
     go false e = (S, refl)
 
-report-sound : (p : Plan) (r : Report) → planSound p ≡ true → (planSound (planned p (hand r)) ≡ true) × (planFits (planned p (hand r)) ≡ planFits p)
+report-sound : (p : Plan) (r : Report) → planSound p ≡ true → (planSound (planned p (planReport r)) ≡ true) × (planFits (planned p (planReport r)) ≡ planFits p)
 unfolding planned reportAnswer planSound
 report-sound p r S = go (eqb (refusal (reportTests p r)) 0)
   where
@@ -285,9 +290,9 @@ report-sound p r S = go (eqb (refusal (reportTests p r)) 0)
 
 call-sound : (p : Plan) (c : PlanCall) → planSound p ≡ true → (planSound (planned p c) ≡ true) × (planFits (planned p c) ≡ planFits p)
 unfolding planned
-call-sound p look S = (S, refl)
-call-sound p (releaseOn f k) S = release-sound p f k S
-call-sound p (hand r) S = report-sound p r S
+call-sound p planOffer S = (S, refl)
+call-sound p (planRelease f k) S = release-sound p f k S
+call-sound p (planReport r) S = report-sound p r S
 
 list-sound : (p : Plan) (cs : List PlanCall) → planSound p ≡ true → (planSound (planAfter p cs) ≡ true) × (planFits (planAfter p cs) ≡ planFits p)
 unfolding planAfter
@@ -295,12 +300,4 @@ list-sound p [] S = (S, refl)
 list-sound p (c ∷ cs) S = let A = call-sound p c S in let B = list-sound (planned p c) cs (A .0) in (B .0, B .1 ∙ A .1)
 
 pub plan-stays : PlanSoundPromise
-plan-stays p S cs =
-    let R = list-sound p cs S in
-    let q = planAfter p cs in
-    record {
-      sound = R .0;
-      same-fits = R .1;
-      offer-refusal = offers-by q (R .0) ∙ ap (λ (b : Bool). cond b 0 47) (R .1);
-      report-refusal = λ r l. reports-by q (R .0) r l ∙ ap (λ (b : Bool). cond b 0 47) (R .1);
-    }
+plan-stays p S cs = let R = list-sound p cs S in stays p (planAfter p cs) (R .0) (R .1)

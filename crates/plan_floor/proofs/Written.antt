@@ -10,7 +10,7 @@ use Rattle.plan.specs.declared.Entry.{Entry}
 use Rattle.plan.specs.declared.Plan.{Plan}
 use Rattle.plan.specs.Entries.{used, predecessors, changed, released, reported}
 use Rattle.plan.specs.Plans.{numberAfter, releaseAnswer, numbersIn, reportTests, reportAnswer}
-use Rattle.plan_floor.specs.Steps.{PlanCall, look, releaseOn, hand, planned, planAfter, predecessorsOf}
+use Rattle.plan_floor.specs.Steps.{PlanCall, planOffer, planRelease, planReport, planned, planAfter, predecessorsOf}
 use Rattle.plan_floor.specs.Promises.{asWritten, WrittenPromise}
 use Rattle.plan.proofs.Stages.{released-same, reported-same, used-changed}
 
@@ -41,13 +41,13 @@ reported-plain l = record {
 module _ {A : Type 0} (get : Plan → A) (same : (p : Plan) (g : Entry → Entry) → Plain g → get (changed p g) ≡ get p) where
   call-same : (p : Plan) (c : PlanCall) → get (planned p c) ≡ get p
   unfolding planned releaseAnswer reportAnswer
-  call-same p look = refl
-  call-same p (releaseOn f k) = go (eqb (releaseAnswer p f k .refusal) 0)
+  call-same p planOffer = refl
+  call-same p (planRelease f k) = go (eqb (releaseAnswer p f k .refusal) 0)
     where
       go : (b : Bool) → get (cond b (changed p (released k (numberAfter f))) p) ≡ get p
       go true = same p (released k (numberAfter f)) (released-plain k (numberAfter f))
       go false = refl
-  call-same p (hand r) = go (eqb (refusal (reportTests p r)) 0)
+  call-same p (planReport r) = go (eqb (refusal (reportTests p r)) 0)
     where
       go : (b : Bool) → get (cond b (changed p (reported (numbersIn r))) p) ≡ get p
       go true = same p (reported (numbersIn r)) (reported-plain (numbersIn r))

@@ -113,13 +113,9 @@ RoundsPromise = (s : State) → allWaiting (s .plan) ≡ true → (cs : List Ste
 
 -- with the floor handed on a release is not 30 either, of a half-delivered plan too: p the plan at first, s the state now
 pub record StaysSound (p : Plan) (s : State) : Type 0 where
-  pub sound : planSound (s .plan) ≡ true
+  pub plan : PlanStays p (s .plan)
   pub upto : numbersUpto (s .floor .counters .last) (s .plan) ≡ true
-  pub same-fits : planFits (s .plan) ≡ planFits p
   pub well : wellFormed (s .floor) ≡ true
-  -- so 30 is never answered for it, and 47 only if it was so at first
-  pub offer-refusal : offerAnswer (s .plan) .refusal ≡ cond (planFits p) 0 47
-  pub report-refusal : (r : Report) → All (λ d. d .count ≤ 4) (r .deliveries) → reportAnswer (s .plan) r .refusal ≡ cond (planFits p) 0 47
   pub release-sound : (k : ℕ) → releaseAnswer (s .plan) (s .floor) k .refusal ≢ 30
   pub release-fits : planFits p ≡ true → (k : ℕ) → releaseAnswer (s .plan) (s .floor) k .refusal ≢ 47
 

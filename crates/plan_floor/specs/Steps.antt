@@ -15,15 +15,15 @@ use Rattle.plan.specs.Plans.{releaseTests, numberAfter, tileFor, releaseAnswer,
 
 -- ---- a plan's calls alone: an offer; the release of a label on some floor, each release on its own; a report handed to the plan
 pub data PlanCall : Type 0 where
-  look : PlanCall
-  releaseOn : Floor → ℕ → PlanCall
-  hand : Report → PlanCall
+  planOffer : PlanCall
+  planRelease : Floor → ℕ → PlanCall
+  planReport : Report → PlanCall
 
 -- "each call gets the plan the last one gave"; a refused one gives it back and stays in the list
 unfoldable pub planned : Plan → PlanCall → Plan
-planned p look = p
-planned p (releaseOn f k) = releaseAnswer p f k .plan
-planned p (hand r) = reportAnswer p r .plan
+planned p planOffer = p
+planned p (planRelease f k) = releaseAnswer p f k .plan
+planned p (planReport r) = reportAnswer p r .plan
 
 unfoldable pub planAfter : Plan → List PlanCall → Plan
 planAfter p [] = p
@@ -39,9 +39,9 @@ pub data Event : Type 0 where
   listing : ℕ → Event
 
 unfoldable pub eventsOf : Plan → PlanCall → List Event
-eventsOf p look = []
-eventsOf p (releaseOn f k) = let r = releaseAnswer p f k in cond (eqb (r .refusal) 0) (booking k (r .number) ∷ []) []
-eventsOf p (hand r) = cond (eqb (reportAnswer p r .refusal) 0) (map listing (numbersIn r)) []
+eventsOf p planOffer = []
+eventsOf p (planRelease f k) = let r = releaseAnswer p f k in cond (eqb (r .refusal) 0) (booking k (r .number) ∷ []) []
+eventsOf p (planReport r) = cond (eqb (reportAnswer p r .refusal) 0) (map listing (numbersIn r)) []
 
 -- in their order
 unfoldable pub eventsIn : Plan → List PlanCall → List Event
@@ -60,9 +60,9 @@ predecessorsOf (e ∷ es) k = cond (eqb (e .label) k) (predecessors e) [] ++ pre
 
 -- the labels that accepted releases booked, each with its number; the numbers of all bookings, those of the floor's own calls too, are `bookedBy`
 unfoldable pub bookingsOf : Plan → PlanCall → List (ℕ × ℕ)
-bookingsOf p look = []
-bookingsOf p (releaseOn f k) = let r = releaseAnswer p f k in cond (eqb (r .refusal) 0) ((k, r .number) ∷ []) []
-bookingsOf p (hand r) = []
+bookingsOf p planOffer = []
+bookingsOf p (planRelease f k) = let r = releaseAnswer p f k in cond (eqb (r .refusal) 0) ((k, r .number) ∷ []) []
+bookingsOf p (planReport r) = []
 
 unfoldable pub bookingsIn : Plan → List PlanCall → List (ℕ × ℕ)
 bookingsIn p [] = []
@@ -94,9 +94,9 @@ stateAfter s (c ∷ cs) = stateAfter (stepped s c) cs
 -- the plan's calls among them: each release is on the floor as it then is
 unfoldable pub planCallsOf : State → Step → List PlanCall
 planCallsOf s (call c) = []
-planCallsOf s offer = look ∷ []
-planCallsOf s (release k) = releaseOn (s .floor) k ∷ []
-planCallsOf s (report r) = hand r ∷ []
+planCallsOf s offer = planOffer ∷ []
+planCallsOf s (release k) = planRelease (s .floor) k ∷ []
+planCallsOf s (report r) = planReport r ∷ []
 
 unfoldable pub planCallsIn : State → List Step → List PlanCall
 planCallsIn s [] = []
