@@ -515,27 +515,27 @@ ends s B cycles l T =
     record { accepted = E .accepted; delivered = E .idle .delivered; empty = E .idle .empty }
 
 -- ---- a schedule
-handed-quiet : (n : ℕ) (s : State) → Quiet (s .floor) (callsIn s (handedRounds n s))
+pub handed-quiet : (n : ℕ) (s : State) → Quiet (s .floor) (callsIn s (handedRounds n s))
 unfolding handedRounds callsIn callsOf stepped disturbs
 handed-quiet zero s = tt
 handed-quiet (suc n) s = (refl, handed-quiet n (stepped (stepped s (call round)) (report (roundAnswer (s .floor) .report))))
 
-handed-rounds : (n : ℕ) (s : State) → roundsIn (callsIn s (handedRounds n s)) ≡ n
+pub handed-rounds : (n : ℕ) (s : State) → roundsIn (callsIn s (handedRounds n s)) ≡ n
 unfolding handedRounds callsIn callsOf
 handed-rounds zero s = refl
 handed-rounds (suc n) s = omega (arith, handed-rounds n (stepped (stepped s (call round)) (report (roundAnswer (s .floor) .report))))
 
-handed-in : (n : ℕ) (s : State) → HandedIn s (handedRounds n s)
+pub handed-in : (n : ℕ) (s : State) → HandedIn s (handedRounds n s)
 unfolding handedRounds reportsOf reportOfCall
 handed-in zero s = tt
 handed-in (suc n) s = ((List·Memᴰ·head refl, tt), (tt, handed-in n (stepped (stepped s (call round)) (report (roundAnswer (s .floor) .report)))))
 
-handed-typed : (n : ℕ) (s : State) → All TypedStep (handedRounds n s)
+pub handed-typed : (n : ℕ) (s : State) → All TypedStep (handedRounds n s)
 unfolding handedRounds
 handed-typed zero s = tt
 handed-typed (suc n) s = (tt, (tt, handed-typed n (stepped (stepped s (call round)) (report (roundAnswer (s .floor) .report)))))
 
-scheduled-cycles : (n : ℕ) (s : State) → Cycles s (schedule n s)
+pub scheduled-cycles : (n : ℕ) (s : State) → Cycles s (schedule n s)
 unfolding schedule
 scheduled-cycles zero s = tt
 scheduled-cycles (suc n) s =
@@ -543,7 +543,7 @@ scheduled-cycles (suc n) s =
     let k = bound (r .floor .settings) 1 in
     (record { typed = handed-typed k r; quiet = handed-quiet k r; handed = handed-in k r; enough = omega (arith, handed-rounds k r) }, scheduled-cycles n (stateAfter r (handedRounds k r)))
 
-scheduled-length : (n : ℕ) (s : State) → length (schedule n s) ≡ n
+pub scheduled-length : (n : ℕ) (s : State) → length (schedule n s) ≡ n
 unfolding schedule
 scheduled-length zero s = refl
 scheduled-length (suc n) s = let r = releaseOffered s in ap suc (scheduled-length n (stateAfter r (handedRounds (bound (r .floor .settings) 1) r)))

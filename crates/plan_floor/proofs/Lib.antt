@@ -14,3 +14,4 @@ pub mod Emptying
 pub mod Marking
 pub mod Ending
 pub mod Promises
+pub mod Instances
