@@ -1,17 +1,18 @@
--- [11] on a tile that is no hopper, in lists in which the side wants from the second call on.
+-- [11] on a tile that is no hopper: a side that wants from the second call on, the turn and the grant, a stop with calls after it.
 use mathlib.Core.Path.{_≡_, refl, ap, _∙_, subst}
-use mathlib.Core.Bool.{true, false}
+use mathlib.Core.Bool.{true, false, cond, _&&_}
 use mathlib.Core.List.{List, [], _∷_, List·Memᴰ, List·Memᴰ·head, List·Memᴰ·tail}
 use Prim.Native.Nat.{ℕ}
 use native.Mathlib.Omega.{arith}
+use lib.Dec.{eqb}
 use Rattle.laws.specs.Define.{allOf}
 use Rattle.laws.specs.Every.{All}
 use Rattle.floor.specs.declared.Floor.{Floor}
-use Rattle.floor.specs.Settings.{isHopper}
-use Rattle.floor.specs.Model.{Model, runsOf}
+use Rattle.floor.specs.Model.{Model, runsOf, membersOf}
 use Rattle.floor.specs.Memory.{view}
-use Rattle.floor.specs.Demand3.{Call, book, stop, repair, outcome, Typed, floorAfter}
-use Rattle.floor.specs.Fairness.{wants, Waiting, granted, grantsIn, Fair, turnOf}
+use Rattle.floor.specs.Signal.{missing}
+use Rattle.floor.specs.Demand3.{Call, book, stop, repair, Typed, floorAfter}
+use Rattle.floor.specs.Fairness.{wants, granted, Fair, turnOf}
 use Rattle.floor.proofs.Calling.{can, holds}
 use Rattle.floor.proofs.Shown.{Shows, refusalBy, shows-refusal}
 use Rattle.floor.proofs.Walked.{isTyped, all-typed, grantsBy, waitingBy, grants-same, waiting}
@@ -62,3 +63,52 @@ unfair h = none (h 1 [] (2 ∷ 3 ∷ []) [] (omega arith) (omega arith) refl)
     none : List·Memᴰ {A = ℕ} 4 (2 ∷ 3 ∷ []) → ⊥
     none (List·Memᴰ·head e) = absurd (omega arith)
     none (List·Memᴰ·tail (List·Memᴰ·head e)) = absurd (omega arith)
+
+-- ---- the turn and the grant of tile 2, with 6 on tile 4 too: east wants, and the turn, west's, wants; it is granted. With 7 on tile 2, 5 millimetres short of the gap for it, none is
+unfoldable both : Made
+both = put 6 0 0 4 fork
+
+unfoldable held : Made
+held = put 7 35 0 2 both
+
+unfoldable grantBy : Model → ℕ
+grantBy x = cond (wants x 2 (turnOf x 2) && eqb (missing (x .settings) (turnOf x 2) (membersOf x 2)) 0) (turnOf x 2) 0
+
+grants-by : (e : Made) → made e .0 ≡ true → runsOf (made e .1) 2 ≡ true → granted (floorOf e) 2 ≡ grantBy (made e .1)
+unfolding view grantBy
+grants-by e h = let s = made-shows e h in subst (λ (x : Model). runsOf x 2 ≡ true → granted (floorOf e) 2 ≡ grantBy x) (s .value) (nobody-waits-twice (floorOf e) (s .well) .grants 2)
+
+both-test : (made both .0 ≡ true) × ((runsOf (made both .1) 2 ≡ true) × ((grantBy (made both .1) ≡ 1) × ((wants (made both .1) 2 4 ≡ true) × (turnOf (made both .1) 2 ≡ 1))))
+unfolding holds holdBy fork both wants turnOf grantBy
+both-test = (refl, (refl, (refl, (refl, refl))))
+
+held-test : (made held .0 ≡ true) × ((runsOf (made held .1) 2 ≡ true) × (grantBy (made held .1) ≡ 0))
+unfolding holds holdBy fork both held wants turnOf grantBy
+held-test = (refl, (refl, refl))
+
+west-granted : granted (floorOf both) 2 ≡ 1
+west-granted = grants-by both (both-test .0) (both-test .1 .0) ∙ both-test .1 .1 .0
+
+none-granted : granted (floorOf held) 2 ≡ 0
+none-granted = grants-by held (held-test .0) (held-test .1 .0) ∙ held-test .1 .1
+
+west-wants : wants (view (floorOf both)) 2 1 ≡ true
+west-wants =
+    let s = made-shows both (both-test .0) in
+    subst (λ (k : ℕ). wants (view (floorOf both)) 2 k ≡ true) (ap (λ (x : Model). turnOf x 2) (s .value) ∙ both-test .1 .1 .1 .1)
+    (nobody-waits-twice (floorOf both) (s .well) .turn-wants 2 4 (ap (λ (x : Model). wants x 2 4) (s .value) ∙ both-test .1 .1 .1 .0))
+
+-- tile 2 stopped: whatever comes before the next round, a booking, the repair, a refused stop (8), no side wants
+abbrev meanwhile : List Call
+meanwhile = book 4 (can 6 70 0) ∷ repair 2 ∷ stop 3 ∷ []
+
+typed-meanwhile : All Typed meanwhile
+unfolding isTyped allOf can
+typed-meanwhile = all-typed meanwhile refl
+
+stop-test : refusalBy m (stop 2) ≡ 0
+unfolding holds holdBy fork
+stop-test = refl
+
+none-wants : (k : ℕ) → wants (view (floorAfter f (stop 2 ∷ book 4 (can 6 70 0) ∷ repair 2 ∷ stop 3 ∷ []))) 2 k ≡ false
+none-wants = nobody-waits-twice f (shown .well) .stop-ends 2 (shows-refusal f m shown (stop 2) ∙ stop-test) meanwhile typed-meanwhile refl
