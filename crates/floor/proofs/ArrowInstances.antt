@@ -2,7 +2,7 @@
 use mathlib.Core.Path.{_≡_, refl, sym, ap, _∙_, subst}
 use mathlib.Core.Logic.{_≢_}
 use mathlib.Core.Bool.{true, false}
-use mathlib.Core.List.{List, [], _∷_, List·Memᴰ}
+use mathlib.Core.List.{List, _∷_, List·Memᴰ}
 use Prim.Native.Nat.{ℕ, _≤_, _<_}
 use native.Mathlib.Omega.{arith}
 use lib.Dec.{eqb}
@@ -15,7 +15,7 @@ use Rattle.floor.specs.Settings.{isHopper}
 use Rattle.floor.specs.Model.{Model, distanceOf, nextOf}
 use Rattle.floor.specs.Memory.{view}
 use Rattle.floor.specs.Demand3.{Call, book, stop, round, Typed, outcome, floorAfter}
-use Rattle.floor.specs.Arrows.{beyond, FacesNearest, Chooses, Unpressed, Steady, Resting}
+use Rattle.floor.specs.Arrows.{beyond, FacesNearest, Chooses, Unpressed, Resting}
 use Rattle.floor.proofs.Calling.{can, holds}
 use Rattle.floor.proofs.Shown.{Shows, valueBy, shows-call}
 use Rattle.floor.proofs.Walked.{isTyped, all-typed, valueAfter, unpressedBy, shows-list, unpressed}

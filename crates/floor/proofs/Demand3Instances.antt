@@ -1,8 +1,8 @@
 -- Demand 3 on a list from a floor in use, field by field: two hoppers, two canisters on tile 2, a refused call of each sort. That tiles are empty in the end is Instances.
 use mathlib.Core.Path.{_≡_, refl, sym, ap, _∙_, subst, fun-ext}
-use mathlib.Core.Bool.{Bool, true, false, not}
+use mathlib.Core.Bool.{Bool, true, not}
 use mathlib.Core.List.{List, [], _∷_, _++_, List·Permᴰ}
-use Prim.Native.Nat.{ℕ, _+_, _<_}
+use Prim.Native.Nat.{ℕ, _+_}
 use native.Mathlib.Omega.{arith}
 use lib.Dec.{eqb}
 use lib.ListN.{length, getD}
@@ -10,7 +10,6 @@ use Rattle.laws.specs.Define.{cat, allOf, pairsOf}
 use Rattle.laws.specs.Every.{All}
 use Rattle.floor.specs.declared.Settings.{Settings}
 use Rattle.floor.specs.declared.Floor.{Floor}
-use Rattle.floor.specs.Sides.{sides}
 use Rattle.floor.specs.Settings.{spacing}
 use Rattle.floor.specs.Model.{Model, runsOf, membersOf, numbersOn}
 use Rattle.floor.specs.Memory.{view}

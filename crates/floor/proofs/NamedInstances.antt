@@ -21,7 +21,7 @@ use Rattle.floor.specs.Named.{needed, recallCalls, AllAccepted, Recallin
 use Rattle.floor.proofs.Calling.{settings, can, named, holds}
 use Rattle.floor.proofs.Shown.{Shows, refusalBy, shows-refusal}
 use Rattle.floor.proofs.Walked.{makesBy, disturbsBy, call-disturbs}
-use Rattle.floor.proofs.Made.{Made, called, fresh, book as put, rounds as run, stop as halt, repair as mend, keep as kept, floorOf, made, made-shows, holdBy}
+use Rattle.floor.proofs.Made.{Made, fresh, book as put, rounds as run, stop as halt, repair as mend, keep as kept, floorOf, made, made-shows, holdBy}
 use Rattle.floor.proofs.Named.{named-layouts}
 use Rattle.floor.proofs.Names.{spelling}
 

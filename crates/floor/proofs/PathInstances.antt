@@ -2,16 +2,13 @@
 use mathlib.Core.Path.{_≡_, refl, sym, ap, _∙_, subst}
 use mathlib.Core.Logic.{_≢_}
 use mathlib.Core.Bool.{true, false, true≢false}
-use mathlib.Core.List.{List, [], _∷_}
-use Prim.Native.Nat.{ℕ, _≤_, _<_}
+use Prim.Native.Nat.{ℕ, _≤_}
 use native.Mathlib.Omega.{arith}
-use Rattle.floor.specs.declared.Settings.{Settings}
-use Rattle.floor.specs.declared.Floor.{Floor}
 use Rattle.floor.specs.Settings.{total}
 use Rattle.floor.specs.Model.{Model, runsOf, distanceOf}
 use Rattle.floor.specs.Memory.{view}
 use Rattle.floor.specs.Live.{LivePath, here, step}
-use Rattle.floor.specs.Demand3.{Call, floorAfter}
+use Rattle.floor.specs.Demand3.{floorAfter}
 use Rattle.floor.specs.Distances.{steps, ToNearest}
 use Rattle.floor.proofs.Calling.{several, holds}
 use Rattle.floor.proofs.Shown.{Shows}

@@ -14,7 +14,7 @@ use Rattle.floor.specs.declared.Settings.{Settings}
 use Rattle.floor.specs.declared.Floor.{Floor}
 use Rattle.floor.specs.declared.Report.{Report}
 use Rattle.floor.specs.Sides.{sides, opposite}
-use Rattle.floor.specs.Settings.{total, isHopper}
+use Rattle.floor.specs.Settings.{total}
 use Rattle.floor.specs.Model.{Model, runsOf, nextOf, membersOf}
 use Rattle.floor.specs.Memory.{view}
 use Rattle.floor.specs.Signal.{lack, missing}
@@ -22,9 +22,9 @@ use Rattle.floor.specs.Calls.{reportOf, roundAnswer}
 use Rattle.floor.specs.Reports.{listedAt}
 use Rattle.floor.specs.Demand3.{round, outcome}
 use Rattle.floor.specs.Fairness.{wants, turnOf}
-use Rattle.floor.specs.Standing.{ahead, Shifts, Shifted, Fits, Standing, reasonAt, missingAt, HasGap}
+use Rattle.floor.specs.Standing.{ahead, Shifts, Shifted, Fits, Standing, reasonAt, missingAt}
 use Rattle.floor.proofs.Calling.{several, settings, can, holds}
-use Rattle.floor.proofs.Shown.{Shows, valueBy, shows-call, shows-report}
+use Rattle.floor.proofs.Shown.{valueBy, shows-call, shows-report}
 use Rattle.floor.proofs.Made.{Made, fresh, book as put, stop as halt, rounds as run, floorOf, made, made-shows, holdBy}
 use Rattle.floor.proofs.Grid.{at1, at2, at3, at4}
 use Rattle.floor.proofs.Standing.{standing, gap-test}

@@ -1,8 +1,8 @@
 -- What every round's report promises, on concrete floors: two deliveries at the second hopper, and a floor with one hopper.
-use mathlib.Core.Path.{_≡_, refl, ap, _∙_, subst}
+use mathlib.Core.Path.{_≡_, refl, subst}
 use mathlib.Core.Bool.{true}
 use mathlib.Core.List.{List, [], _∷_}
-use Prim.Native.Nat.{ℕ, _≤_, _<_}
+use Prim.Native.Nat.{_≤_, _<_}
 use native.Mathlib.Omega.{arith}
 use lib.ListN.{length, getD, drop}
 use Rattle.laws.specs.Every.{All, Pairs}
@@ -11,7 +11,7 @@ use Rattle.floor.specs.declared.Report.{Report}
 use Rattle.floor.specs.Settings.{hoppersOf}
 use Rattle.floor.specs.Model.{Model}
 use Rattle.floor.specs.Memory.{view}
-use Rattle.floor.specs.Calls.{noDelivery, reportOf, roundAnswer}
+use Rattle.floor.specs.Calls.{noDelivery, reportOf}
 use Rattle.floor.specs.Reports.{Lists}
 use Rattle.floor.proofs.Calling.{several, holds}
 use Rattle.floor.proofs.Shown.{shows-report}

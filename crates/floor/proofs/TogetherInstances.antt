@@ -1,9 +1,8 @@
 -- [14] on concrete floors: what `two-phones` says of calls that change places, of stop, repair, stop and of two bookings, refused calls and a malformed floor too. What is computed is computed on values.
 use mathlib.Core.Path.{_≡_, refl, ap, _∙_, subst}
-use mathlib.Core.Logic.{_≢_}
 use mathlib.Core.Bool.{true, false}
 use mathlib.Core.List.{List, [], _∷_, _++_}
-use Prim.Native.Nat.{ℕ, _^_}
+use Prim.Native.Nat.{_^_}
 use native.Mathlib.Omega.{arith}
 use Rattle.floor.specs.declared.Settings.{Settings}
 use Rattle.floor.specs.declared.Floor.{Floor}
@@ -12,7 +11,7 @@ use Rattle.floor.specs.Model.{Model, runsOf}
 use Rattle.floor.specs.Memory.{zeroFloor, view}
 use Rattle.floor.specs.Calls.{zeroReport}
 use Rattle.floor.specs.Demand3.{Call, book, anywhere, stop, repair, round, Typed, outcome, floorAfter}
-use Rattle.floor.specs.Together.{stops, repairs, placed, unplaced, Exchangeable, presses, booking, placeTo, reportTo, Said, said, EitherOrder, saidIn, Exchanged, BothBooked}
+use Rattle.floor.specs.Together.{stops, repairs, placed, unplaced, presses, booking, placeTo, reportTo, Said, said, EitherOrder, saidIn, Exchanged, BothBooked}
 use Rattle.floor.proofs.Calling.{can, holds}
 use Rattle.floor.proofs.Shown.{Shows, refusalBy, placeBy, valueBy, shows-refusal, shows-place, shows-call}
 use Rattle.floor.proofs.Made.{Made, begun, book as put, stop as halt, floorOf, made, made-shows, holdBy}
