@@ -2,7 +2,7 @@
 use mathlib.Core.Path.{_≡_, refl, sym, ap, _∙_, subst, fun-ext}
 use mathlib.Core.Bool.{Bool, true, not}
 use mathlib.Core.List.{List, [], _∷_, _++_, List·Permᴰ}
-use Prim.Native.Nat.{ℕ, _+_}
+use Prim.Native.Nat.{ℕ, _+_, _-_, _^_}
 use native.Mathlib.Omega.{arith}
 use lib.Dec.{eqb}
 use lib.ListN.{length, getD}
@@ -33,11 +33,11 @@ f = floorOf used
 abbrev m : Model
 m = made used .1
 
--- 7 and 8 go into the first hopper, 4 into the second; 33, 8 and 32 are refused
+-- 7 and the greatest number go into the first hopper, 4 into the second; 33, 8 and 32 are refused
 abbrev calls : List Call
-calls = book 1 (can 7 0 0) ∷ book 1 (can 7 40 0) ∷ round ∷ anywhere 1 8 ∷ stop 0 ∷ repair 2 ∷ round ∷ []
+calls = book 1 (can 7 0 0) ∷ book 1 (can 7 40 0) ∷ round ∷ anywhere 1 (2 ^ 32 - 1) ∷ stop 0 ∷ repair 2 ∷ round ∷ []
 
-used-test : (made used .0 ≡ true) × ((answersBy m calls ≡ 0 ∷ 33 ∷ 0 ∷ 0 ∷ 8 ∷ 32 ∷ 0 ∷ []) × ((bookedBy m calls ≡ 7 ∷ 8 ∷ []) × ((reportedBy m calls 0 ≡ 7 ∷ 8 ∷ []) × (reportedBy m calls 1 ≡ 4 ∷ []))))
+used-test : (made used .0 ≡ true) × ((answersBy m calls ≡ 0 ∷ 33 ∷ 0 ∷ 0 ∷ 8 ∷ 32 ∷ 0 ∷ []) × ((bookedBy m calls ≡ 7 ∷ (2 ^ 32 - 1) ∷ []) × ((reportedBy m calls 0 ≡ 7 ∷ (2 ^ 32 - 1) ∷ []) × (reportedBy m calls 1 ≡ 4 ∷ []))))
 unfolding holds holdBy used can
 used-test = (refl, (refl, (refl, (refl, refl))))
 
@@ -72,28 +72,28 @@ spaced-two : pairsOf (apart (spacing (f .settings))) (membersOf (view (floorAfte
 spaced-two = subst (λ (g : Floor). pairsOf (apart (spacing (f .settings))) (membersOf (view g) 2) ≡ true) (P .is-now) (P .spaced 2)
 
 -- ---- the numbers: before and now, by the value
-numbers-test : (numbersOn m ++ (7 ∷ 8 ∷ []) ≡ 4 ∷ 5 ∷ 6 ∷ 7 ∷ 8 ∷ []) × (numbersOn (valueAfter m calls) ++ cat 4 (reportedBy m calls) ≡ 5 ∷ 6 ∷ 4 ∷ 7 ∷ 8 ∷ [])
+numbers-test : (numbersOn m ++ (7 ∷ (2 ^ 32 - 1) ∷ []) ≡ 4 ∷ 5 ∷ 6 ∷ 7 ∷ (2 ^ 32 - 1) ∷ []) × (numbersOn (valueAfter m calls) ++ cat 4 (reportedBy m calls) ≡ 5 ∷ 6 ∷ 4 ∷ 7 ∷ (2 ^ 32 - 1) ∷ [])
 unfolding holds holdBy used can
 numbers-test = (refl, refl)
 
-numbers-before : numbersOn (view f) ++ bookedIn f calls ≡ 4 ∷ 5 ∷ 6 ∷ 7 ∷ 8 ∷ []
+numbers-before : numbersOn (view f) ++ bookedIn f calls ≡ 4 ∷ 5 ∷ 6 ∷ 7 ∷ (2 ^ 32 - 1) ∷ []
 numbers-before = ap (λ (x : Model). numbersOn x ++ bookedIn f calls) (shown .value) ∙ ap (λ (l : List ℕ). numbersOn m ++ l) (booked-same f m shown calls typed ∙ used-test .1 .1 .0) ∙ numbers-test .0
 
-numbers-now : numbersOn (view (floorAfter f calls)) ++ reportedAll f calls ≡ 5 ∷ 6 ∷ 4 ∷ 7 ∷ 8 ∷ []
+numbers-now : numbersOn (view (floorAfter f calls)) ++ reportedAll f calls ≡ 5 ∷ 6 ∷ 4 ∷ 7 ∷ (2 ^ 32 - 1) ∷ []
 unfolding reportedAll
 numbers-now =
     ap (λ (x : Model). numbersOn x ++ cat 4 (reportedIn f calls)) (later .value)
     ∙ ap (λ (g : ℕ → List ℕ). numbersOn (valueAfter m calls) ++ cat 4 g) (fun-ext (reported-same f m shown calls typed)) ∙ numbers-test .1
 
-kept : List·Permᴰ {A = ℕ} (4 ∷ 5 ∷ 6 ∷ 7 ∷ 8 ∷ []) (5 ∷ 6 ∷ 4 ∷ 7 ∷ 8 ∷ [])
+kept : List·Permᴰ {A = ℕ} (4 ∷ 5 ∷ 6 ∷ 7 ∷ (2 ^ 32 - 1) ∷ []) (5 ∷ 6 ∷ 4 ∷ 7 ∷ (2 ^ 32 - 1) ∷ [])
 kept =
     let k = subst (λ (g : Floor). List·Permᴰ (numbersOn (view f) ++ bookedIn f calls) (numbersOn (view g) ++ reportedAll f calls)) (P .is-now) (P .kept) in
-    subst (λ (l : List ℕ). List·Permᴰ {A = ℕ} (4 ∷ 5 ∷ 6 ∷ 7 ∷ 8 ∷ []) l) numbers-now (subst (λ (l : List ℕ). List·Permᴰ l (numbersOn (view (floorAfter f calls)) ++ reportedAll f calls)) numbers-before k)
+    subst (λ (l : List ℕ). List·Permᴰ {A = ℕ} (4 ∷ 5 ∷ 6 ∷ 7 ∷ (2 ^ 32 - 1) ∷ []) l) numbers-now (subst (λ (l : List ℕ). List·Permᴰ l (numbersOn (view (floorAfter f calls)) ++ reportedAll f calls)) numbers-before k)
 
-once-before : pairsOf (λ x y. not (eqb x y)) (4 ∷ 5 ∷ 6 ∷ 7 ∷ 8 ∷ []) ≡ true
+once-before : pairsOf (λ x y. not (eqb x y)) (4 ∷ 5 ∷ 6 ∷ 7 ∷ (2 ^ 32 - 1) ∷ []) ≡ true
 once-before = subst (λ (l : List ℕ). pairsOf (λ x y. not (eqb x y)) l ≡ true) numbers-before (P .once-before)
 
-once-now : pairsOf (λ x y. not (eqb x y)) (5 ∷ 6 ∷ 4 ∷ 7 ∷ 8 ∷ []) ≡ true
+once-now : pairsOf (λ x y. not (eqb x y)) (5 ∷ 6 ∷ 4 ∷ 7 ∷ (2 ^ 32 - 1) ∷ []) ≡ true
 once-now = subst (λ (l : List ℕ). pairsOf (λ x y. not (eqb x y)) l ≡ true) numbers-now (subst (λ (g : Floor). pairsOf (λ x y. not (eqb x y)) (numbersOn (view g) ++ reportedAll f calls) ≡ true) (P .is-now) (P .once-now))
 
 -- ---- the counters: booked 4 + 2; delivered 1 + 2 to the first hopper, 0 + 1 to the second
@@ -117,7 +117,7 @@ delivered-to k n l p q =
     ∙ ap (λ (r : List ℕ). getD (m .counters .delivered) k 0 + length r) (reported-same f m shown calls typed k ∙ q) ∙ ap (λ (x : ℕ). x + length l) p
 
 delivered-first : getD (floorAfter f calls .counters .delivered) 0 0 ≡ 3
-delivered-first = delivered-to 0 1 (7 ∷ 8 ∷ []) (counters .1 .0) (used-test .1 .1 .1 .0)
+delivered-first = delivered-to 0 1 (7 ∷ (2 ^ 32 - 1) ∷ []) (counters .1 .0) (used-test .1 .1 .1 .0)
 
 delivered-second : getD (floorAfter f calls .counters .delivered) 1 0 ≡ 1
 delivered-second = delivered-to 1 0 (4 ∷ []) (counters .1 .1) (used-test .1 .1 .1 .1)
