@@ -12,9 +12,10 @@ use Rattle.floor.specs.declared.Rounded.{Rounded}
 use Rattle.floor.specs.Model.{Model, runsOf}
 use Rattle.floor.specs.Memory.{zeroFloor, view}
 use Rattle.floor.specs.Calls.{bookAnswer, stopAnswer, roundAnswer}
-use Rattle.floor.specs.Demand3.{Call, book, anywhere, stop, repair, round, keep, forget, recall, Typed, floorAfter, bookedIn, reportedIn, runsAfter}
+use Rattle.floor.specs.Demand3.{Call, book, anywhere, stop, repair, round, keep, forget, recall, list, Typed, floorAfter, bookedIn, reportedIn, runsAfter}
 use Rattle.floor.specs.Chain.{Made as Answered, none, books, stops, rounds, bookedBy, reportedBy, joined, runsMade, Chained}
 use Rattle.floor.proofs.Calling.{can, named, holds}
+use Rattle.floor.proofs.ListSamples.{entry}
 use Rattle.floor.proofs.Shown.{Shows}
 use Rattle.floor.proofs.Walked.{isTyped, all-typed, valueAfter, bookedBy as bookedOf, reportedBy as reportedOf, booked-same, reported-same, runs-same}
 use Rattle.floor.proofs.Made.{Made, begun, book as put, floorOf, made, made-shows, holdBy}
@@ -83,7 +84,7 @@ A = named (65 ∷ [])
 
 -- every sort of call, refused ones too, can be made: on this floor, and on the all-zero one
 abbrev sorts : List Call
-sorts = book 0 c ∷ anywhere 1 7 ∷ stop 0 ∷ repair 0 ∷ round ∷ keep A ∷ recall A ∷ forget A ∷ stop 2 ∷ []
+sorts = book 0 c ∷ anywhere 1 7 ∷ list (entry 0 8 0 0 ∷ []) ∷ stop 0 ∷ repair 0 ∷ round ∷ keep A ∷ recall A ∷ forget A ∷ stop 2 ∷ []
 
 can-be-made : Answered f sorts (floorAfter f sorts) (bookedIn f sorts) (reportedIn f sorts)
 can-be-made = real-calls .every f sorts

@@ -100,7 +100,7 @@ aboard-empty : membersOf (view (floorAfter (floorAfter (floorOf one) (keep A ∷
 aboard-empty = emptied one (keep A ∷ []) aboard 0 (aboard-test .0)
 
 -- the calls that a recall is, by the value
-unfoldable neededBy : Model → ℕ → ℕ → ℕ → List Call
+unfoldable pub neededBy : Model → ℕ → ℕ → ℕ → List Call
 neededBy m set t zero = []
 neededBy m set t (suc n) = cond (bit set t) (cond (runsOf m t) [] (repair t ∷ [])) (cond (runsOf m t) (stop t ∷ []) []) ++ neededBy m set (suc t) n
 
@@ -109,7 +109,7 @@ unfolding needed neededBy
 needed-same f set t zero = refl
 needed-same f set t (suc n) = rw (needed-same f set (suc t) n)
 
-recall-calls : (f : Floor) (m : Model) → Shows f m → (name : ℕ) → recallCalls f name ≡ neededBy m (setOf (m .layouts) name) 0 (total (m .settings))
+pub recall-calls : (f : Floor) (m : Model) → Shows f m → (name : ℕ) → recallCalls f name ≡ neededBy m (setOf (m .layouts) name) 0 (total (m .settings))
 unfolding recallCalls recallSet view
 recall-calls f m s name = needed-same f (setOf (view f .layouts) name) 0 (total (f .settings)) ∙ ap (λ (x : Model). neededBy x (setOf (x .layouts) name) 0 (total (x .settings))) (s .value)
 

@@ -1,6 +1,6 @@
 -- [4] in demand 3, [11] and [3]: lists in which list calls stand anywhere, refused ones among them; what the theorems say of them, read off.
 use mathlib.Core.Path.{_≡_, refl, sym, ap, _∙_, subst, fun-ext}
-use mathlib.Core.Bool.{Bool, true, false, _&&_, true≢false}
+use mathlib.Core.Bool.{true, false, _&&_, true≢false}
 use mathlib.Core.List.{List, [], _∷_, _++_, List·Permᴰ}
 use Prim.Native.Nat.{ℕ, _+_}
 use native.Mathlib.Omega.{arith}
@@ -12,13 +12,13 @@ use Rattle.floor.specs.declared.Floor.{Floor}
 use Rattle.floor.specs.Model.{Model, nextOf, membersOf, numbersOn, runsOf}
 use Rattle.floor.specs.Memory.{view}
 use Rattle.floor.specs.Live.{LivePath, connected}
-use Rattle.floor.specs.Demand3.{Call, stop, repair, round, list, Typed, outcome, floorAfter, bookedIn, reportedAll, runsAfter, disturbs, Quiet, Promises}
+use Rattle.floor.specs.Demand3.{Call, stop, repair, round, list, Typed, floorAfter, bookedIn, reportedAll, runsAfter, disturbs, Quiet, Promises}
 use Rattle.floor.specs.Fairness.{wants, Waiting, grantsIn, Fair}
 use Rattle.floor.specs.Arrows.{Unpressed}
 use Rattle.floor.proofs.Calling.{can, holds}
 use Rattle.floor.proofs.Shown.{Shows}
 use Rattle.floor.proofs.Walked.{isTyped, all-typed, valueAfter, bookedBy, disturbsBy, quietBy, unpressedBy, waitingBy, call-disturbs, shows-list, booked-same, runs-same, quiet, unpressed, waiting}
-use Rattle.floor.proofs.Made.{Made, begun, fresh, book as put, floorOf, made, made-shows, list-shows, list-typed, answers, booked, reportedIn, grants, runsAfter as ranAfter, Rows, hold, holdBy, by-values}
+use Rattle.floor.proofs.Made.{Made, begun, fresh, book as put, floorOf, made, made-shows, list-shows, list-typed, answers, booked, reportedIn, runsAfter as ranAfter, Rows, hold, holdBy, by-values}
 use Rattle.floor.proofs.Theorem.{demand3}
 use Rattle.floor.proofs.Fairness.{nobody-waits-twice}
 use Rattle.floor.proofs.Arrows.{arrows}

@@ -2,8 +2,8 @@
 use mathlib.Core.Path.{_≡_, refl, sym, ap, _∙_, subst}
 use mathlib.Core.Logic.{inl, inr, _↔_}
 use mathlib.Core.Bool.{Bool, true, false, cond, not, _&&_, _||_}
-use mathlib.Core.List.{List, [], _∷_, _++_}
-use Prim.Native.Nat.{ℕ, zero, suc, _<_}
+use mathlib.Core.List.{List, [], _∷_}
+use Prim.Native.Nat.{ℕ, suc, _<_}
 use native.Mathlib.Omega.{arith}
 use lib.Dec.{eqb}
 use lib.ListN.{length, replicate}
@@ -17,13 +17,14 @@ use Rattle.floor.specs.Model.{Model, runsOf}
 use Rattle.floor.specs.Memory.{zeroSettings, zeroLayout, zeroFloor, view, headOf}
 use Rattle.floor.specs.Calls.{freshAnswer, runningSet}
 use Rattle.floor.specs.Demand3.{Call, book, anywhere, stop, repair, round, keep, forget, recall, outcome, floorAfter, recallSet, recallMakes, runsBy, latest, disturbs}
-use Rattle.floor.specs.Named.{needed, recallCalls, AllAccepted, Recalling, SameButLayouts, Keeping, Forgetting, Before}
+use Rattle.floor.specs.Named.{recallCalls, AllAccepted, Recalling, SameButLayouts, Keeping, Forgetting, Before}
 use Rattle.floor.proofs.Calling.{settings, can, named, holds}
 use Rattle.floor.proofs.Shown.{Shows, refusalBy, shows-refusal}
 use Rattle.floor.proofs.Walked.{makesBy, disturbsBy, call-disturbs}
 use Rattle.floor.proofs.Made.{Made, fresh, book as put, rounds as run, stop as halt, repair as mend, keep as kept, floorOf, made, made-shows, holdBy}
 use Rattle.floor.proofs.Named.{named-layouts}
 use Rattle.floor.proofs.Names.{spelling}
+use Rattle.floor.proofs.LayoutInstances.{neededBy, recall-calls}
 
 abbrev A : ℕ
 A = named (65 ∷ [])
@@ -34,21 +35,7 @@ B = named (66 ∷ [])
 abbrev C : ℕ
 C = named (67 ∷ [])
 
--- the calls that a recall is, by the value
-unfoldable neededBy : Model → ℕ → ℕ → ℕ → List Call
-neededBy m set t zero = []
-neededBy m set t (suc n) = cond (bit set t) (cond (runsOf m t) [] (repair t ∷ [])) (cond (runsOf m t) (stop t ∷ []) []) ++ neededBy m set (suc t) n
-
 module _ (f : Floor) (m : Model) (s : Shows f m) where
-  needed-same : (set t n : ℕ) → needed f set t n ≡ neededBy (view f) set t n
-  unfolding needed neededBy
-  needed-same set t zero = refl
-  needed-same set t (suc n) = rw (needed-same set (suc t) n)
-
-  recalls : (name : ℕ) → recallCalls f name ≡ neededBy m (setOf (m .layouts) name) 0 (total (m .settings))
-  unfolding recallCalls recallSet view
-  recalls name = needed-same (setOf (view f .layouts) name) 0 (total (f .settings)) ∙ ap (λ (x : Model). neededBy x (setOf (x .layouts) name) 0 (total (x .settings))) (s .value)
-
   makes : (name t : ℕ) → recallMakes f name t ≡ makesBy m name t
   unfolding recallMakes recallSet makesBy view
   makes name t = ap (λ (x : Model). makesBy x name t) (s .value)
@@ -77,7 +64,7 @@ accepted : outcome f (recall A) .refusal ≡ 0
 accepted = shows-refusal f m shown (recall A) ∙ row-test .1 .0
 
 calls : recallCalls f A ≡ three
-calls = recalls f m shown A ∙ row-test .1 .1 .0
+calls = recall-calls f m shown A ∙ row-test .1 .1 .0
 
 on-floor : (t : ℕ) → t < 5 → t < total (f .settings)
 unfolding view
@@ -148,7 +135,7 @@ still-recalling : Recalling (floorOf still) B
 still-recalling = named-layouts .0 (floorOf still) .recalling B (shows-refusal (floorOf still) (made still .1) still-shows (recall B) ∙ still-test .1 .0)
 
 still-quiet : disturbs (floorOf still) (recall B) ≡ false
-still-quiet = still-recalling .ends .1 (recalls (floorOf still) (made still .1) still-shows B ∙ still-test .1 .1 .0)
+still-quiet = still-recalling .ends .1 (recall-calls (floorOf still) (made still .1) still-shows B ∙ still-test .1 .1 .0)
 
 still-none : recallCalls (floorOf still) B ≡ []
 still-none = still-recalling .ends .0 (call-disturbs (floorOf still) (made still .1) still-shows (recall B) ∙ still-test .1 .1 .1)

@@ -16,18 +16,18 @@ use Rattle.floor.specs.declared.Report.{Report}
 use Rattle.floor.specs.Sides.{sides, opposite}
 use Rattle.floor.specs.Settings.{total}
 use Rattle.floor.specs.Model.{Model, runsOf, nextOf, membersOf}
-use Rattle.floor.specs.Memory.{view}
 use Rattle.floor.specs.Signal.{lack, missing}
-use Rattle.floor.specs.Calls.{reportOf, roundAnswer}
+use Rattle.floor.specs.Calls.{reportOf}
 use Rattle.floor.specs.Reports.{listedAt}
-use Rattle.floor.specs.Demand3.{round, outcome}
+use Rattle.floor.specs.Demand3.{round}
 use Rattle.floor.specs.Fairness.{wants, turnOf}
 use Rattle.floor.specs.Standing.{ahead, Shifts, Shifted, Fits, Standing, reasonAt, missingAt}
 use Rattle.floor.proofs.Calling.{several, settings, can, holds}
-use Rattle.floor.proofs.Shown.{valueBy, shows-call, shows-report}
+use Rattle.floor.proofs.Shown.{valueBy, shows-report}
 use Rattle.floor.proofs.Made.{Made, fresh, book as put, stop as halt, rounds as run, floorOf, made, made-shows, holdBy}
 use Rattle.floor.proofs.Grid.{at1, at2, at3, at4}
-use Rattle.floor.proofs.Standing.{standing, gap-test}
+use Rattle.floor.proofs.Standing.{gap-test}
+use Rattle.floor.proofs.StandingInstances.{told as told-shown}
 
 -- ---- a floor that calls made, the round after it, and the numbers that it delivers
 abbrev before : Made → Model
@@ -41,14 +41,7 @@ listed e = listedAt (reportOf (before e))
 
 module _ (e : Made) (h : made e .0 ≡ true) where
   told : Standing (before e) (after e) (listed e) (reasonAt (floorOf e)) (missingAt (floorOf e))
-  unfolding outcome
-  told =
-      let f = floorOf e in
-      let m = before e in
-      let s = made-shows e h in
-      subst (λ (r : Report). Standing m (after e) (listedAt r) (reasonAt f) (missingAt f)) (shows-report f m s)
-      (subst (λ (x : Model). Standing m x (listedAt (roundAnswer f .report)) (reasonAt f) (missingAt f)) (shows-call f m s round tt .value)
-      (subst (λ (x : Model). Standing x (view (roundAnswer f .floor)) (listedAt (roundAnswer f .report)) (reasonAt f) (missingAt f)) (s .value) (standing f (s .well))))
+  told = told-shown (floorOf e) (before e) (made-shows e h)
 
   -- the reason by the value, and what it says of the tile
   reason : (t : ℕ) → reasonAt (floorOf e) t ≡ getD (reportOf (before e) .reasons) t 0

@@ -24,7 +24,7 @@ use Rattle.floor.proofs.Made.{Made, begun, fresh, book as put, rounds a
 use Rattle.floor.proofs.Standing.{standing}
 
 -- the theorem on the floor f; the floors and the deliveries in it by the value m
-told : (f : Floor) (m : Model) → Shows f m → Standing m (valueBy m round) (listedAt (reportOf m)) (reasonAt f) (missingAt f)
+pub told : (f : Floor) (m : Model) → Shows f m → Standing m (valueBy m round) (listedAt (reportOf m)) (reasonAt f) (missingAt f)
 unfolding outcome
 told f m s =
     subst (λ (r : Report). Standing m (valueBy m round) (listedAt r) (reasonAt f) (missingAt f)) (shows-report f m s)
