@@ -6,14 +6,13 @@ use Prim.Native.Nat.{ℕ}
 use lib.Dec.{eqb}
 use Rattle.laws.specs.Define.{bit}
 use Rattle.floor.specs.declared.Canister.{Canister}
-use Rattle.floor.specs.declared.Booking.{Booking}
 use Rattle.floor.specs.declared.Floor.{Floor}
 use Rattle.floor.specs.declared.Answer.{Answer}
 use Rattle.floor.specs.declared.Placed.{Placed}
 use Rattle.floor.specs.declared.Rounded.{Rounded}
 use Rattle.floor.specs.Calls.{bookAnswer, stopAnswer, repairAnswer, keepAnswer, forgetAnswer, recallAnswer, roundAnswer}
 use Rattle.floor.specs.Anywhere.{anywhereAnswer}
-use Rattle.floor.specs.Bookings.{acceptedIn, listAnswer, listAfter}
+use Rattle.floor.specs.Bookings.{listAnswer, listAfter}
 use Rattle.floor.specs.Reports.{listedAt}
 use Rattle.floor.specs.Demand3.{Call, book, anywhere, stop, repair, round, keep, forget, recall, list, outcome, floorAfter, bookedIn, reportedIn, recallSet, recallMakes, runsBy, latest}
 use Rattle.floor.specs.Chain.{bookedBy, placedBy, listedBy, joined, Made, none, books, places, stops, repairs, rounds, keeps, forgets, recalls, lists, runsMade, RealCalls}

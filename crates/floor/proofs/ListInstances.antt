@@ -1,8 +1,8 @@
--- [4] in demand 3, [11] and [3]: lists in which list calls stand anywhere, refused ones among them; what the theorems say of them, read off.
+-- [4] in demand 3, [11], [3] and [14]: lists in which list calls stand anywhere, refused ones among them; what the theorems say of them, read off.
 use mathlib.Core.Path.{_≡_, refl, sym, ap, _∙_, subst, fun-ext}
 use mathlib.Core.Bool.{true, false, _&&_, true≢false}
-use mathlib.Core.List.{List, [], _∷_, _++_, List·Permᴰ}
-use Prim.Native.Nat.{ℕ, _+_}
+use mathlib.Core.List.{List, [], _∷_, _++_, List·Permᴰ, map}
+use Prim.Native.Nat.{ℕ, _+_, _-_, _^_}
 use native.Mathlib.Omega.{arith}
 use lib.ListN.{length}
 use Rattle.laws.specs.Define.{allOf}
@@ -12,14 +12,17 @@ use Rattle.floor.specs.declared.Floor.{Floor}
 use Rattle.floor.specs.Model.{Model, nextOf, membersOf, numbersOn, runsOf}
 use Rattle.floor.specs.Memory.{view}
 use Rattle.floor.specs.Live.{LivePath, connected}
+use Rattle.floor.specs.Bookings.{answered}
 use Rattle.floor.specs.Demand3.{Call, stop, repair, round, list, Typed, floorAfter, bookedIn, reportedAll, runsAfter, disturbs, Quiet, Promises}
+use Rattle.floor.specs.Together.{stops, presses, listTo, saidIn}
 use Rattle.floor.specs.Fairness.{wants, Waiting, grantsIn, Fair}
 use Rattle.floor.specs.Arrows.{Unpressed}
 use Rattle.floor.proofs.Calling.{can, holds}
-use Rattle.floor.proofs.Shown.{Shows}
+use Rattle.floor.proofs.Shown.{Shows, listBy, shows-list-after}
 use Rattle.floor.proofs.Walked.{isTyped, all-typed, valueAfter, bookedBy, disturbsBy, quietBy, unpressedBy, waitingBy, call-disturbs, shows-list, booked-same, runs-same, quiet, unpressed, waiting}
 use Rattle.floor.proofs.Made.{Made, begun, fresh, book as put, floorOf, made, made-shows, list-shows, list-typed, answers, booked, reportedIn, runsAfter as ranAfter, Rows, hold, holdBy, by-values}
 use Rattle.floor.proofs.Theorem.{demand3}
+use Rattle.floor.proofs.Together.{two-phones}
 use Rattle.floor.proofs.Fairness.{nobody-waits-twice}
 use Rattle.floor.proofs.Arrows.{arrows}
 use Rattle.floor.proofs.AnywhereSamples.{small}
@@ -34,9 +37,9 @@ first = begun (small 8 0)
 unfoldable before : List Call
 before = list (entry 0 5 0 0 ∷ entry 0 6 1 0 ∷ []) ∷ stop 0 ∷ list (elsewhere 65) ∷ repair 0 ∷ list [] ∷ []
 
--- between the rounds a list whose entries are all refused, and one of 65 entries
+-- between the rounds a list whose entries are all refused, the last with the greatest number, and one of 65 entries
 unfoldable further : List Call
-further = round ∷ list (entry 0 5 0 0 ∷ entry 1 9 0 0 ∷ []) ∷ round ∷ list (elsewhere 65) ∷ round ∷ []
+further = round ∷ list (entry 0 5 0 0 ∷ entry 1 (2 ^ 32 - 1) 0 0 ∷ []) ∷ round ∷ list (elsewhere 65) ∷ round ∷ []
 
 -- 65 entries that say accepted before the call; one of two entries is accepted
 unfoldable claimed : List Booking
@@ -230,3 +233,26 @@ busy-unpressed = unpressed settled rest settled-shows busy typed-busy (busy-test
 
 busy-rested : (t : ℕ) → nextOf (view (floorAfter settled busy)) t ≡ nextOf (view settled) t
 busy-rested = arrows (floorOf square) (square-shows .well) .1 .rests (rounds 4) (typed-rounds 4) (unpressed-rounds 4 (floorOf square)) (omega (arith, four-tiles)) .stays busy typed-busy busy-unpressed
+
+-- ---- [14]: two stops change places before a list call: its entries come back with the same answers
+unfoldable asked : List Booking
+asked = entry 2 5 0 0 ∷ entry 1 6 0 0 ∷ []
+
+asked-test : (allOf isTyped (stop 1 ∷ stop 2 ∷ list asked ∷ []) ≡ true) × (listBy (valueAfter (made row .1) (stop 1 ∷ stop 2 ∷ [])) (list asked) ≡ answered (entry 2 5 0 0) 31 ∷ answered (entry 1 6 0 0) 31 ∷ [])
+unfolding holds holdBy row can entry asked
+asked-test = (refl, refl)
+
+none-before : (f : Floor) → floorAfter f [] ≡ f
+unfolding floorAfter
+none-before f = refl
+
+asked-said : map (λ x. x .3) (saidIn (floorOf row) (stop 2 ∷ stop 1 ∷ list asked ∷ [])) ≡ [] ∷ [] ∷ (answered (entry 2 5 0 0) 31 ∷ answered (entry 1 6 0 0) 31 ∷ []) ∷ []
+unfolding saidIn listTo
+asked-said =
+    let f = floorOf row in
+    let two = stop 1 ∷ stop 2 ∷ [] in
+    let typed = all-typed (stop 1 ∷ stop 2 ∷ list asked ∷ []) (asked-test .0) in
+    let X = two-phones f .in-lists [] (stop 1) (stop 2) (list asked ∷ []) (presses (omega arith) stops stops) in
+    let last : listTo (floorAfter f two) (list asked) ≡ answered (entry 2 5 0 0) 31 ∷ answered (entry 1 6 0 0) 31 ∷ [] =
+    shows-list-after (floorAfter f two) (valueAfter (made row .1) two) (shows-list f (made row .1) row-shows two (tt, (tt, tt))) (list asked) (typed .1 .1 .0) ∙ asked-test .1 in
+    ap (map (λ x. x .3)) (X .exchanged) ∙ ap (λ (g : Floor). [] ∷ [] ∷ listTo (floorAfter g two) (list asked) ∷ []) (X .is-here ∙ none-before f) ∙ ap (λ (k : List Booking). [] ∷ [] ∷ k ∷ []) last

@@ -1,9 +1,8 @@
 -- The plan after a list of calls on a plan and a floor is the one after the plan's calls among them: `as-plan-calls`. The statement is specs/Promises.
-use mathlib.Core.Path.{_≡_, refl, _∙_}
+use mathlib.Core.Path.{_≡_, refl}
 use mathlib.Core.List.{List, [], _∷_, _++_}
 use Prim.Native.Nat.{ℕ}
-use Rattle.plan.specs.declared.Plan.{Plan}
-use Rattle.plan_floor.specs.Steps.{planOffer, planRelease, planReport, planned, planAfter, Event, eventsOf, eventsIn, bookingsOf, bookingsIn, Step, call, offer, release, report, State, stepped, stateAfter, planCallsOf, planCallsIn, stepEvents, stepBookings}
+use Rattle.plan_floor.specs.Steps.{planRelease, planReport, planned, planAfter, Event, eventsOf, eventsIn, bookingsOf, bookingsIn, Step, call, offer, release, report, State, stepped, stateAfter, planCallsOf, planCallsIn, stepEvents, stepBookings}
 use Rattle.plan_floor.specs.Promises.{PlanCallsPromise}
 
 -- ---- one step
