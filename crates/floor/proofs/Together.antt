@@ -7,13 +7,15 @@ use Prim.Native.Nat.{ℕ, _^_, _<_}
 use native.Mathlib.Omega.{arith}
 use native.Mathlib.Decide.{ℕ-discrete}
 use lib.Dec.{eqb}
-use lib.ListN.{set}
+use lib.ListN.{set, length}
 use lib.Seq.{getD-set-same, getD-set-other, set-comm, set-set, set-getD}
 use borrow.Author.Tests.{leb-false, le-leb, lt-leb, eq-eqb}
 use Rattle.laws.specs.Define.{allOf, refusal}
+use Rattle.laws.specs.Every.{All}
 use Rattle.laws.proofs.Lists.{all-perm, all-true, true-all}
 use Rattle.laws.proofs.Tests.{by-test, not-both}
 use Rattle.floor.specs.declared.Canister.{Canister}
+use Rattle.floor.specs.declared.Booking.{Booking}
 use Rattle.floor.specs.declared.Floor.{Floor}
 use Rattle.floor.specs.Settings.{total, spacing, isHopper}
 use Rattle.floor.specs.Model.{TileState, Model, noTile, tileOf, runs, runsOf, membersOf, withTiles, withTile, withCounters, withMembers}
@@ -22,8 +24,9 @@ use Rattle.floor.specs.Well.{apart, wellFormed}
 use Rattle.floor.specs.Move.{insert}
 use Rattle.floor.specs.Calls.{answer, bookTests, withBooking, booked, bookAnswer, stopTests, stopped, stopAnswer, repairTests, repaired, repairAnswer, zeroReport}
 use Rattle.floor.specs.Anywhere.{placeB, placeA, anywhereTests, placedAt, anywhereAnswer}
-use Rattle.floor.specs.Demand3.{Call, Typed, outcome, floorAfter}
-use Rattle.floor.specs.Together.{Presses, stops, repairs, Books, placed, unplaced, Exchangeable, presses, booking, placeTo, reportTo, listTo, Said, said, EitherOrder, saidIn, Exchanged, BothBooked, Together}
+use Rattle.floor.specs.Bookings.{answered, single, floorSingly, entriesSingly, tooLong, listAnswer, listAfter}
+use Rattle.floor.specs.Demand3.{Call, book, list, Typed, outcome, floorAfter}
+use Rattle.floor.specs.Together.{Presses, stops, repairs, Books, placed, unplaced, Exchangeable, presses, booking, listing, placeTo, reportTo, listTo, Said, said, EitherOrder, saidIn, Exchanged, BothBooked, Together}
 use Rattle.floor.proofs.Sound.{Sound}
 use Rattle.floor.proofs.Pack.{well-sound}
 use Rattle.floor.proofs.First.{pack-view-well}
@@ -140,9 +143,61 @@ by-forms f {c} {e} F G A B S says says′ = record {
   second-answer = says′ (B .number (outcome f c .floor) ∙ ap (numberBy G) (A .floor f) ∙ number-second F G S f ∙ sym (B .number f));
 }
 
+-- a booking and a press of another tile
+book-order : {t u : ℕ} {c e : Call} (f : Floor) → t ≢ u → Books t c → Typed c → Presses u e → EitherOrder f c e
+book-order {t} {u} {c} {e} f n p h q = by-forms f (bookForm p h) (pressForm q) (book-answers p h) (press-answers q) (book-beside t u n p h q) (book-says n p q f) (press-says q f (outcome f c .floor))
+
+-- ---- a list of bookings and a press of a tile on which it books nothing: booking by booking
+module _ (u : ℕ) (e : Call) (q : Presses u e) where
+  entry-order : (f : Floor) (b : Booking) → b .tile ≢ u → b .canister .number < 2 ^ 32 → EitherOrder f (book (b .tile) (b .canister)) e
+  entry-order f b n h = book-order f n (placed (b .canister)) h q
+
+  list-floor : (f : Floor) (l : List Booking) → All (λ b. b .tile ≢ u) l → Typed (list l) → outcome (floorSingly f l) e .floor ≡ floorSingly (outcome f e .floor) l
+  unfolding floorSingly floorAfter outcome
+  list-floor f [] n h = refl
+  list-floor f (b ∷ l) n h = list-floor (single f b .floor) l (n .1) (h .1) ∙ ap (λ (g : Floor). floorSingly g l) (entry-order f b (n .0) (h .0) .same-floor)
+
+  list-entries : (f : Floor) (l : List Booking) → All (λ b. b .tile ≢ u) l → Typed (list l) → entriesSingly (outcome f e .floor) l ≡ entriesSingly f l
+  unfolding entriesSingly floorAfter outcome
+  list-entries f [] n h = refl
+  list-entries f (b ∷ l) n h =
+      let E = entry-order f b (n .0) (h .0) in
+      let a : single (outcome f e .floor) b .refusal ≡ single f b .refusal = ap (λ (y : Said). y .0) (E .first-answer) in
+      let r = ap (λ (g : Floor). entriesSingly g l) (sym (E .same-floor)) ∙ list-entries (single f b .floor) l (n .1) (h .1) in
+      (λ i. answered b (a i) ∷ r i)
+
+  list-said : (f : Floor) (l : List Booking) → All (λ b. b .tile ≢ u) l → Typed (list l) → said (floorSingly f l) e ≡ said f e
+  unfolding floorSingly outcome
+  list-said f [] n h = refl
+  list-said f (b ∷ l) n h = list-said (single f b .floor) l (n .1) (h .1) ∙ entry-order f b (n .0) (h .0) .second-answer
+
+  list-order : (f : Floor) (l : List Booking) → All (λ b. b .tile ≢ u) l → Typed (list l) → EitherOrder f (list l) e
+  unfolding floorAfter outcome listAnswer listTo listAfter placeTo reportTo
+  list-order f l n h = record {
+    same-floor = go-floor (tooLong (length l));
+    first-answer = go-first (tooLong (length l));
+    second-answer = go-second (tooLong (length l));
+  }
+    where
+      g : Floor
+      g = outcome f e .floor
+
+      go-floor : (x : Bool) → outcome (cond x f (floorSingly f l)) e .floor ≡ cond x g (floorSingly g l)
+      go-floor true = refl
+      go-floor false = list-floor f l n h
+
+      go-first : (x : Bool) → _≡_ {A = Said} (cond x 42 0, (0, 0), zeroReport, cond x l (entriesSingly g l)) (cond x 42 0, (0, 0), zeroReport, cond x l (entriesSingly f l))
+      go-first true = refl
+      go-first false = ap (λ (k : List Booking). (0, (0, 0), zeroReport, k)) (list-entries f l n h)
+
+      go-second : (x : Bool) → said (cond x f (floorSingly f l)) e ≡ said f e
+      go-second true = refl
+      go-second false = list-said f l n h
+
 either-order : (f : Floor) (c e : Call) → Exchangeable c e → EitherOrder f c e
 either-order f c e (presses {t} {u} n p q) = by-forms f (pressForm p) (pressForm q) (press-answers p) (press-answers q) (press-beside t u n p q) (press-says p f (outcome f e .floor)) (press-says q f (outcome f c .floor))
-either-order f c e (booking {t} {u} n p h q) = by-forms f (bookForm p h) (pressForm q) (book-answers p h) (press-answers q) (book-beside t u n p h q) (book-says n p q f) (press-says q f (outcome f c .floor))
+either-order f c e (booking n p h q) = book-order f n p h q
+either-order f c e (listing {u} {l} n h q) = list-order u e q f l n h
 
 -- ---- anywhere in a list
 said-both : (f : Floor) (before cs : List Call) → saidIn f (before ++ cs) ≡ saidIn f before ++ saidIn (floorAfter f before) cs

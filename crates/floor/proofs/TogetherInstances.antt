@@ -1,18 +1,23 @@
 -- [14] on concrete floors: what `two-phones` says of calls that change places, of stop, repair, stop and of two bookings, refused calls and a malformed floor too. What is computed is computed on values.
 use mathlib.Core.Path.{_≡_, refl, ap, _∙_, subst}
+use mathlib.Core.Logic.{_≢_}
 use mathlib.Core.Bool.{true, false}
 use mathlib.Core.List.{List, [], _∷_, _++_}
 use Prim.Native.Nat.{_^_}
 use native.Mathlib.Omega.{arith}
+use Rattle.laws.specs.Every.{All}
+use Rattle.floor.specs.declared.Booking.{Booking}
 use Rattle.floor.specs.declared.Settings.{Settings}
 use Rattle.floor.specs.declared.Floor.{Floor}
 use Rattle.floor.specs.Settings.{isHopper}
 use Rattle.floor.specs.Model.{Model, runsOf}
 use Rattle.floor.specs.Memory.{zeroFloor, view}
 use Rattle.floor.specs.Calls.{zeroReport}
-use Rattle.floor.specs.Demand3.{Call, book, anywhere, stop, repair, round, Typed, outcome, floorAfter}
-use Rattle.floor.specs.Together.{stops, repairs, placed, unplaced, presses, booking, placeTo, reportTo, Said, said, EitherOrder, saidIn, Exchanged, BothBooked}
+use Rattle.floor.specs.Bookings.{listAfter}
+use Rattle.floor.specs.Demand3.{Call, book, anywhere, stop, repair, round, list, Typed, outcome, floorAfter}
+use Rattle.floor.specs.Together.{stops, repairs, placed, unplaced, presses, booking, listing, placeTo, reportTo, listTo, Said, said, EitherOrder, saidIn, Exchanged, BothBooked}
 use Rattle.floor.proofs.Calling.{can, holds}
+use Rattle.floor.proofs.ListSamples.{entry}
 use Rattle.floor.proofs.Shown.{Shows, refusalBy, placeBy, valueBy, shows-refusal, shows-place, shows-call}
 use Rattle.floor.proofs.Made.{Made, begun, book as put, stop as halt, floorOf, made, made-shows, holdBy}
 use Rattle.floor.proofs.Together.{two-phones}
@@ -200,3 +205,28 @@ too-wide = two-phones (floorOf ready) .rising 1 1 (anywhere 1 6) (book 1 (can (2
 two-answers : (outcome (floorOf ready) (anywhere 1 7) .refusal ≡ 0) × (outcome (outcome (floorOf ready) (anywhere 1 7) .floor) (book 0 (can 6 4 0)) .refusal ≡ 33)
 unfolding holds holdBy narrow ready
 two-answers = let a = two-phones (floorOf ready) .rising-answers 0 1 (book 0 (can 6 4 0)) (anywhere 1 7) (placed (can 6 4 0)) (unplaced 7) (omega arith) (both (book 0 (can 6 4 0)) (anywhere 1 7) (omega arith) refl refl) in (a .0, a .1)
+
+-- ---- a list of bookings on tile 0, its second entry refused, and a repair of tile 1: the floor and every answer, those of the entries too, are the same
+unfoldable sent : List Booking
+sent = entry 0 6 4 0 ∷ entry 0 7 0 0 ∷ []
+
+sent-elsewhere : All (λ b. b .tile ≢ 1) sent
+unfolding sent entry
+sent-elsewhere = (omega arith, (omega arith, tt))
+
+sent-typed : Typed (list sent)
+unfolding sent entry can
+sent-typed = (omega arith, (omega arith, tt))
+
+list-repair : EitherOrder f (list sent) (repair 1)
+list-repair = two-phones f .either (list sent) (repair 1) (listing sent-elsewhere sent-typed repairs)
+
+list-repair-floor : floorAfter f (list sent ∷ repair 1 ∷ []) ≡ floorAfter f (repair 1 ∷ list sent ∷ [])
+list-repair-floor = list-repair .same-floor
+
+list-entries : listAfter (outcome f (repair 1) .floor) sent ≡ listAfter f sent
+unfolding listTo
+list-entries = ap (λ (x : Said). x .3) (list-repair .first-answer)
+
+repair-after-list : outcome (outcome f (list sent) .floor) (repair 1) .refusal ≡ 0
+repair-after-list = ap (λ (x : Said). x .0) (list-repair .second-answer) ∙ shows-refusal f m shown (repair 1) ∙ pair-test .1 .1 .0

@@ -4,6 +4,7 @@ use mathlib.Core.Logic.{_≢_}
 use mathlib.Core.Bool.{true, false}
 use mathlib.Core.List.{List, [], _∷_, _++_}
 use Prim.Native.Nat.{ℕ}
+use Rattle.laws.specs.Every.{All}
 use Rattle.floor.specs.declared.Canister.{Canister}
 use Rattle.floor.specs.declared.Booking.{Booking}
 use Rattle.floor.specs.declared.Floor.{Floor}
@@ -33,6 +34,8 @@ pub data Exchangeable : Call → Call → Type 0 where
   presses : {t u : ℕ} {c e : Call} → t ≢ u → Presses t c → Presses u e → Exchangeable c e
   -- "A booking and a stop or repair of another tile"; the number has its width, 32 bits
   booking : {t u : ℕ} {c e : Call} → t ≢ u → Books t c → Typed c → Presses u e → Exchangeable c e
+  -- so a list of bookings, none of them on that tile
+  listing : {u : ℕ} {l : List Booking} {e : Call} → All (λ b. b .tile ≢ u) l → Typed (list l) → Presses u e → Exchangeable (list l) e
 
 -- the place that a booking without one tells; zeros for the other calls, which tell none
 unfoldable pub placeTo : Floor → Call → ℕ × ℕ
