@@ -11,7 +11,7 @@ use Rattle.laws.specs.Define.{allOf, pairsOf}
 use Rattle.laws.specs.Every.{All}
 use Rattle.floor.specs.declared.Floor.{Floor}
 use Rattle.floor.specs.Settings.{spacing}
-use Rattle.floor.specs.Model.{membersOf, numbersOn}
+use Rattle.floor.specs.Model.{runsOf, membersOf, numbersOn}
 use Rattle.floor.specs.Memory.{view}
 use Rattle.floor.specs.Well.{inside, apart, wellFormed}
 use Rattle.floor.specs.Bound.{bound}
@@ -102,6 +102,9 @@ module _ (j : ℕ) (l : j < 4) where
 
   delivered : (k : ℕ) → getD (P .now .counters .delivered) k 0 ≡ getD (P .first .counters .delivered) k 0 + length (reportedOn j (loaded 5) mixed k)
   delivered k = P .delivered k
+
+  runs-now : (t : ℕ) → runsOn j (loaded 5) mixed t ≡ runsOf (view (P .now)) t
+  runs-now t = P .runs-now t
 
   counts-live : (t : ℕ) → LivePath (P .first .settings) (runsOn j (loaded 5) mixed) t ↔ connected (P .first .settings) (runsOn j (loaded 5) mixed) t ≡ true
   counts-live t = P .counts-live t

@@ -309,6 +309,7 @@ module _ (j : ℕ) (j4 : j < 4) (b : Barge) (s : bargeSound b ≡ true) (cs : Li
     once-now = rw reported-all (P .once-now);
     booked = rw (R .booked) (P .booked);
     delivered = λ k. rw (R .reported k) (P .delivered k);
+    runs-now = λ t. subst (λ (r : ℕ → Bool). r t ≡ runsOf (view (P .now)) t) runs-are (P .runs-now t);
     counts-live = subst (λ (r : ℕ → Bool). (t : ℕ) → LivePath (first .settings) r t ↔ connected (first .settings) r t ≡ true) runs-are (P .counts-live);
     emptied = λ ds h q n t p.
         let F = further ds h in

@@ -74,6 +74,7 @@ pub record Promises (j : ℕ) (b : Barge) (cs : List BargeCall) : Type 0 where
   pub once-now : pairsOf (λ x y. not (eqb x y)) (numbersOn (view now) ++ reportedAllOn j b cs) ≡ true
   pub booked : now .counters .booked ≡ first .counters .booked + length (bookedOn j b cs)
   pub delivered : (k : ℕ) → getD (now .counters .delivered) k 0 ≡ getD (first .counters .delivered) k 0 + length (reportedOn j b cs k)
+  pub runs-now : (t : ℕ) → runsOn j b cs t ≡ runsOf (view now) t
   pub counts-live : (t : ℕ) → LivePath (first .settings) (runsOn j b cs) t ↔ connected (first .settings) (runsOn j b cs) t ≡ true
   pub emptied : (ds : List BargeCall) → All Typed ds → QuietOn j (bargeAfter b cs) ds → bound (first .settings) (connectedCount (view now) (runsOn j b cs)) ≤ roundsOn j ds
       → (t : ℕ) → LivePath (first .settings) (runsOn j b cs) t → membersOf (view (floorAt (bargeAfter (bargeAfter b cs) ds) j)) t ≡ []

@@ -90,7 +90,10 @@ module _ (s : Settings) (M : Measured s) where
   differ-div x y (inl h) = omega (arith, apart-div x y h)
   differ-div x y (inr h) = omega (arith, apart-div y x h)
 
-  -- along one axis
+  -- along one axis so many fit, and no more
+  pub fit-along : (k : ℕ) → k < span s / spacing s + 1 → k * spacing s ≤ span s
+  fit-along k h = le-div-iff-mul-le {k = spacing s} {x = k} {y = span s} spacing-pos .0 (omega (arith, h))
+
   pub few-along : (l : List ℕ) → All (λ x. x ≤ span s) l → Pairs (Differ (spacing s)) l → length l ≤ span s / spacing s + 1
   few-along l i r = few-cells (λ x. x ≤ span s) (Differ (spacing s)) (λ x. x / spacing s) (span s / spacing s + 1) l within-along (λ x y j k h. differ-div x y h) i r
 

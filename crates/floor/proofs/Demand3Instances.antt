@@ -122,6 +122,10 @@ delivered-first = delivered-to 0 1 (7 ∷ (2 ^ 32 - 1) ∷ []) (counters .1 .0) 
 delivered-second : getD (floorAfter f calls .counters .delivered) 1 0 ≡ 1
 delivered-second = delivered-to 1 0 (4 ∷ []) (counters .1 .1) (used-test .1 .1 .1 .1)
 
+-- ---- the tiles run as the floor now says
+running : runsAfter f calls 1 ≡ runsOf (view (floorAfter f calls)) 1
+running = subst (λ (g : Floor). runsAfter f calls 1 ≡ runsOf (view g) 1) (P .is-now) (P .runs-now 1)
+
 -- ---- live paths: tile 2 has one, by one step to the second hopper; so it counts; and what counts has one
 carry : (Q : Settings → (ℕ → Bool) → Type 0) → Q (m .settings) (runsOf (valueAfter m calls)) → Q (f .settings) (runsAfter f calls)
 unfolding view

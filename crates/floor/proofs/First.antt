@@ -29,7 +29,7 @@ use Rattle.floor.proofs.Sound.{Measured, Inside, Sound}
 use Rattle.floor.proofs.Well.{settings-fact, inside-fact, faces-le, SoundHead, SoundTile, Counted, sound-of}
 use Rattle.floor.proofs.Rows.{view-at}
 use Rattle.floor.proofs.Pack.{zero-off, shown, pack-view, place-shown, well-sound, well-fits, well-few, well-measured, well-lengths, well-head}
-use Rattle.floor.proofs.Capacity.{few-along, few-product, few-sixteen, product-refused, sound-small, sound-well}
+use Rattle.floor.proofs.Capacity.{fit-along, few-along, few-product, few-sixteen, product-refused, sound-small, sound-well}
 
 -- ---- fresh
 fresh-tile : (s : Settings) → Measured s → (t : ℕ) → SoundTile s t (freshTile s t)
@@ -215,6 +215,7 @@ capacity f w =
     let s = f .settings in
     let M = S .measured in
     record {
+      fit = fit-along s M;
       along = few-along s M;
       product = λ t. few-product s M (membersOf (view f) t) (S .inside t) (S .spaced t);
       sixteen = few-sixteen s M;

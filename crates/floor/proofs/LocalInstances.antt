@@ -20,7 +20,7 @@ use Rattle.floor.specs.Memory.{view}
 use Rattle.floor.specs.Well.{inside}
 use Rattle.floor.specs.Route.{route}
 use Rattle.floor.specs.Signal.{signalOf}
-use Rattle.floor.specs.Move.{moveTile}
+use Rattle.floor.specs.Move.{arrivals, moveTile}
 use Rattle.floor.specs.Reasons.{reasonOf, missingOf}
 use Rattle.floor.specs.Calls.{bookAnswer}
 use Rattle.floor.specs.Local.{AlikeAround, AlikeAhead}
@@ -96,6 +96,9 @@ grants-beside (suc (suc (suc (suc (suc k))))) = refl
 same-move : moveTile m some 1 ≡ moveTile n more 1
 same-move = local-steps m n 1 alike .move some more (record { own = refl; beside = grants-beside })
 
+same-takes : arrivals m some 1 ≡ arrivals n more 1
+same-takes = local-steps m n 1 alike .takes some more (record { own = refl; beside = grants-beside })
+
 -- why tile 2 stood depends on tile 1, where its arrow leads, and not on tile 3
 alike-ahead : AlikeAhead m n 2
 unfolding holds holdBy queue longer
@@ -137,6 +140,11 @@ tile-5 =
     let s : 5 ≡ e .0 * 2 + e .1 = e .4 in
     (e .0, e .1, omega (arith, p, q, s), omega (arith, p, q, s))
 
+-- and another column and row would be another tile
+one-place : (c r : ℕ) → r < 2 → c * 2 + r ≡ 2 * 2 + 1 → (c ≡ 2) × (r ≡ 1)
+unfolding several settings
+one-place c r h e = numbered grid .one c r 2 1 h (omega arith) e
+
 -- ---- capacity. U 9, l 3, r 1: two along each axis, so four on a tile; tile 1 holds four
 unfoldable four : Made
 four = put 4 4 4 1 (put 3 0 4 1 (put 2 4 0 1 (put 1 0 0 1 (begun narrow))))
@@ -174,6 +182,10 @@ K : Capacity f
 K = capacity f (shown .well)
 
 -- two places along an axis, and never three
+fit : (k : ℕ) → k < 2 → k * 4 ≤ 6
+unfolding narrow
+fit = subst (λ (s : Settings). (k : ℕ) → k < perAxis s → k * spacing s ≤ span s) set-up (K .fit)
+
 along : (l : List ℕ) → All (λ x. x ≤ 6) l → Pairs (λ x y. (x + 4 ≤ y) ⊎ (y + 4 ≤ x)) l → length l ≤ 2
 unfolding narrow
 along = subst (λ (s : Settings). (l : List ℕ) → All (λ x. x ≤ span s) l → Pairs (λ x y. (x + spacing s ≤ y) ⊎ (y + spacing s ≤ x)) l → length l ≤ perAxis s) set-up (K .along)

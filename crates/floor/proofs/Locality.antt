@@ -114,7 +114,7 @@ module _ (m n : Model) (t : ℕ) (same : m .settings ≡ n .settings) (own : til
 
 -- ---- together
 pub local-steps : Local
-local-steps m n t A = record { route = route-local m n t (A .settings) (A .tiles); signal = signal-local m n t (A .settings) (A .tiles); move = move-local m n t (A .settings) (A .tiles) }
+local-steps m n t A = record { route = route-local m n t (A .settings) (A .tiles); signal = signal-local m n t (A .settings) (A .tiles); move = move-local m n t (A .settings) (A .tiles); takes = arrivals-local m n t (A .settings) (A .tiles) }
 
 pub local-reasons : LocalReasons
 local-reasons m n t A =

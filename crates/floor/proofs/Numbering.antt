@@ -1,10 +1,10 @@
 -- "Tile number = column × H + row": the neighbours of the tile in column c and row r, by columns and rows.
-use mathlib.Core.Path.{_≡_, refl, sym, subst}
+use mathlib.Core.Path.{_≡_, refl, sym, ap, _∙_, subst}
 use mathlib.Core.Bool.{Bool, true, false, cond}
 use Prim.Native.Nat.{ℕ, zero, suc, _+_, _-_, _*_, _/_, _%_, _<_}
 use native.Mathlib.Omega.{arith}
 use native.Mathlib.Nat.{suc-mul, mul-le-mul-right, div-lt-iff-lt-mul, div-add-mod', mod-lt}
-use lib.Arith.{digits-lt, digits-mod}
+use lib.Arith.{digits-lt, digits-div, digits-mod}
 use lib.Dec.{leb, ltb}
 use borrow.Author.Tests.{ltb-true, ltb-false, lt-ltb, le-ltb, le-leb, lt-leb}
 use Rattle.floor.specs.declared.Settings.{Settings}
@@ -61,5 +61,10 @@ module _ (s : Settings) where
           let pos : 0 < s .rows = omega (arith, e) in
           (t / s .rows, t % s .rows, div-lt-iff-lt-mul pos .1 h, mod-lt t pos, sym (div-add-mod' t (s .rows)))
 
+  -- one of each
+  one : (c r d q : ℕ) → r < s .rows → q < s .rows → number c r ≡ number d q → (c ≡ d) × (r ≡ q)
+  one c r d q h k e =
+      (sym (digits-div c h) ∙ ap (λ (x : ℕ). x / s .rows) e ∙ digits-div d k, sym (digits-mod c h) ∙ ap (λ (x : ℕ). x % s .rows) e ∙ digits-mod d k)
+
 pub numbered : TileNumbers
-numbered s = record { at = λ c r h k. record { on-floor = digits-lt h k; west = west s c r k; south = south s c r k; north = north s c r k; east = east s c r k }; each = each s }
+numbered s = record { at = λ c r h k. record { on-floor = digits-lt h k; west = west s c r k; south = south s c r k; north = north s c r k; east = east s c r k }; each = each s; one = one s }

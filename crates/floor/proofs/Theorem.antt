@@ -81,6 +81,7 @@ module _ (f : Floor) (w : wellFormed f ≡ true) (cs : List Call) (typed : All T
     once-now = distinct (numbersOn (view now) ++ reportedAll f cs) (pairs-perm (λ x y. x ≢ y) (λ x y n e. n (sym e)) (Permᴰ·symm (K .nums)) all-once);
     booked = K .books;
     delivered = K .delivers;
+    runs-now = λ t. sym (ap (λ (r : ℕ → Bool). r t) runs);
     counts-live = λ t. carry (λ s r. LivePath s r t ↔ connected s r t ≡ true) (live-iff (view now .settings) (runsOf (view now)) (laid (view now) S) t);
     emptied = λ ds h q.
         carry (λ s r. bound s (connectedCount (view now) r) ≤ roundsIn ds → (t : ℕ) → LivePath s r t → membersOf (view (floorAfter now ds)) t ≡ [])

@@ -30,7 +30,7 @@ entriesSingly f (b ∷ l) = let r = single f b in answered b (r .refusal) ∷ en
 abbrev pub tooLong : ℕ → Bool
 tooLong n = ltb 64 n
 
--- "the call itself is refused by 42 only"; "checked first, with no entry written". That "On a malformed floor every entry receives 30" is what a single booking answers there
+-- "the call itself is refused by 42 only"; "checked first, with no entry written". "On a malformed floor every entry receives 30" needs no clause: a single booking answers 30 there
 unfoldable pub listAnswer : Floor → List Booking → Answer
 listAnswer f l = record { refusal = cond (tooLong (length l)) 42 0; floor = cond (tooLong (length l)) f (floorSingly f l) }
 

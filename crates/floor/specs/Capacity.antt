@@ -21,7 +21,9 @@ abbrev pub perAxis : Settings → ℕ
 perAxis s = span s / spacing s + 1
 
 pub record Capacity (f : Floor) : Type 0 where
-  -- places from 0 to U - l, any two of them d apart
+  -- so many fit: 0, d, 2 × d, … up to U - l
+  pub fit : (k : ℕ) → k < perAxis (f .settings) → k * spacing (f .settings) ≤ span (f .settings)
+  -- and no more: places from 0 to U - l, any two of them at least d apart
   pub along : (l : List ℕ) → All (λ x. x ≤ span (f .settings)) l → Pairs (λ x y. (x + spacing (f .settings) ≤ y) ⊎ (y + spacing (f .settings) ≤ x)) l → length l ≤ perAxis (f .settings)
   pub product : (t : ℕ) → length (membersOf (view f) t) ≤ perAxis (f .settings) * perAxis (f .settings)
   pub sixteen : perAxis (f .settings) * perAxis (f .settings) ≤ 16

@@ -33,7 +33,7 @@ listedBy r after = cond (eqb (r .refusal) 0) (acceptedIn after) []
 abbrev pub reportedBy : Rounded → ℕ → List ℕ
 reportedBy r = listedAt (r .report)
 
--- and then ns
+-- what r reported, then ns
 abbrev pub joined : Rounded → (ℕ → List ℕ) → ℕ → List ℕ
 joined r ns k = reportedBy r k ++ ns k
 
@@ -51,7 +51,7 @@ pub data Made : Floor → List Call → Floor → List ℕ → (ℕ → List ℕ
   lists : {f g : Floor} {cs : List Call} {bs : List ℕ} {ns : ℕ → List ℕ} (l : List Booking) (r : Answer) (after : List Booking) → r ≡ listAnswer f l → after ≡ listAfter f l
       → Made (r .floor) cs g bs ns → Made f (list l ∷ cs) g (listedBy r after ++ bs) ns
 
--- whether tile t runs, by the answers to its stops and repairs and to recalls, where b says whether it ran before
+-- whether tile t runs, by the answers to its stops and repairs and, for a recall, by its answer and the layout that the floor held; b says whether it ran before
 unfoldable pub runsMade : {f g : Floor} {cs : List Call} {bs : List ℕ} {ns : ℕ → List ℕ} → Made f cs g bs ns → ℕ → Bool → Bool
 runsMade none t b = b
 runsMade (books u c r e p) t b = runsMade p t b

@@ -173,6 +173,8 @@ pub record Promises (f : Floor) (cs : List Call) : Type 0 where
   pub booked : now .counters .booked ≡ f .counters .booked + length (bookedIn f cs)
   -- for each hopper
   pub delivered : (k : ℕ) → getD (now .counters .delivered) k 0 ≡ getD (f .counters .delivered) k 0 + length (reportedIn f cs k)
+  -- "A tile runs if the latest accepted stop or repair …": that is what the floor says of it now
+  pub runs-now : (t : ℕ) → runsAfter f cs t ≡ runsOf (view now) t
   -- K, `connectedCount`, counts the canisters on tiles with a live path
   pub counts-live : (t : ℕ) → LivePath (f .settings) (runsAfter f cs) t ↔ connected (f .settings) (runsAfter f cs) t ≡ true
   -- "after any further list with at least (C - 1) × (1 + K × M) rounds and no accepted booking, stop or repair, no canister is on a tile with a live path" to a hopper

@@ -7,10 +7,10 @@ use Rattle.floor.specs.Grid.{neighbour}
 use Rattle.floor.specs.Model.{Model, tileOf}
 use Rattle.floor.specs.Route.{route}
 use Rattle.floor.specs.Signal.{signalOf}
-use Rattle.floor.specs.Move.{moveTile}
+use Rattle.floor.specs.Move.{arrivals, moveTile}
 use Rattle.floor.specs.Reasons.{reasonOf, missingOf}
 
--- a and b agree on t and on what lies beside it; where there is no neighbour, both read no tile
+-- a and b agree on t and on what lies beside it; where there is no neighbour, on the number C of no tile
 pub record Agree (s : Settings) {A : Type 0} (a b : ℕ → A) (t : ℕ) : Type 0 where
   pub own : a t ≡ b t
   pub beside : (k : ℕ) → a (neighbour s k t) ≡ b (neighbour s k t)
@@ -23,15 +23,17 @@ pub record AlikeAround (m n : Model) (t : ℕ) : Type 0 where
 -- each step gives tile t the same. "Each step reads only what the step before left": m and n are what Route, Signal and Move each begin with
 pub record LocalSteps (m n : Model) (t : ℕ) : Type 0 where
   pub route : t < total (m .settings) → tileOf (route m) t ≡ tileOf (route n) t
-  -- its turn, its grant, and its token afterwards
+  -- its turn, its grant, the missing millimetres, and its token afterwards
   pub signal : signalOf m t ≡ signalOf n t
   -- by the grants g on the one floor and e on the other: all that the tile has afterwards
   pub move : (g e : ℕ → ℕ) → Agree (m .settings) g e t → moveTile m g t ≡ moveTile n e t
+  -- what comes to it; at a hopper, what is reported delivered
+  pub takes : (g e : ℕ → ℕ) → Agree (m .settings) g e t → arrivals m g t ≡ arrivals n e t
 
 abbrev pub Local : Type 0
 Local = (m n : Model) (t : ℕ) → AlikeAround m n t → LocalSteps m n t
 
--- [6]: a tile's reason and its millimetres depend on itself and on the tile that its arrow leads to, on that one's neighbours only through its turn
+-- [6]: on floors after Route a tile's reason and its millimetres depend on itself and on the tile that its arrow leads to, on that one's neighbours only through its turn
 pub record AlikeAhead (m n : Model) (t : ℕ) : Type 0 where
   pub settings : m .settings ≡ n .settings
   pub own : tileOf m t ≡ tileOf n t

@@ -19,10 +19,11 @@ pub record Numbered (s : Settings) (c r : ℕ) : Type 0 where
   pub north : neighbour s 3 (numberOf s c r) ≡ cond (ltb (r + 1) (s .rows)) (numberOf s c (r + 1)) (total s)
   pub east : neighbour s 4 (numberOf s c r) ≡ cond (ltb (c + 1) (s .columns)) (numberOf s (c + 1) r) (total s)
 
--- every tile is in one column and row
+-- every tile is in one column and row, and in no other
 pub record Numbering (s : Settings) : Type 0 where
   pub at : (c r : ℕ) → c < s .columns → r < s .rows → Numbered s c r
   pub each : (t : ℕ) → t < total s → (c : ℕ) × (r : ℕ) × (c < s .columns) × (r < s .rows) × (t ≡ numberOf s c r)
+  pub one : (c r d q : ℕ) → r < s .rows → q < s .rows → numberOf s c r ≡ numberOf s d q → (c ≡ d) × (r ≡ q)
 
 abbrev pub TileNumbers : Type 0
 TileNumbers = (s : Settings) → Numbering s
