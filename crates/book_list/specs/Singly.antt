@@ -45,7 +45,7 @@ pub record ByValue (f : Floor) (l : List Booking) (n : ℕ) : Type 0 where
   pub as-list : n ≤ 64 → placesAnswer f l n ≡ record { floor = listAnswer f (take n l) .floor; list = listAfter f (take n l) ++ drop n l; refusal = listAnswer f (take n l) .refusal }
   pub too-long : 64 < n → placesAnswer f l n ≡ record { floor = f; list = l; refusal = 42 }
 
--- for every floor and list; "An empty list changes nothing." That list calls stand in the lists of demand 3 is Demand3 itself
+-- for every floor and list; "An empty list changes nothing." That list calls may stand in demand 3's lists is part of Demand3
 pub record BookingLists : Type 0 where
   pub every : (f : Floor) (l : List Booking) → ListPromises f l
   pub empty : (f : Floor) → (listAnswer f [] ≡ record { refusal = 0; floor = f }) × (listAfter f [] ≡ [])

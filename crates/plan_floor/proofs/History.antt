@@ -18,7 +18,7 @@ use Rattle.plan.specs.declared.Entry.{Entry}
 use Rattle.plan.specs.declared.Plan.{Plan}
 use Rattle.plan.specs.Entries.{Stage, waiting, booked, delivered, stageOf, isWaiting, isDelivered, waits, wasDelivered, used, predecessors, done, present, planSound, numbersUpto, entryFits, planFits, ready, readyLabel, changed, bookedAs, released, reported}
 use Rattle.plan.specs.Plans.{numberAfter, releaseTests, releaseBooking, releaseAnswer, numbersIn, reportTests, reportAnswer}
-use Rattle.plan_floor.specs.Steps.{PlanCall, planOffer, planRelease, planReport, planned, planAfter, allWaiting, Event, booking, listing, eventsOf, eventsIn, BookedThenListed, here, later, predecessorsOf}
+use Rattle.plan_floor.specs.Steps.{PlanCall, planOffer, planRelease, planReport, planGiven, planAfter, allWaiting, Event, booking, listing, eventsOf, eventsIn, BookedThenListed, here, later, predecessorsOf}
 use Rattle.plan_floor.specs.Promises.{HistoryPromise}
 use Rattle.plan.proofs.Stages.{marked, booked-stage, reported-stage, reported-label, changed-all}
 use Rattle.plan_floor.proofs.Written.{list-predecessors}
@@ -78,8 +78,8 @@ Inv p past = All (Recorded past) (used p)
 none-new : (p : Plan) (past : List Event) → Inv p past → Inv p (past ++ [])
 none-new p past h = rw (append-nil past) h
 
-call-inv : (p : Plan) (c : PlanCall) (past : List Event) → Inv p past → Inv (planned p c) (past ++ eventsOf p c)
-unfolding planned eventsOf releaseAnswer reportAnswer
+call-inv : (p : Plan) (c : PlanCall) (past : List Event) → Inv p past → Inv (planGiven p c) (past ++ eventsOf p c)
+unfolding planGiven eventsOf releaseAnswer reportAnswer
 call-inv p planOffer past h = none-new p past h
 call-inv p (planRelease f k) past h = go (eqb (releaseAnswer p f k .refusal) 0)
   where
@@ -99,8 +99,8 @@ list-inv : (p : Plan) (cs : List PlanCall) (past : List Event) → Inv p past �
 unfolding planAfter eventsIn
 list-inv p [] past h = none-new p past h
 list-inv p (c ∷ cs) past h =
-    subst (λ (l : List Event). Inv (planAfter (planned p c) cs) l) (append-assoc past (eventsOf p c) (eventsIn (planned p c) cs))
-    (list-inv (planned p c) cs (past ++ eventsOf p c) (call-inv p c past h))
+    subst (λ (l : List Event). Inv (planAfter (planGiven p c) cs) l) (append-assoc past (eventsOf p c) (eventsIn (planGiven p c) cs))
+    (list-inv (planGiven p c) cs (past ++ eventsOf p c) (call-inv p c past h))
 
 -- ---- an accepted release
 -- a choice that is 0

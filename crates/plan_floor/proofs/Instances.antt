@@ -32,7 +32,7 @@ use Rattle.plan.specs.declared.Plan.{Plan}
 use Rattle.plan.specs.Entries.{stageOf, waits, wasDelivered, heldBy, used, predecessors, done, present, bookedNumbers, afterPredecessors, planSound, numbersUpto, entryFits, planFits, ready, readyLabel, released, reported}
 use Rattle.plan.specs.Plans.{offerTests, offered, offerAnswer, releaseTests, numberAfter, tileFor, releaseBooking, releaseAnswer, numbersIn, reportTests, reportAnswer}
 use Rattle.plan.proofs.Samples.{entry, plan, two, delivery, report as lists}
-use Rattle.plan_floor.specs.Steps.{PlanCall, planOffer, planRelease, planReport, planned, planAfter, allWaiting, Event, booking, listing, eventsOf, eventsIn, BookedThenListed, predecessorsOf, bookingsOf, bookingsIn, Step, call, offer, release, report, State, stepped, stateAfter, planCallsOf, planCallsIn, stepEvents, stepBookings, TypedStep, reportOfCall, reportsOf, FromRounds, callsOf, callsIn, bookedBy, reportedBy}
+use Rattle.plan_floor.specs.Steps.{PlanCall, planOffer, planRelease, planReport, planGiven, planAfter, allWaiting, Event, booking, listing, eventsOf, eventsIn, BookedThenListed, predecessorsOf, bookingsOf, bookingsIn, Step, call, offer, release, report, State, stepped, stateAfter, planCallsOf, planCallsIn, stepEvents, stepBookings, TypedStep, reportOfCall, reportsOf, FromRounds, callsOf, callsIn, bookedBy, reportedBy}
 use Rattle.plan_floor.specs.Ending.{waitingIn, Served, Cycle, releaseOffered, afterCycles, refusalsIn, Begins, Ended, handedRounds, schedule}
 use Rattle.plan_floor.specs.Promises.{Offers, asWritten, SameWritten, PlanStays, StaysSound, AsCalls, OnFloorUntilReported}
 use Rattle.plan_floor.proofs.Samples.{handed-from-rounds}
@@ -76,7 +76,7 @@ five = lists (delivery 5 [] ∷ [])
 unfoldable refusals : Plan → List PlanCall → List ℕ
 unfolding holds small entry plan two delivery lists loose tight trio half all out unfit one five
     stageOf predecessors done present bookedNumbers afterPredecessors planSound numbersUpto entryFits planFits ready readyLabel released reported offerTests offered offerAnswer releaseTests numberAfter tileFor releaseBooking releaseAnswer numbersIn reportTests reportAnswer
-    outcome stepped stateAfter planned planAfter allWaiting predecessorsOf planCallsOf planCallsIn eventsOf eventsIn bookingsOf bookingsIn callsOf callsIn waitingIn handedRounds
+    outcome stepped stateAfter planGiven planAfter allWaiting predecessorsOf planCallsOf planCallsIn eventsOf eventsIn bookingsOf bookingsIn callsOf callsIn waitingIn handedRounds
 refusals p [] = []
 refusals p (planOffer ∷ cs) = offerAnswer p .refusal ∷ refusals p cs
 refusals p (planRelease f k ∷ cs) = releaseAnswer p f k .refusal ∷ refusals (releaseAnswer p f k .plan) cs

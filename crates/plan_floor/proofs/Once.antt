@@ -17,7 +17,7 @@ use Rattle.plan.specs.declared.Entry.{Entry}
 use Rattle.plan.specs.declared.Plan.{Plan}
 use Rattle.plan.specs.Entries.{isWaiting, waits, used, predecessors, done, ready, changed, released, reported}
 use Rattle.plan.specs.Plans.{numberAfter, releaseAnswer, numbersIn, reportTests, reportAnswer}
-use Rattle.plan_floor.specs.Steps.{PlanCall, planOffer, planRelease, planReport, planned, planAfter, bookingsOf, bookingsIn, Step, call, offer, release, report, State, stepped, planCallsIn, stepBookings, TypedStep, bookedOf}
+use Rattle.plan_floor.specs.Steps.{PlanCall, planOffer, planRelease, planReport, planGiven, planAfter, bookingsOf, bookingsIn, Step, call, offer, release, report, State, stepped, planCallsIn, stepBookings, TypedStep, bookedOf}
 use Rattle.plan_floor.specs.Promises.{OncePromise, RisingPromise}
 use Rattle.plan.proofs.Stages.{booked-stage, reported-same, released-label, reported-label, released-there, other-label, used-changed, changed-all}
 use Rattle.plan_floor.proofs.History.{accepted, ready-entry}
@@ -44,8 +44,8 @@ not-again p f k n j U e q =
     not-both (and-left (waits (w .0)) (allOf (done (used p)) (predecessors (w .0))) (w .3)) (all-mem (IsUnder k n) (w .1) U (w .2 ∙ sym q) .1)
 
 -- nothing changes that
-call-under : (p : Plan) (c : PlanCall) (k n : ℕ) → Under p k n → Under (planned p c) k n
-unfolding planned releaseAnswer reportAnswer
+call-under : (p : Plan) (c : PlanCall) (k n : ℕ) → Under p k n → Under (planGiven p c) k n
+unfolding planGiven releaseAnswer reportAnswer
 call-under p planOffer k n U = U
 call-under p (planRelease f j) k n U = go (eqb (releaseAnswer p f j .refusal) 0) refl
   where
@@ -62,7 +62,7 @@ call-under p (planReport r) k n U = go (eqb (refusal (reportTests p r)) 0)
     go false = U
 
 pub step-under : (s : State) (c : Step) (k n : ℕ) → Under (s .plan) k n → Under (stepped s c .plan) k n
-unfolding stepped planned
+unfolding stepped planGiven
 step-under s (call c) k n U = U
 step-under s offer k n U = U
 step-under s (release j) k n U = call-under (s .plan) (planRelease (s .floor) j) k n U
@@ -71,7 +71,7 @@ step-under s (report r) k n U = call-under (s .plan) (planReport r) k n U
 list-under : (p : Plan) (cs : List PlanCall) (k n : ℕ) → Under p k n → Under (planAfter p cs) k n
 unfolding planAfter
 list-under p [] k n U = U
-list-under p (c ∷ cs) k n U = list-under (planned p c) cs k n (call-under p c k n U)
+list-under p (c ∷ cs) k n U = list-under (planGiven p c) cs k n (call-under p c k n U)
 
 -- and it is not booked again
 call-away : (p : Plan) (c : PlanCall) (k n : ℕ) → Under p k n → All (λ y. k ≢ y .0) (bookingsOf p c)
@@ -87,7 +87,7 @@ call-away p (planReport r) k n U = tt
 list-away : (p : Plan) (cs : List PlanCall) (k n : ℕ) → Under p k n → All (λ y. k ≢ y .0) (bookingsIn p cs)
 unfolding bookingsIn
 list-away p [] k n U = tt
-list-away p (c ∷ cs) k n U = all-append (λ y. k ≢ y .0) (bookingsOf p c) (bookingsIn (planned p c) cs) (call-away p c k n U) (list-away (planned p c) cs k n (call-under p c k n U))
+list-away p (c ∷ cs) k n U = all-append (λ y. k ≢ y .0) (bookingsOf p c) (bookingsIn (planGiven p c) cs) (call-away p c k n U) (list-away (planGiven p c) cs k n (call-under p c k n U))
 
 -- a release puts its label under its number
 pub booked-under : (p : Plan) (k n : ℕ) → Under (changed p (released k n)) k n
@@ -97,8 +97,8 @@ booked-under p k n = subst (All (IsUnder k n)) (sym (used-changed p (released k 
     here e (inl q) = subst (IsUnder k n) (sym (released-there k n e (eqb-true (e .label) k q))) (λ l. (refl, ap isWaiting (booked-stage n e)))
     here e (inr q) = λ l. absurd (eqb-false (e .label) k q (sym (released-label k n e) ∙ l))
 
-call-booked : (p : Plan) (c : PlanCall) → All (λ x. Under (planned p c) (x .0) (x .1)) (bookingsOf p c)
-unfolding bookingsOf planned releaseAnswer
+call-booked : (p : Plan) (c : PlanCall) → All (λ x. Under (planGiven p c) (x .0) (x .1)) (bookingsOf p c)
+unfolding bookingsOf planGiven releaseAnswer
 call-booked p planOffer = tt
 call-booked p (planRelease f k) = go (eqb (releaseAnswer p f k .refusal) 0)
   where
@@ -125,16 +125,16 @@ labels : (p : Plan) (cs : List PlanCall) → Pairs (λ x y. x .0 ≢ y .0) (book
 unfolding bookingsIn
 labels p [] = tt
 labels p (c ∷ cs) =
-    pairs-append (λ x y. x .0 ≢ y .0) (bookingsOf p c) (bookingsIn (planned p c) cs) (call-pairs (λ x y. x .0 ≢ y .0) p c) (labels (planned p c) cs)
-    (all-imp (λ x. Under (planned p c) (x .0) (x .1)) (λ x. All (λ y. x .0 ≢ y .0) (bookingsIn (planned p c) cs)) (bookingsOf p c) (λ x U. list-away (planned p c) cs (x .0) (x .1) U) (call-booked p c))
+    pairs-append (λ x y. x .0 ≢ y .0) (bookingsOf p c) (bookingsIn (planGiven p c) cs) (call-pairs (λ x y. x .0 ≢ y .0) p c) (labels (planGiven p c) cs)
+    (all-imp (λ x. Under (planGiven p c) (x .0) (x .1)) (λ x. All (λ y. x .0 ≢ y .0) (bookingsIn (planGiven p c) cs)) (bookingsOf p c) (λ x U. list-away (planGiven p c) cs (x .0) (x .1) U) (call-booked p c))
 
 kept : (p : Plan) (cs : List PlanCall) → All (λ x. Under (planAfter p cs) (x .0) (x .1)) (bookingsIn p cs)
 unfolding bookingsIn planAfter
 kept p [] = tt
 kept p (c ∷ cs) =
-    all-append (λ x. Under (planAfter (planned p c) cs) (x .0) (x .1)) (bookingsOf p c) (bookingsIn (planned p c) cs)
-    (all-imp (λ x. Under (planned p c) (x .0) (x .1)) (λ x. Under (planAfter (planned p c) cs) (x .0) (x .1)) (bookingsOf p c) (λ x U. list-under (planned p c) cs (x .0) (x .1) U) (call-booked p c))
-    (kept (planned p c) cs)
+    all-append (λ x. Under (planAfter (planGiven p c) cs) (x .0) (x .1)) (bookingsOf p c) (bookingsIn (planGiven p c) cs)
+    (all-imp (λ x. Under (planGiven p c) (x .0) (x .1)) (λ x. Under (planAfter (planGiven p c) cs) (x .0) (x .1)) (bookingsOf p c) (λ x U. list-under (planGiven p c) cs (x .0) (x .1) U) (call-booked p c))
+    (kept (planGiven p c) cs)
 
 pub once : OncePromise
 once p cs = record { labels = labels p cs; kept = kept p cs }

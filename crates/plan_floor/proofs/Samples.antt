@@ -13,7 +13,7 @@ use Rattle.floor.proofs.AnywhereSamples.{small}
 use Rattle.plan.specs.Entries.{stageOf, predecessors, done, present, bookedNumbers, afterPredecessors, planSound, numbersUpto, entryFits, planFits, ready, readyLabel, released, reported}
 use Rattle.plan.specs.Plans.{offerTests, offered, offerAnswer, releaseTests, numberAfter, tileFor, releaseBooking, releaseAnswer, numbersIn, reportTests, reportAnswer}
 use Rattle.plan.proofs.Samples.{entry, plan, two, entries, delivery, report}
-use Rattle.plan_floor.specs.Steps.{PlanCall, planOffer, planRelease, planReport, planned, planAfter, Step, call, offer, release, report as handed, State, stepped, stateAfter, Event, booking, listing, eventsOf, eventsIn, bookingsOf, bookingsIn, planCallsOf, planCallsIn, stepEvents, stepBookings, reportOfCall, reportsOf, FromRounds, callsOf, callsIn, bookedOf, bookedBy, reportedOf, reportedBy}
+use Rattle.plan_floor.specs.Steps.{PlanCall, planOffer, planRelease, planReport, planGiven, planAfter, Step, call, offer, release, report as handed, State, stepped, stateAfter, Event, booking, listing, eventsOf, eventsIn, bookingsOf, bookingsIn, planCallsOf, planCallsIn, stepEvents, stepBookings, reportOfCall, reportsOf, FromRounds, callsOf, callsIn, bookedOf, bookedBy, reportedOf, reportedBy}
 use Rattle.plan_floor.specs.Ending.{releaseOffered, afterCycles, refusalsIn, handedRounds, schedule}
 
 -- a booking by label and number, a listing by 0 and number
@@ -59,7 +59,7 @@ walking =
 walking-holds : holds walking ≡ true
 unfolding holds small entry plan two entries delivery report shown paired walking
     stageOf predecessors done present bookedNumbers afterPredecessors planSound numbersUpto entryFits planFits ready readyLabel released reported offerTests offered offerAnswer releaseTests numberAfter tileFor releaseBooking releaseAnswer numbersIn reportTests reportAnswer
-    outcome bookedIn stepped stateAfter planned planAfter planCallsOf planCallsIn eventsOf eventsIn bookingsOf bookingsIn callsOf callsIn bookedOf bookedBy listedAt reportedOf reportedBy afterCycles refusalsIn handedRounds schedule
+    outcome bookedIn stepped stateAfter planGiven planAfter planCallsOf planCallsIn eventsOf eventsIn bookingsOf bookingsIn callsOf callsIn bookedOf bookedBy listedAt reportedOf reportedBy afterCycles refusalsIn handedRounds schedule
 walking-holds = refl
 
 -- the reports of such cycles are those of their rounds; a report that no round gave is not

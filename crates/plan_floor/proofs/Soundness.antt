@@ -22,7 +22,7 @@ use Rattle.plan.specs.declared.Entry.{Entry}
 use Rattle.plan.specs.declared.Plan.{Plan}
 use Rattle.plan.specs.Entries.{waits, heldBy, used, predecessors, done, bookedNumbers, afterPredecessors, planSound, numbersUpto, entryFits, planFits, ready, readyLabel, changed, released, reported}
 use Rattle.plan.specs.Plans.{offerTests, offerAnswer, releaseTests, numberAfter, tileFor, releaseBooking, releaseAnswer, numbersIn, reportTests, reportAnswer}
-use Rattle.plan_floor.specs.Steps.{PlanCall, planOffer, planRelease, planReport, planned, planAfter, allWaiting, Step, call, offer, release, report, State, stepped, stateAfter, TypedStep, bookedOf}
+use Rattle.plan_floor.specs.Steps.{PlanCall, planOffer, planRelease, planReport, planGiven, planAfter, allWaiting, Step, call, offer, release, report, State, stepped, stateAfter, TypedStep, bookedOf}
 use Rattle.plan_floor.specs.Promises.{PlanStays, SoundPromise, WaitingPromise, PlanSoundPromise}
 use Rattle.plan.proofs.Stages.{used-changed, waiting-held, none-held}
 use Rattle.plan_floor.proofs.History.{accepted, all-ready}
@@ -246,8 +246,8 @@ stays-sound s S U w cs t =
     }
 
 -- ---- whatever floors the releases were on
-release-sound : (p : Plan) (f : Floor) (k : ℕ) → planSound p ≡ true → (planSound (planned p (planRelease f k)) ≡ true) × (planFits (planned p (planRelease f k)) ≡ planFits p)
-unfolding planned stepped releaseAnswer
+release-sound : (p : Plan) (f : Floor) (k : ℕ) → planSound p ≡ true → (planSound (planGiven p (planRelease f k)) ≡ true) × (planFits (planGiven p (planRelease f k)) ≡ planFits p)
+unfolding planGiven stepped releaseAnswer
 release-sound p f k S = go (eqb (releaseAnswer p f k .refusal) 0) refl
   where
     s : State
@@ -264,8 +264,8 @@ release-sound p f k S = go (eqb (releaseAnswer p f k .refusal) 0) refl
         (subst (λ (x : Plan). planSound x ≡ true) q (good-sound (g .counters .last) (stepped s (release k) .plan) (R .0 .1)), subst (λ (x : Plan). planFits x ≡ planFits p) q (R .1))
     go false e = (S, refl)
 
-report-sound : (p : Plan) (r : Report) → planSound p ≡ true → (planSound (planned p (planReport r)) ≡ true) × (planFits (planned p (planReport r)) ≡ planFits p)
-unfolding planned reportAnswer planSound
+report-sound : (p : Plan) (r : Report) → planSound p ≡ true → (planSound (planGiven p (planReport r)) ≡ true) × (planFits (planGiven p (planReport r)) ≡ planFits p)
+unfolding planGiven reportAnswer planSound
 report-sound p r S = go (eqb (refusal (reportTests p r)) 0)
   where
     l : List ℕ
@@ -288,8 +288,8 @@ report-sound p r S = go (eqb (refusal (reportTests p r)) 0)
     go true = (and-true (and-left (leb (p .count) 64) _ S) (subst Right (sym (used-changed p (reported l))) marked), same-fits (reported l) (reported-plain l) p)
     go false = (S, refl)
 
-call-sound : (p : Plan) (c : PlanCall) → planSound p ≡ true → (planSound (planned p c) ≡ true) × (planFits (planned p c) ≡ planFits p)
-unfolding planned
+call-sound : (p : Plan) (c : PlanCall) → planSound p ≡ true → (planSound (planGiven p c) ≡ true) × (planFits (planGiven p c) ≡ planFits p)
+unfolding planGiven
 call-sound p planOffer S = (S, refl)
 call-sound p (planRelease f k) S = release-sound p f k S
 call-sound p (planReport r) S = report-sound p r S
@@ -297,7 +297,7 @@ call-sound p (planReport r) S = report-sound p r S
 list-sound : (p : Plan) (cs : List PlanCall) → planSound p ≡ true → (planSound (planAfter p cs) ≡ true) × (planFits (planAfter p cs) ≡ planFits p)
 unfolding planAfter
 list-sound p [] S = (S, refl)
-list-sound p (c ∷ cs) S = let A = call-sound p c S in let B = list-sound (planned p c) cs (A .0) in (B .0, B .1 ∙ A .1)
+list-sound p (c ∷ cs) S = let A = call-sound p c S in let B = list-sound (planGiven p c) cs (A .0) in (B .0, B .1 ∙ A .1)
 
 pub plan-stays : PlanSoundPromise
 plan-stays p S cs = let R = list-sound p cs S in stays p (planAfter p cs) (R .0) (R .1)

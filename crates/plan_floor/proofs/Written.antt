@@ -10,7 +10,7 @@ use Rattle.plan.specs.declared.Entry.{Entry}
 use Rattle.plan.specs.declared.Plan.{Plan}
 use Rattle.plan.specs.Entries.{used, predecessors, changed, released, reported}
 use Rattle.plan.specs.Plans.{numberAfter, releaseAnswer, numbersIn, reportTests, reportAnswer}
-use Rattle.plan_floor.specs.Steps.{PlanCall, planOffer, planRelease, planReport, planned, planAfter, predecessorsOf}
+use Rattle.plan_floor.specs.Steps.{PlanCall, planOffer, planRelease, planReport, planGiven, planAfter, predecessorsOf}
 use Rattle.plan_floor.specs.Promises.{asWritten, WrittenPromise}
 use Rattle.plan.proofs.Stages.{released-same, reported-same, used-changed}
 
@@ -39,8 +39,8 @@ reported-plain l = record {
 
 -- ---- what such changes leave of a plan, a list of its calls leaves
 module _ {A : Type 0} (get : Plan → A) (same : (p : Plan) (g : Entry → Entry) → Plain g → get (changed p g) ≡ get p) where
-  call-same : (p : Plan) (c : PlanCall) → get (planned p c) ≡ get p
-  unfolding planned releaseAnswer reportAnswer
+  call-same : (p : Plan) (c : PlanCall) → get (planGiven p c) ≡ get p
+  unfolding planGiven releaseAnswer reportAnswer
   call-same p planOffer = refl
   call-same p (planRelease f k) = go (eqb (releaseAnswer p f k .refusal) 0)
     where
@@ -56,7 +56,7 @@ module _ {A : Type 0} (get : Plan → A) (same : (p : Plan) (g : Entry → Entry
   pub list-same : (p : Plan) (cs : List PlanCall) → get (planAfter p cs) ≡ get p
   unfolding planAfter
   list-same p [] = refl
-  list-same p (c ∷ cs) = list-same (planned p c) cs ∙ call-same p c
+  list-same p (c ∷ cs) = list-same (planGiven p c) cs ∙ call-same p c
 
 -- ---- the entries
 map-same : {A B : Type 0} (f : A → B) (g : A → A) → ((x : A) → f (g x) ≡ f x) → (l : List A) → map f (map g l) ≡ map f l

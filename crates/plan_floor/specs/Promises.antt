@@ -68,7 +68,7 @@ pub record Refused (p : Plan) (f : Floor) : Type 0 where
 abbrev pub RefusedPromise : Type 0
 RefusedPromise = (p : Plan) (f : Floor) → Refused p f
 
--- ---- lists of a plan's calls, each release on any floor. Each promise is about the plan after a list and the call that comes next, so about every call of every list
+-- ---- lists of a plan's calls, each release on any floor
 -- from p to q only stages and numbers of used entries change
 pub record SameWritten (p q : Plan) : Type 0 where
   pub same-count : q .count ≡ p .count
@@ -78,7 +78,7 @@ pub record SameWritten (p q : Plan) : Type 0 where
 abbrev pub WrittenPromise : Type 0
 WrittenPromise = (p : Plan) (cs : List PlanCall) → SameWritten p (planAfter p cs)
 
--- "If all began waiting and each call gets the plan the last one gave, no planned canister is booked before its predecessors were reported.": only the plan is handed on; whatever floors the releases were on and whatever reports were handed in, each predecessor, by the plan at first, was booked under a number that a report listed which was accepted afterwards
+-- "If all began waiting and each call gets the plan the last one gave, no planned canister is booked before its predecessors were reported.": only the plan is handed on; whatever floors the releases were on and whatever reports were handed in, at a release that is accepted after the list each predecessor, by the plan at first, was booked under a number that a report accepted afterwards lists
 abbrev pub HistoryPromise : Type 0
 HistoryPromise = (p : Plan) → allWaiting p ≡ true → (cs : List PlanCall) (f : Floor) (k : ℕ) → releaseAnswer (planAfter p cs) f k .refusal ≡ 0
     → All (λ j. (n : ℕ) × BookedThenListed j n (eventsIn p cs)) (predecessorsOf (used p) k)
@@ -91,7 +91,7 @@ pub record Once (p : Plan) (cs : List PlanCall) : Type 0 where
 abbrev pub OncePromise : Type 0
 OncePromise = (p : Plan) (cs : List PlanCall) → Once p cs
 
--- a sound plan stays sound, whatever floors its releases were on: p the plan at first, q now; so it is never 30, and 47 only if it was so at first
+-- a sound plan stays sound, whatever floors its releases were on: p the plan at first, q now. So an offer, and a report with at most four deliveries for a hopper, never answer 30, and 47 only if the plan was so at first; a release may answer 30, where its floor's last number is below a booked one (`stays-sound`)
 pub record PlanStays (p q : Plan) : Type 0 where
   pub sound : planSound q ≡ true
   pub same-fits : planFits q ≡ planFits p
@@ -102,11 +102,11 @@ abbrev pub PlanSoundPromise : Type 0
 PlanSoundPromise = (p : Plan) → planSound p ≡ true → (cs : List PlanCall) → PlanStays p (planAfter p cs)
 
 -- ---- lists of calls on a plan and a floor
--- its plan is the one after the plan's calls among them, of which the above holds
+-- the plan after such a list is the one after the plan's calls in it, of which the above holds
 abbrev pub PlanCallsPromise : Type 0
 PlanCallsPromise = (s : State) (cs : List Step) → planAfter (s .plan) (planCallsIn s cs) ≡ stateAfter s cs .plan
 
--- where each report is that of an earlier round of the list, the rounds reported that number; on a well-formed floor after its booking, since it is above every number booked before (`rising`, `as-calls`)
+-- where each report is that of an earlier round of the list, the rounds reported that number; on a well-formed floor after its booking, since no number is reported or aboard twice (`as-calls`: once-now, of the list up to the booking)
 abbrev pub RoundsPromise : Type 0
 RoundsPromise = (s : State) → allWaiting (s .plan) ≡ true → (cs : List Step) → FromRounds s [] cs → (k : ℕ) → releaseAnswer (stateAfter s cs .plan) (stateAfter s cs .floor) k .refusal ≡ 0
     → All (λ j. (n : ℕ) × BookedThenListed j n (stepEvents s cs) × List·Memᴰ n (reportedAll (s .floor) (callsIn s cs))) (predecessorsOf (used (s .plan)) k)

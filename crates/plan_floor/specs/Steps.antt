@@ -13,21 +13,21 @@ use Rattle.plan.specs.declared.Plan.{Plan}
 use Rattle.plan.specs.Entries.{waits, used, predecessors}
 use Rattle.plan.specs.Plans.{releaseTests, numberAfter, tileFor, releaseAnswer, numbersIn, reportAnswer}
 
--- ---- a plan's calls alone: an offer; the release of a label on some floor, each release on its own; a report handed to the plan
+-- ---- a plan's calls alone: an offer; the release of a label on a floor, which may be another each time; a report handed to the plan
 pub data PlanCall : Type 0 where
   planOffer : PlanCall
   planRelease : Floor → ℕ → PlanCall
   planReport : Report → PlanCall
 
 -- "each call gets the plan the last one gave"; a refused one gives it back and stays in the list
-unfoldable pub planned : Plan → PlanCall → Plan
-planned p planOffer = p
-planned p (planRelease f k) = releaseAnswer p f k .plan
-planned p (planReport r) = reportAnswer p r .plan
+unfoldable pub planGiven : Plan → PlanCall → Plan
+planGiven p planOffer = p
+planGiven p (planRelease f k) = releaseAnswer p f k .plan
+planGiven p (planReport r) = reportAnswer p r .plan
 
 unfoldable pub planAfter : Plan → List PlanCall → Plan
 planAfter p [] = p
-planAfter p (c ∷ cs) = planAfter (planned p c) cs
+planAfter p (c ∷ cs) = planAfter (planGiven p c) cs
 
 -- "all began waiting"
 unfoldable pub allWaiting : Plan → Bool
@@ -46,7 +46,7 @@ eventsOf p (planReport r) = cond (eqb (reportAnswer p r .refusal) 0) (map listin
 -- in their order
 unfoldable pub eventsIn : Plan → List PlanCall → List Event
 eventsIn p [] = []
-eventsIn p (c ∷ cs) = eventsOf p c ++ eventsIn (planned p c) cs
+eventsIn p (c ∷ cs) = eventsOf p c ++ eventsIn (planGiven p c) cs
 
 -- label k was booked under n, and n was listed afterwards
 pub data BookedThenListed (k n : ℕ) : List Event → Type 0 where
@@ -58,7 +58,7 @@ unfoldable pub predecessorsOf : List Entry → ℕ → List ℕ
 predecessorsOf [] k = []
 predecessorsOf (e ∷ es) k = cond (eqb (e .label) k) (predecessors e) [] ++ predecessorsOf es k
 
--- the labels that accepted releases booked, each with its number; the numbers of all bookings, those of the floor's own calls too, are `bookedBy`
+-- the labels that accepted releases booked, each with its number
 unfoldable pub bookingsOf : Plan → PlanCall → List (ℕ × ℕ)
 bookingsOf p planOffer = []
 bookingsOf p (planRelease f k) = let r = releaseAnswer p f k in cond (eqb (r .refusal) 0) ((k, r .number) ∷ []) []
@@ -66,7 +66,7 @@ bookingsOf p (planReport r) = []
 
 unfoldable pub bookingsIn : Plan → List PlanCall → List (ℕ × ℕ)
 bookingsIn p [] = []
-bookingsIn p (c ∷ cs) = bookingsOf p c ++ bookingsIn (planned p c) cs
+bookingsIn p (c ∷ cs) = bookingsOf p c ++ bookingsIn (planGiven p c) cs
 
 -- ---- a plan and a floor
 -- a call of demand 3's lists on the floor; an offer; a release of a label; a report handed to the plan
@@ -102,10 +102,11 @@ unfoldable pub planCallsIn : State → List Step → List PlanCall
 planCallsIn s [] = []
 planCallsIn s (c ∷ cs) = planCallsOf s c ++ planCallsIn (stepped s c) cs
 
--- what happened to the plan, and the labels booked
+-- what happened to the plan
 abbrev pub stepEvents : State → List Step → List Event
 stepEvents s cs = eventsIn (s .plan) (planCallsIn s cs)
 
+-- the labels booked; the numbers of all bookings, those of the floor's own calls too, are `bookedBy`
 abbrev pub stepBookings : State → List Step → List (ℕ × ℕ)
 stepBookings s cs = bookingsIn (s .plan) (planCallsIn s cs)
 
