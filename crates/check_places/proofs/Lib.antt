@@ -1,2 +1,4 @@
 pub mod Words
 pub mod Loops
+pub mod Pairs
+pub mod Lanes

@@ -7,7 +7,7 @@ use native.Mathlib.Omega.{arith}
 use native.Mathlib.Numerals.{add-one}
 use native.Mathlib.Decide.{decLe, ℕ-discrete}
 use lib.ListN.{length, getD, set, take, drop, replicate, length-drop, length-append, getD-replicate, List·getD-append, List·getD-eq-default, length-replicate, length-set}
-use lib.Seq.{ext-getD, take-suc, take-suc-set, getD-drop, getD-set-same, getD-set-other, getD-append-seam}
+use lib.Seq.{ext-getD, take-suc, take-suc-set, length-take-le, getD-take, getD-drop, getD-set-same, getD-set-other, getD-append-seam}
 use Rattle.laws.specs.Define.{tab, allOf, pairsOf, allBelow, keep}
 use Rattle.laws.proofs.Tests.{and-left, and-right, and-true, and-assoc, and-yes}
 use Rattle.laws.proofs.Lists.{map-append, keep-append}
@@ -163,6 +163,45 @@ pairs-snoc r (x ∷ l) y =
 
 pub pairs-more : {A : Type 0} (r : A → A → Bool) (l : List A) (j : ℕ) (z : A) → j < length l → pairsOf r (take (j + 1) l) ≡ (pairsOf r (take j l) && allOf (λ x. r x (getD l j z)) (take j l))
 pairs-more r l j z h = rw (add-one, take-suc l j z h) (pairs-snoc r (take j l) (getD l j z))
+
+-- by places: of a whole list, and of its first n
+pub pairs-at : {A : Type 0} (r : A → A → Bool) (l : List A) (z : A) → pairsOf r l ≡ true → (i j : ℕ) → i < j → j < length l → r (getD l i z) (getD l j z) ≡ true
+unfolding pairsOf
+pairs-at r [] z h i j p q = absurd (omega arith)
+pairs-at r (x ∷ l) z h i zero p q = absurd (omega arith)
+pairs-at r (x ∷ l) z h zero (suc j) p q = all-at (r x) l z (and-left (allOf (r x) l) (pairsOf r l) h) j (omega arith)
+pairs-at r (x ∷ l) z h (suc i) (suc j) p q = pairs-at r l z (and-right (allOf (r x) l) (pairsOf r l) h) i j (omega arith) (omega arith)
+
+pub pairs-from-each : {A : Type 0} (r : A → A → Bool) (l : List A) (z : A) → ((i j : ℕ) → i < j → j < length l → r (getD l i z) (getD l j z) ≡ true) → pairsOf r l ≡ true
+unfolding pairsOf
+pairs-from-each r [] z f = refl
+pairs-from-each r (x ∷ l) z f =
+    and-true (all-from-each (r x) l z (λ k q. f 0 (suc k) (omega arith) (omega arith))) (pairs-from-each r l z (λ i j p q. f (suc i) (suc j) (omega arith) (omega arith)))
+
+module _ {A : Type 0} (r : A → A → Bool) (l : List A) (z : A) (n : ℕ) (h : n ≤ length l) where
+  pub pairs-first-at : pairsOf r (take n l) ≡ true → (i j : ℕ) → i < j → j < n → r (getD l i z) (getD l j z) ≡ true
+  pairs-first-at e i j p q =
+      let k : j < length (take n l) = omega (arith, length-take-le n l h) in
+      rw (getD-take n l i z (omega arith), getD-take n l j z q) at (pairs-at r (take n l) z e i j p k)
+
+  pub pairs-first-of : ((i j : ℕ) → i < j → j < n → r (getD l i z) (getD l j z) ≡ true) → pairsOf r (take n l) ≡ true
+  pairs-first-of f = pairs-from-each r (take n l) z each
+    where
+      each : (i j : ℕ) → i < j → j < length (take n l) → r (getD (take n l) i z) (getD (take n l) j z) ≡ true
+      each i j p q =
+          let k : j < n = omega (arith, length-take-le n l h) in
+          rw (getD-take n l i z (omega arith), getD-take n l j z k) (f i j p k)
+
+-- two tests at once
+pub all-both-test : {A : Type 0} (p q : A → Bool) (l : List A) → allOf (λ x. p x && q x) l ≡ (allOf p l && allOf q l)
+unfolding allOf
+all-both-test p q [] = refl
+all-both-test p q (x ∷ l) = rw (all-both-test p q l) (and-swap (p x) (q x) (allOf p l) (allOf q l))
+
+pub pairs-both-test : {A : Type 0} (p q : A → A → Bool) (l : List A) → pairsOf (λ x y. p x y && q x y) l ≡ (pairsOf p l && pairsOf q l)
+unfolding pairsOf
+pairs-both-test p q [] = refl
+pairs-both-test p q (x ∷ l) = rw (pairs-both-test p q l, all-both-test (p x) (q x) l) (and-swap (allOf (p x) l) (allOf (q x) l) (pairsOf p l) (pairsOf q l))
 
 -- an inner loop that tests one element after another beside what the outer one found
 pub with-zero : {A : Type 0} (p : A → Bool) (l : List A) {ok q : Bool} → ok ≡ q → ok ≡ (q && allOf p (take 0 l))

@@ -1,134 +1,43 @@
-use mathlib.Core.Path.{sym, _∙_}
-use mathlib.Core.Bool.{_&&_}
-use Prim.Native.Nat.{ℕ, _-_}
-use native.Mathlib.Omega.{arith}
-use lib.ListN.{take, getD}
-use Rattle.laws.specs.Define.{allOf, pairsOf}
-use Rattle.laws.proofs.Tables.{pairs-zero, pairs-more, with-zero, with-step, ended}
-use Rattle.floor.specs.Memory.{zeroCanister}
-use Rattle.floor.specs.Well.{inOrder}
-use Rattle.check_places.proofs.Loops.{Paired, PairedWith}
+use Rattle.check_places.proofs.Pairs.{in-order-made, many}
 use borrow.Author.Needs.{needs}
 use Rattle.check_places.proofs.pairs_ok.Statement.{statement}
 use Rattle.check_places.proofs.pairs_ok.Tie as tie
 use Rattle.check_places.proofs.pairs_ok.Reads as reads
 use Rattle.check_places.proofs.pairs_ok.Lts as lts
-use Rattle.check_places.proofs.pair_ok.Reads as pair-ok-reads
+use Rattle.check_places.proofs.all_apart.Reads as all-apart-reads
+use Rattle.check_places.proofs.few_ok.Reads as few-ok-reads
+use Rattle.check_places.proofs.numbers_rise.Reads as numbers-rise-reads
+use Rattle.floor.proofs.Settings.spacing.Reads as spacing-reads
 
-abbrev Inv-loop2 : tie.InvT-loop2
-Inv-loop2 s n items ok₀ j y i₀ ok i = PairedWith s n items j y ok i
+spacing-requires : tie.Need-spacing-requires
+spacing-requires c κs = search needs
 
-abbrev μ-loop2 : tie.MeasureT-loop2
-μ-loop2 s n items ok₀ j y i₀ ok i = j - i
+few-ok-requires : tie.Need-few-ok-requires
+few-ok-requires c κs = search needs
 
-abbrev Inv-loop : tie.InvT-loop
-Inv-loop s n items ok₀ j₀ ok j = Paired s n items ok j
+returns : tie.Need-returns
+returns c = search needs
 
-abbrev μ-loop : tie.MeasureT-loop
-μ-loop s n items ok₀ j₀ ok j = n - j
+numbers-rise-requires : tie.Need-numbers-rise-requires
+numbers-rise-requires c κs = let m = many (c .before .before .args .n) (c .before .spacing .result) (c .if1 .left) in search needs
 
-loop-holds : tie.Need-loop-holds Inv-loop2 μ-loop2 Inv-loop μ-loop
-loop-holds c = record {
-  below = omega arith;
-  few = c .pre;
-  items-length = c .good .1 .0 .1 .0 .1;
-  ordered = sym (pairs-zero (inOrder (c .args .s)) (c .args .t2));
-}
+cast-all-apart : tie.Need-cast-all-apart
+cast-all-apart c = let m = many (c .before .before .before .args .n) (c .before .before .spacing .result) (c .before .if1 .left) in search needs
 
-mul-y : tie.Need-mul-y Inv-loop2 μ-loop2 Inv-loop μ-loop
-mul-y c = search needs
+all-apart-requires : tie.Need-all-apart-requires
+all-apart-requires c κs = let m = many (c .before .before .before .args .n) (c .before .before .spacing .result) (c .before .if1 .left) in search needs
 
-array-copy-out-y : tie.Need-array-copy-out-y Inv-loop2 μ-loop2 Inv-loop μ-loop
-array-copy-out-y c = search needs
-
-loop2-holds : tie.Need-loop2-holds Inv-loop2 μ-loop2 Inv-loop μ-loop
-loop2-holds c =
-    let l = c .before .before .loop in
-    let g = c .before .before .before .args in
-    record {
-      below = omega arith;
-      here = omega arith;
-      few = l .inv .few;
-      items-length = l .inv .items-length;
-      ordered = with-zero (λ x. inOrder g.s x (getD g.t2 (l .j) zeroCanister)) g.t2 (l .inv .ordered);
-    }
-
-mul-pair-ok : tie.Need-mul-pair-ok Inv-loop2 μ-loop2 Inv-loop μ-loop
-mul-pair-ok c = search needs
-
-array-copy-out-pair-ok : tie.Need-array-copy-out-pair-ok Inv-loop2 μ-loop2 Inv-loop μ-loop
-array-copy-out-pair-ok c = search needs
-
-pair-ok-requires : tie.Need-pair-ok-requires Inv-loop2 μ-loop2 Inv-loop μ-loop
-pair-ok-requires c κs = search needs
-
-add-i : tie.Need-add-i Inv-loop2 μ-loop2 Inv-loop μ-loop
-add-i c = search needs
-
-loop2-less : tie.Need-loop2-less Inv-loop2 μ-loop2 Inv-loop μ-loop
-loop2-less c = search needs
-
-loop2-again : tie.Need-loop2-again Inv-loop2 μ-loop2 Inv-loop μ-loop
-loop2-again c =
-    let z = c .before .before .before in
-    let p = z .before .before .before in
-    let l = z .loop2 in
-    let o = p .loop in
-    let g = p .before .args in
-    record {
-      below = omega arith;
-      here = l .inv .here;
-      few = l .inv .few;
-      items-length = l .inv .items-length;
-      ordered = with-step (pairsOf (inOrder g.s) (take (o .j) g.t2)) (λ x. inOrder g.s x (getD g.t2 (o .j) zeroCanister)) g.t2 (l .i) zeroCanister (omega arith) (l .inv .ordered) (c .pair-ok .ensures);
-    }
-
-add-j : tie.Need-add-j Inv-loop2 μ-loop2 Inv-loop μ-loop
-add-j c = search needs
-
-loop-less : tie.Need-loop-less Inv-loop2 μ-loop2 Inv-loop μ-loop
-loop-less c = search needs
-
-loop-again : tie.Need-loop-again Inv-loop2 μ-loop2 Inv-loop μ-loop
-loop-again c =
-    let z = c .before in
-    let p = z .before .before .before in
-    let l = z .loop2 in
-    let o = p .loop in
-    let g = p .before .args in
-    let e = ended (λ (i : ℕ). pairsOf (inOrder g.s) (take (o .j) g.t2) && allOf (λ x. inOrder g.s x (getD g.t2 (o .j) zeroCanister)) (take i g.t2)) (omega arith) (l .inv .below) (l .inv .ordered) in
-    record {
-      below = omega arith;
-      few = l .inv .few;
-      items-length = l .inv .items-length;
-      ordered = e ∙ sym (pairs-more (inOrder g.s) g.t2 (o .j) zeroCanister (omega arith));
-    }
-
-returns : tie.Need-returns Inv-loop2 μ-loop2 Inv-loop μ-loop
-returns c =
-    let l = c .before .loop in
-    let g = c .before .before .args in
-    ended (λ (k : ℕ). pairsOf (inOrder g.s) (take k g.t2)) (omega arith) (l .inv .below) (l .inv .ordered)
+returns-2 : tie.Need-returns-2
+returns-2 c = search (in-order-made, needs)
 
 pub pairs-ok-spec : {M : Type 1} → statement M
 pairs-ok-spec =
     tie.close
     (tie.spec
-    Inv-loop2
-    μ-loop2
-    Inv-loop
-    μ-loop
-    loop-holds
-    mul-y
-    array-copy-out-y
-    loop2-holds
-    mul-pair-ok
-    array-copy-out-pair-ok
-    pair-ok-requires
-    add-i
-    loop2-less
-    loop2-again
-    add-j
-    loop-less
-    loop-again
-    returns)
+    spacing-requires
+    few-ok-requires
+    returns
+    numbers-rise-requires
+    cast-all-apart
+    all-apart-requires
+    returns-2)
