@@ -1,15 +1,15 @@
 -- The test of one tile branch by branch.
 use mathlib.Core.Path.{_≡_, refl, sym, ap, _∙_}
 use mathlib.Core.Bool.{Bool, true, false, not, _&&_, _||_}
-use mathlib.Core.List.{List}
-use Prim.Native.Nat.{ℕ, _≤_, _<_}
+use mathlib.Core.List.{List, [], _∷_}
+use Prim.Native.Nat.{ℕ, zero, suc, _≤_, _<_}
 use native.Mathlib.Omega.{arith}
 use native.Mathlib.Decide.{decLe}
 use lib.ListN.{take, drop}
 use lib.Dec.{ltb}
 use borrow.Author.Tests.{leb-true, le-leb, lt-leb, lt-ltb, le-ltb}
 use Rattle.laws.specs.Define.{allOf, pairsOf}
-use Rattle.laws.proofs.Tests.{and-yes}
+use Rattle.laws.proofs.Tests.{and-yes, and-no}
 use Rattle.floor.specs.declared.Canister.{Canister}
 use Rattle.floor.specs.declared.Settings.{Settings}
 use Rattle.floor.specs.declared.Tile.{Tile}
@@ -57,6 +57,19 @@ pub places-few : (s : Settings) (last n : ℕ) (l : List Canister) (free each pa
     → free ≡ allOf isZeroCanister (drop n l) → each ≡ allOf (memberSound s last) (take n l) → pairs ≡ pairsOf (inOrder s) (take n l) → (free && (each && pairs)) ≡ placesTest s last n l
 unfolding placesTest usedSound
 places-few s last n l free each pairs h a b c = rw (a, b, c, le-leb n 16 h)
+
+-- no two of one or none
+pub few-pairs : {A : Type 0} (r : A → A → Bool) (n : ℕ) (l : List A) → n ≤ 1 → pairsOf r (take n l) ≡ true
+unfolding pairsOf allOf
+few-pairs r zero l h = refl
+few-pairs r (suc zero) [] h = refl
+few-pairs r (suc zero) (x ∷ l) h = refl
+few-pairs r (suc (suc n)) l h = absurd (omega arith)
+
+pub four : (a m z p : Bool) → (((a && m) && z) && p) ≡ (a && (z && (m && p)))
+four true m true p = rw (and-yes m)
+four true m false p = rw (and-no m)
+four false m z p = refl
 
 -- ---- a tile is tested by its parts
 and-moved : (a b c : Bool) → (a && (b && c)) ≡ (b && (a && c))

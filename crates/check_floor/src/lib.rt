@@ -5,16 +5,15 @@ ghost use Prim.Native.Nat.{_≤_, _<_, _^_};
 ghost use lib.ListN.{length};
 ghost use Rattle.floor.specs.Settings.{hoppersOf, settingsPass, Ranged};
 ghost use Rattle.floor.specs.Well.{countersSound, stateWell, wellFormed};
-ghost use Rattle.check_floor.specs.Tile.{headTest, placesTest};
+ghost use Rattle.check_floor.specs.Tile.{headTest};
 ghost use Rattle.check_floor.specs.Code.{counted};
 use check_heads::head_fits;
 use check_heads::head_ok;
 use check_layouts::layouts_ok;
 use check_numbers::numbers_differ;
 use check_places::is_zero_canister;
-use check_places::members_ok;
+use check_places::member_ok;
 use check_places::pairs_ok;
-use check_places::rest_ok;
 use check_settings::settings_refusal;
 use floor::Canister;
 use floor::Counters;
@@ -35,21 +34,6 @@ fn head_test(s: Settings, t: usize, h: Tile) -> bool
     }
     let own = head_ok(s, t, h);
     fits & own
-}
-
-// The sixteen places of a tile that has canisters.
-fn places_test(s: Settings, last: u32, count: u8, items: [Canister; 16]) -> bool
-    requires { ⌜ s .length ≤ s .width ⌝ }
-    ensures { λ r. ⌜ r ≡ placesTest s last count items ⌝ }
-{
-    if 16 < count {
-        return false;
-    }
-    let n = count as usize;
-    let free = rest_ok(items, n);
-    let each = members_ok(s, last, items, n);
-    let pairs = pairs_ok(s, items, n);
-    free & (each & pairs)
 }
 
 // How many canisters the tiles hold together.
@@ -90,9 +74,9 @@ fn counters_ok(s: Settings, c: Counters, n: u32) -> bool
     spare & ((booked == sum) & (c.booked <= c.last))
 }
 
-// Well formed but for the layouts, once the settings have passed. The places are read where they stand, and copied only
-// where a tile has canisters; where no canister is on the floor, no numbers are compared. A tile without canisters leaves
-// its numbers zero.
+// Well formed but for the layouts, once the settings have passed. The places are tested where they stand, and copied only
+// where a tile has two canisters or more; where no canister is on the floor, no numbers are compared. A tile without
+// canisters leaves its numbers zero.
 fn scan(f: Floor) -> bool
     requires { ⌜ settingsPass (f .settings) ≡ true ⌝ }
     ensures { λ r. ⌜ r ≡ stateWell f ⌝ }
@@ -108,12 +92,26 @@ fn scan(f: Floor) -> bool
                 ok = ok & one;
             }
         } else {
-            let mut items = [Canister::ZERO; 16];
-            for i in 0usize..16 {
-                items[i] = f.canisters[16 * t + i];
+            if 16 < h.count {
+                return false;
             }
-            let used = places_test(s, counters.last, h.count, items);
-            ok = ok & used;
+            let n = h.count as usize;
+            for m in 0usize..n {
+                let one = member_ok(s, counters.last, f.canisters[16 * t + m]);
+                ok = ok & one;
+            }
+            for r in n..16 {
+                let one = is_zero_canister(f.canisters[16 * t + r]);
+                ok = ok & one;
+            }
+            if 1 < n {
+                let mut items = [Canister::ZERO; 16];
+                for i in 0usize..16 {
+                    items[i] = f.canisters[16 * t + i];
+                }
+                let pairs = pairs_ok(s, items, n);
+                ok = ok & pairs;
+            }
         }
         if !ok {
             return false;

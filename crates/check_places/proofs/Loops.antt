@@ -1,17 +1,16 @@
--- What holds at the heads of the loops: of `few_ok`, over the members and over those before each; over the members; over the places behind them; over all places; of `numbers_rise`; of `compare_shifted`; of `none_below`; of `all_apart`, over the members and over the shifts.
+-- What holds at the heads of the loops: of `few_ok`, over the members and over those before each; of `numbers_rise`; of `compare_shifted`; of `none_below`; of `all_apart`, over the members and over the shifts.
 use mathlib.Core.Path.{_≡_}
 use mathlib.Core.Bool.{Bool, true, _&&_}
 use mathlib.Core.List.{List}
 use Prim.Native.Nat.{ℕ, _≤_, _<_, _+_}
 use lib.Dec.{leb}
-use lib.ListN.{length, take, drop, getD}
+use lib.ListN.{length, take, getD}
 use Rattle.laws.specs.Define.{allOf, pairsOf, allBelow}
 use Rattle.laws.specs.Filled.{Upto, From}
 use Rattle.floor.specs.declared.Canister.{Canister}
 use Rattle.floor.specs.declared.Settings.{Settings}
 use Rattle.floor.specs.Well.{inOrder}
-use Rattle.floor.specs.Memory.{isZeroCanister}
-use Rattle.check_places.specs.Place.{memberSound, rises}
+use Rattle.check_places.specs.Place.{rises}
 use Rattle.check_places.specs.Lanes.{less, distanceAt}
 use Rattle.check_places.proofs.Lanes.{Twice, lowest}
 
@@ -27,23 +26,6 @@ pub record PairedWith (s : Settings) (n : ℕ) (items : List Canister) (j : ℕ)
   pub few : n ≤ 16
   pub items-length : length items ≡ 16
   pub ordered : ok ≡ (pairsOf (inOrder s) (take j items) && allOf (λ x. inOrder s x y) (take i items))
-
-pub record MembersTested (s : Settings) (last n : ℕ) (items : List Canister) (ok : Bool) (k : ℕ) : Type 0 where
-  pub below : k ≤ n
-  pub few : n ≤ 16
-  pub items-length : length items ≡ 16
-  pub tested : ok ≡ allOf (memberSound s last) (take k items)
-
-pub record RestTested (n : ℕ) (items : List Canister) (left : ℕ) (ok : Bool) (k : ℕ) : Type 0 where
-  pub below : k ≤ left
-  pub whole : n + left ≡ 16
-  pub items-length : length items ≡ 16
-  pub tested : ok ≡ allOf isZeroCanister (take k (drop n items))
-
-pub record PlacesTested (items : List Canister) (ok : Bool) (k : ℕ) : Type 0 where
-  pub below : k ≤ 16
-  pub items-length : length items ≡ 16
-  pub tested : ok ≡ allOf isZeroCanister (take k items)
 
 pub record NumbersRise (n : ℕ) (items : List Canister) (k : ℕ) : Type 0 where
   pub some : 1 ≤ k

@@ -1,9 +1,9 @@
 // Whether the sixteen places of a tile in memory are as they must be.
 ghost use mathlib.Core.Path.{_≡_};
 ghost use Prim.Native.Nat.{_≤_};
-ghost use lib.ListN.{length, take, drop, getD};
+ghost use lib.ListN.{length, take, getD};
 ghost use lib.Dec.{leb};
-ghost use Rattle.laws.specs.Define.{allOf, pairsOf, allBelow};
+ghost use Rattle.laws.specs.Define.{pairsOf, allBelow};
 ghost use Rattle.floor.specs.Settings.{spacing};
 ghost use Rattle.floor.specs.Memory.{isZeroCanister};
 ghost use Rattle.floor.specs.Well.{apart, inOrder};
@@ -21,7 +21,7 @@ pub fn is_zero_canister(c: Canister) -> bool
 }
 
 // A canister within its tile, its number from 1 to the last booked.
-fn member_ok(s: Settings, last: u32, c: Canister) -> bool
+pub fn member_ok(s: Settings, last: u32, c: Canister) -> bool
     requires { ⌜ s .length ≤ s .width ⌝ }
     ensures { λ r. ⌜ r ≡ memberSound s last c ⌝ }
 {
@@ -47,48 +47,6 @@ fn pair_ok(s: Settings, x: Canister, y: Canister) -> bool
 {
     let apart = stands_apart(s, x, y);
     (x.number < y.number) & apart
-}
-
-// All sixteen places are unused.
-fn none_in(items: [Canister; 16]) -> bool
-    ensures { λ r. ⌜ r ≡ allOf isZeroCanister items ⌝ }
-{
-    let mut ok = true;
-    for k in 0usize..16 {
-        let one = is_zero_canister(items[k]);
-        ok = ok & one;
-    }
-    ok
-}
-
-// The places from n on are unused.
-pub fn rest_ok(items: [Canister; 16], n: usize) -> bool
-    requires { ⌜ n ≤ 16 ⌝ }
-    ensures { λ r. ⌜ r ≡ allOf isZeroCanister (drop n items) ⌝ }
-{
-    if n == 0 {
-        return none_in(items);
-    }
-    let left = 16 - n;
-    let mut ok = true;
-    for k in 0usize..left {
-        let one = is_zero_canister(items[n + k]);
-        ok = ok & one;
-    }
-    ok
-}
-
-// The first n places, each by itself.
-pub fn members_ok(s: Settings, last: u32, items: [Canister; 16], n: usize) -> bool
-    requires { ⌜ (n ≤ 16) × (s .length ≤ s .width) ⌝ }
-    ensures { λ r. ⌜ r ≡ allOf (memberSound s last) (take n items) ⌝ }
-{
-    let mut ok = true;
-    for k in 0usize..n {
-        let one = member_ok(s, last, items[k]);
-        ok = ok & one;
-    }
-    ok
 }
 
 // The first n places, every two of them, one pair after another.

@@ -1,2 +1,2 @@
 pub mod Differ
-pub mod Merge
+pub mod Names
