@@ -5,6 +5,7 @@ use mathlib.Core.List.{List, [], _∷_}
 use Prim.Native.Nat.{ℕ, zero, suc, _+_, _^_, _<_}
 use native.Mathlib.Numerals.{add-one}
 use native.Mathlib.Omega.{arith}
+use native.Mathlib.Decide.{ℕ-discrete}
 use lib.Dec.{leb, ltb, eqb}
 use lib.ListN.{length, getD, drop}
 use borrow.Author.Tests.{lt-ltb, eq-eqb}
@@ -16,9 +17,22 @@ use Rattle.floor.specs.Memory.{zeroTile}
 use Rattle.floor.specs.Well.{countersSound}
 use Rattle.check_floor.specs.Code.{counted}
 
+pub none-yet : (ts : List Tile) → 0 ≡ counted ts 0
+unfolding counted
+none-yet ts = refl
+
 pub counted-more : (ts : List Tile) (t : ℕ) → counted ts (t + 1) ≡ counted ts t + getD ts t zeroTile .count
 unfolding counted
 counted-more ts t = rw add-one
+
+pub none-counted : (ts : List Tile) (n : ℕ) → counted ts n ≡ 0 → (t : ℕ) → t < n → getD ts t zeroTile .count ≡ 0
+unfolding counted
+none-counted ts zero z t h = absurd (omega arith)
+none-counted ts (suc n) z t h = go (ℕ-discrete t n) (none-counted ts n (omega (arith, z)) t)
+  where
+    go : Dec (t ≡ n) → (t < n → getD ts t zeroTile .count ≡ 0) → getD ts t zeroTile .count ≡ 0
+    go (yes e) ih = rw e (omega (arith, z))
+    go (no e) ih = ih (omega arith)
 
 drop-all : (h : ℕ) → drop {A = ℕ} h [] ≡ []
 drop-all zero = refl

@@ -43,15 +43,12 @@ module _ (f : Floor) where
       let e : x ≡ getD (numbers (f .canisters)) n 0 = sym (List·getD-map (λ (c : Canister). c .number) (f .canisters) n zeroCanister) in
       keyed-same (n + 1) (16 * t + (i + 1)) (set keys n x) (omega arith) (upto-turn n (λ i. getD (numbers (f .canisters)) i 0) 0 keys x h (p .0) e, rest-turn n (λ i. 0) 0 keys x (p .1))
 
-  pub keyed-last : (t i : ℕ) (keys : List ℕ) → i ≡ 16 → Keyed f (16 * t + i) keys → Keyed f (16 * (t + 1)) keys
-  keyed-last t i keys e p = keyed-same (16 * t + i) (16 * (t + 1)) keys (omega arith) p
-
   module _ (lc : length (f .canisters) ≡ 1024) where
-    -- a tile without canisters that passes: its numbers are zero
-    pub keyed-empty : (t : ℕ) (keys : List ℕ) → t < 64 → Fit f t → headOf f t .count ≤ 0 → Keyed f (16 * t) keys → Keyed f (16 * (t + 1)) keys
-    keyed-empty t keys on fit none p = (λ i k. go i k (decLe (suc i) (16 * t)), λ i k. p .1 i (omega arith))
+    -- a tile that passes: behind its k canisters its numbers are zero
+    pub keyed-rest : (t k : ℕ) (keys : List ℕ) → t < 64 → Fit f t → headOf f t .count ≤ k → Keyed f (16 * t + k) keys → k ≤ 16 → Keyed f (16 * (t + 1)) keys
+    keyed-rest t k keys on fit used p few = (λ i h. go i h (decLe (suc i) (16 * t + k)), λ i h. p .1 i (omega arith))
       where
-        go : (i : ℕ) → i < 16 * (t + 1) → Dec (i < 16 * t) → getD keys i 0 ≡ getD (numbers (f .canisters)) i 0
+        go : (i : ℕ) → i < 16 * (t + 1) → Dec (i < 16 * t + k) → getD keys i 0 ≡ getD (numbers (f .canisters)) i 0
         go i hi (yes lo) = p .0 i lo
         go i hi (no lo) =
             let j : 16 * t + (i - 16 * t) ≡ i = omega arith in

@@ -1,31 +1,78 @@
 -- The loops of the check over the floor: what holds at their heads, and a tile's test once its places are gone through.
 use mathlib.Core.Path.{_≡_, refl, sym, ap, _∙_}
-use mathlib.Core.Bool.{Bool, true, false, _&&_}
+use mathlib.Core.Bool.{Bool, true, false, cond, _&&_}
 use mathlib.Core.List.{List}
 use Prim.Native.Nat.{ℕ, _+_, _-_, _*_, _≤_, _<_}
 use native.Mathlib.Omega.{arith}
+use native.Mathlib.Decide.{ℕ-discrete}
+use lib.Dec.{eqb}
 use lib.ListN.{length, getD, take, drop, length-drop}
 use lib.Seq.{take-all, getD-drop}
+use borrow.Author.Tests.{eq-eqb, ne-eqb}
 use Rattle.laws.specs.Define.{allOf, pairsOf, allBelow}
 use Rattle.laws.specs.Filled.{Upto}
-use Rattle.laws.proofs.Tables.{with-zero, with-step, ended}
-use Rattle.laws.proofs.Tests.{and-yes, and-no}
+use Rattle.laws.proofs.Tables.{with-zero, with-step, ended, below-at, below-of}
+use Rattle.laws.proofs.Tests.{and-left, and-yes, and-no}
 use Rattle.floor.specs.declared.Canister.{Canister}
 use Rattle.floor.specs.declared.Floor.{Floor}
-use Rattle.floor.specs.Memory.{zeroCanister, isZeroCanister, headOf, block}
+use Rattle.floor.specs.Memory.{zeroCanister, isZeroCanister, headOf, block, headFits}
 use Rattle.floor.specs.Well.{inOrder}
 use Rattle.check_places.specs.Place.{memberSound}
 use Rattle.check_floor.specs.Tile.{headTest, placesTest}
-use Rattle.check_floor.proofs.Branches.{places-many, places-few, few-pairs, four}
+use Rattle.check_floor.proofs.Branches.{places-few, few-pairs, count-fits, four}
 use Rattle.check_floor.proofs.WellCode.{testOf, tested-empty, tested-used}
 use Rattle.check_floor.proofs.Blocks.{block-length, block-at}
+use Rattle.check_floor.proofs.Counts.{none-counted}
 use Rattle.check_floor.proofs.Keys.{Keyed, block-copied}
-use Rattle.floor.specs.declared.Tile.{Tile}
 use Rattle.check_floor.specs.Code.{counted}
 
 -- tile t without its canisters
 abbrev pub headed : Floor → ℕ → Bool
 headed f t = headTest (f .settings) t (headOf f t)
+
+-- what the first loop tests of tile t: all of it where it has no canisters, else its head
+unfoldable pub firstTest : Floor → ℕ → Bool
+firstTest f t = cond (eqb (headOf f t .count) 0) (testOf f t) (headed f t)
+
+module _ (f : Floor) (t : ℕ) {ok : Bool} where
+  pub first-empty : headOf f t .count ≡ 0 → ok ≡ testOf f t → ok ≡ firstTest f t
+  unfolding firstTest
+  first-empty z e = rw (eq-eqb (headOf f t .count) 0 z) e
+
+  pub first-used : (headOf f t .count ≡ 0 → ⊥) → ok ≡ headed f t → ok ≡ firstTest f t
+  unfolding firstTest
+  first-used z e = rw (ne-eqb (headOf f t .count) 0 z) e
+
+module _ (f : Floor) (t : ℕ) where
+  pub first-off : firstTest f t ≡ false → testOf f t ≡ false
+  unfolding firstTest
+  first-off e = go (ℕ-discrete (headOf f t .count) 0)
+    where
+      go : Dec (headOf f t .count ≡ 0) → testOf f t ≡ false
+      go (yes z) = rw (eq-eqb (headOf f t .count) 0 z) at e
+      go (no z) =
+          let h : headed f t ≡ false = rw (ne-eqb (headOf f t .count) 0 z) at e in
+          sym (tested-used f t z) ∙ ap (λ (b : Bool). b && placesTest (f .settings) (f .counters .last) (headOf f t .count) (block (f .canisters) t)) h
+
+  pub first-tested : firstTest f t ≡ true → headOf f t .count ≡ 0 → testOf f t ≡ true
+  unfolding firstTest
+  first-tested e z = rw (eq-eqb (headOf f t .count) 0 z) at e
+
+  pub first-headed : firstTest f t ≡ true → headed f t ≡ true
+  unfolding firstTest
+  first-headed e = go (ℕ-discrete (headOf f t .count) 0)
+    where
+      go : Dec (headOf f t .count ≡ 0) → headed f t ≡ true
+      go (yes z) = and-left (headed f t) (allOf isZeroCanister (block (f .canisters) t)) (tested-empty f t z ∙ rw (eq-eqb (headOf f t .count) 0 z) at e)
+      go (no z) = rw (ne-eqb (headOf f t .count) 0 z) at e
+
+pub headed-few : (f : Floor) (t : ℕ) → headed f t ≡ true → headOf f t .count ≤ 16
+unfolding headTest
+headed-few f t h = count-fits (f .settings) t (headOf f t) (and-left (headFits (f .settings) t (headOf f t)) _ h)
+
+-- no canister on the floor: every tile is tested
+pub first-all : (f : Floor) → counted (f .tiles) 64 ≡ 0 → allBelow (firstTest f) 64 ≡ true → allBelow (testOf f) 64 ≡ true
+first-all f z h = below-of (testOf f) 64 (λ t l. first-tested f t (below-at (firstTest f) 64 h t l) (none-counted (f .tiles) 64 z t l))
 
 -- what its test is once its places are gone through
 pub after-empty : (f : Floor) (t k : ℕ) {ok : Bool} → length (f .canisters) ≡ 1024 → t < 64 → headOf f t .count ≡ 0 → 16 ≤ k → ok ≡ (headed f t && allOf isZeroCanister (take k (block (f .canisters) t))) → ok ≡ testOf f t
@@ -91,11 +138,6 @@ module _ (f : Floor) (lc : length (f .canisters) ≡ 1024) (t n : ℕ) where
         tested = rw next (with-step (membersOn f t n) isZeroCanister rest (r - n) zeroCanister long (v .tested) (e ∙ ap isZeroCanister (sym at)));
       }
 
-  pub after-many : headOf f t .count ≡ n → 16 < n → testOf f t ≡ false
-  after-many e h =
-      let m : false ≡ placesTest (f .settings) (f .counters .last) (headOf f t .count) (block (f .canisters) t) = places-many (f .settings) (f .counters .last) (headOf f t .count) (block (f .canisters) t) (omega arith) in
-      sym (tested-used f t (omega arith)) ∙ ap (λ (b : Bool). headed f t && b) (sym m) ∙ and-no (headed f t)
-
   seen : {ok : Bool} (r : ℕ) → 16 ≤ r → RestSeen f t n ok r → (headOf f t .count ≡ 0 → ⊥) → (ok && pairsOf (inOrder (f .settings)) (take n (block (f .canisters) t))) ≡ testOf f t
   seen r all v some =
       let l = block (f .canisters) t in
@@ -116,9 +158,11 @@ module _ (f : Floor) (lc : length (f .canisters) ≡ 1024) (t n : ℕ) where
       ap (λ (b : Bool). ok && b) (p ∙ ap (λ (l : List Canister). pairsOf (inOrder (f .settings)) (take n l)) e) ∙ seen r all v some
 
 -- ---- the heads of the loops: over the tiles; over the places of a tile without canisters; sixteen places copied
-pub record Scanned (f : Floor) (t : ℕ) : Type 0 where
+pub record Scanned (f : Floor) (n t : ℕ) : Type 0 where
   pub below : t ≤ 64
-  pub tested : true ≡ allBelow (testOf f) t
+  pub small : n ≤ 255 * t
+  pub totalled : n ≡ counted (f .tiles) t
+  pub tested : true ≡ allBelow (firstTest f) t
 
 pub record Emptied (f : Floor) (t : ℕ) (ok : Bool) (k : ℕ) : Type 0 where
   pub below : k ≤ 16
@@ -132,18 +176,12 @@ pub record Copied (f : Floor) (t : ℕ) (items : List Canister) (i : ℕ) : Type
 
 -- the numbers of the tiles below u, and of j places of tile u
 pub record Listed (f : Floor) (u : ℕ) (keys : List ℕ) (j : ℕ) : Type 0 where
-  pub below : j ≤ 16
   pub keys-length : length keys ≡ 1024
   pub keyed : Keyed f (16 * u + j) keys
 
-pub record ListedTo (f : Floor) (keys : List ℕ) (u : ℕ) : Type 0 where
+-- the tiles below u are tested, and their numbers listed
+pub record Seen (f : Floor) (keys : List ℕ) (u : ℕ) : Type 0 where
   pub below : u ≤ 64
   pub keys-length : length keys ≡ 1024
   pub keyed : Keyed f (16 * u) keys
-
--- the counts of the tiles below k
-pub record AllCounted (tiles : List Tile) (sum k : ℕ) : Type 0 where
-  pub below : k ≤ 64
-  pub tiles-length : length tiles ≡ 64
-  pub small : sum ≤ 255 * k
-  pub totalled : sum ≡ counted tiles k
+  pub tested : true ≡ allBelow (testOf f) u

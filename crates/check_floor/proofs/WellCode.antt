@@ -81,7 +81,7 @@ pub tested-used : (f : Floor) (t : ℕ) → (headOf f t .count ≡ 0 → ⊥) �
 unfolding tilesTest
 tested-used f t e = test-used (f .settings) (f .counters .last) t (headOf f t) (block (f .canisters) t) e
 
-test-fit : (f : Floor) (t : ℕ) → testOf f t ≡ true → Fit f t
+pub test-fit : (f : Floor) (t : ℕ) → testOf f t ≡ true → Fit f t
 unfolding tilesTest tileTest
 test-fit f t h = and-left (tileFits (f .settings) t (headOf f t) (block (f .canisters) t)) _ h
 

@@ -6,7 +6,6 @@ ghost use lib.ListN.{length};
 ghost use Rattle.floor.specs.Settings.{hoppersOf, settingsPass, Ranged};
 ghost use Rattle.floor.specs.Well.{countersSound, stateWell, wellFormed};
 ghost use Rattle.check_floor.specs.Tile.{headTest};
-ghost use Rattle.check_floor.specs.Code.{counted};
 use check_heads::head_fits;
 use check_heads::head_ok;
 use check_layouts::layouts_ok;
@@ -36,19 +35,6 @@ fn head_test(s: Settings, t: usize, h: Tile) -> bool
     fits & own
 }
 
-// How many canisters the tiles hold together.
-fn count_all(tiles: [Tile; 64]) -> u32
-    ensures { λ r. ⌜ r ≡ counted tiles 64 ⌝ }
-{
-    let mut sum: u32 = 0;
-    for k in 0usize..64 {
-        let h = tiles[k];
-        let n = h.count as u32;
-        sum = sum + n;
-    }
-    sum
-}
-
 // A number as a wider one.
 fn wide(x: u32) -> u64
     ensures { λ r. ⌜ (r ≡ x) × (r < 2 ^ 32) ⌝ }
@@ -74,15 +60,16 @@ fn counters_ok(s: Settings, c: Counters, n: u32) -> bool
     spare & ((booked == sum) & (c.booked <= c.last))
 }
 
-// Well formed but for the layouts, once the settings have passed. The places are tested where they stand, and copied only
-// where a tile has two canisters or more; where no canister is on the floor, no numbers are compared. A tile without
-// canisters leaves its numbers zero.
+// Well formed but for the layouts, once the settings have passed. First the tiles without their canisters, and the places of
+// the tiles that have none, so that a floor without canisters costs no more. Then the places of the others, tested where they
+// are and copied only where a tile has two canisters or more, with their numbers.
 fn scan(f: Floor) -> bool
     requires { ⌜ settingsPass (f .settings) ≡ true ⌝ }
     ensures { λ r. ⌜ r ≡ stateWell f ⌝ }
 {
     let s = f.settings;
     let counters = f.counters;
+    let mut n: u32 = 0;
     for t in 0usize..64 {
         let h = f.tiles[t];
         let mut ok = head_test(s, t, h);
@@ -91,45 +78,42 @@ fn scan(f: Floor) -> bool
                 let one = is_zero_canister(f.canisters[16 * t + k]);
                 ok = ok & one;
             }
-        } else {
-            if 16 < h.count {
-                return false;
-            }
-            let n = h.count as usize;
-            for m in 0usize..n {
-                let one = member_ok(s, counters.last, f.canisters[16 * t + m]);
-                ok = ok & one;
-            }
-            for r in n..16 {
-                let one = is_zero_canister(f.canisters[16 * t + r]);
-                ok = ok & one;
-            }
-            if 1 < n {
-                let mut items = [Canister::ZERO; 16];
-                for i in 0usize..16 {
-                    items[i] = f.canisters[16 * t + i];
-                }
-                let pairs = pairs_ok(s, items, n);
-                ok = ok & pairs;
-            }
         }
         if !ok {
             return false;
         }
+        n = n + h.count as u32;
     }
-    let tiles = f.tiles;
-    let n = count_all(tiles);
     let added = counters_ok(s, counters, n);
     if n == 0 {
         return added;
     }
     let mut keys = [0u32; 1024];
     for u in 0usize..64 {
-        let h = f.tiles[u];
-        if 0 < h.count {
-            for j in 0usize..16 {
-                let c = f.canisters[16 * u + j];
-                keys[16 * u + j] = c.number;
+        let g = f.tiles[u];
+        let held = g.count as usize;
+        if 0 < held {
+            let mut good = true;
+            for m in 0usize..held {
+                let c = f.canisters[16 * u + m];
+                let one = member_ok(s, counters.last, c);
+                good = good & one;
+                keys[16 * u + m] = c.number;
+            }
+            for r in held..16 {
+                let one = is_zero_canister(f.canisters[16 * u + r]);
+                good = good & one;
+            }
+            if 1 < held {
+                let mut items = [Canister::ZERO; 16];
+                for i in 0usize..16 {
+                    items[i] = f.canisters[16 * u + i];
+                }
+                let pairs = pairs_ok(s, items, held);
+                good = good & pairs;
+            }
+            if !good {
+                return false;
             }
         }
     }

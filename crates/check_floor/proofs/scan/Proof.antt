@@ -1,168 +1,144 @@
 use mathlib.Core.Path.{_≡_, refl, sym, ap, _∙_, subst}
 use mathlib.Core.Logic.{⊎-elim}
-use mathlib.Core.Bool.{true}
+use mathlib.Core.Bool.{true, _&&_}
 use mathlib.Core.List.{List}
 use Prim.Native.Nat.{ℕ, _+_, _-_, _*_, _<_}
 use native.Mathlib.Omega.{arith}
 use lib.ListN.{length, getD, length-set}
 use borrow.Author.Tests.{not-true, not-false}
 use Rattle.laws.specs.Define.{allBelow}
-use Rattle.laws.proofs.Tables.{upto-turn, below-zero, below-step, ended, with-zero, with-step}
+use Rattle.laws.proofs.Tables.{upto-turn, below-zero, below-step, below-at, ended, with-zero, with-step}
 use Rattle.floor.specs.declared.Floor.{Floor}
+use Rattle.floor.specs.Settings.{hoppersOf}
 use Rattle.floor.specs.Model.{numbers}
+use Rattle.floor.specs.Well.{countersSound}
 use Rattle.floor.specs.Memory.{zeroCanister, isZeroCanister, block}
 use Rattle.floor.proofs.Sized.{tiles-length, canisters-length}
-use Rattle.check_unique.specs.Differ.{Runs}
+use Rattle.check_unique.specs.Differ.{differ, Runs}
 use Rattle.check_places.specs.Place.{memberSound}
 use Rattle.check_floor.specs.Code.{counted}
-use Rattle.check_floor.proofs.WellCode.{testOf, fit-each, keys-run, well-unlike, well-tiled, well-empty, pass-sized}
+use Rattle.check_floor.proofs.Counts.{none-yet, counted-more}
+use Rattle.check_floor.proofs.WellCode.{testOf, test-fit, keys-run, well-unlike, well-tiled, well-empty, pass-sized}
 use Rattle.check_floor.proofs.Blocks.{block-length, block-at}
-use Rattle.check_floor.proofs.Loops.{headed, after-empty, after-many, after-one, after-pairs, Scanned, Emptied, MembersSeen, members-turn, RestSeen, rest-start, rest-turn, Copied, Listed, ListedTo}
-use Rattle.check_floor.proofs.Keys.{Keyed, keyed-start, keyed-first, keyed-turn, keyed-last, keyed-empty, keyed-end}
+use Rattle.check_floor.proofs.Loops.{headed, firstTest, first-empty, first-used, first-off, first-tested, first-headed, first-all, headed-few, after-empty, after-one, after-pairs, Scanned, Emptied, MembersSeen, members-turn, RestSeen, rest-start, rest-turn, Copied, Listed, Seen}
+use Rattle.check_floor.proofs.Keys.{Keyed, keyed-start, keyed-first, keyed-turn, keyed-rest, keyed-end}
 use borrow.Author.Needs.{needs}
 use Rattle.check_floor.proofs.scan.Statement.{statement}
 use Rattle.check_floor.proofs.scan.Tie as tie
-use Rattle.check_floor.proofs.scan.Reads as reads
-use Rattle.check_floor.proofs.scan.Lts as lts
-use Rattle.check_numbers.proofs.numbers_differ.Reads as numbers-differ-reads
-use Rattle.check_places.proofs.is_zero_canister.Reads as is-zero-canister-reads
-use Rattle.check_floor.proofs.count_all.Reads as count-all-reads
-use Rattle.check_floor.proofs.counters_ok.Reads as counters-ok-reads
-use Rattle.check_floor.proofs.head_test.Reads as head-test-reads
-use Rattle.check_places.proofs.member_ok.Reads as member-ok-reads
-use Rattle.check_places.proofs.pairs_ok.Reads as pairs-ok-reads
 
 abbrev Inv-loop2 : tie.InvT-loop2
-Inv-loop2 f s counters t ok₀ k₀ ok k = Emptied f t ok k
+Inv-loop2 f s counters n t h ok₀ k₀ ok k = Emptied f t ok k
 
 abbrev μ-loop2 : tie.MeasureT-loop2
-μ-loop2 f s counters t ok₀ k₀ ok k = 16 - k
-
-abbrev Inv-loop3 : tie.InvT-loop3
-Inv-loop3 f s counters t ok₀ n m₀ ok m = MembersSeen f t n ok m
-
-abbrev μ-loop3 : tie.MeasureT-loop3
-μ-loop3 f s counters t ok₀ n m₀ ok m = n - m
-
-abbrev Inv-loop4 : tie.InvT-loop4
-Inv-loop4 f s counters t ok₀ n r₀ ok r = RestSeen f t n ok r
-
-abbrev μ-loop4 : tie.MeasureT-loop4
-μ-loop4 f s counters t ok₀ n r₀ ok r = 16 - r
-
-abbrev Inv-loop5 : tie.InvT-loop5
-Inv-loop5 f s counters t ok n items₀ i₀ items i = Copied f t items i
-
-abbrev μ-loop5 : tie.MeasureT-loop5
-μ-loop5 f s counters t ok n items₀ i₀ items i = 16 - i
+μ-loop2 f s counters n t h ok₀ k₀ ok k = 16 - k
 
 abbrev Inv-loop : tie.InvT-loop
-Inv-loop f s counters t₀ t = Scanned f t
+Inv-loop f s counters n₀ t₀ n t = Scanned f n t
 
 abbrev μ-loop : tie.MeasureT-loop
-μ-loop f s counters t₀ t = 64 - t
+μ-loop f s counters n₀ t₀ n t = 64 - t
 
-abbrev Inv-loop7 : tie.InvT-loop7
-Inv-loop7 f n added keys₀ u j₀ keys j = Listed f u keys j
+abbrev Inv-loop4 : tie.InvT-loop4
+Inv-loop4 f s counters n added keys₀ u held good₀ m₀ keys good m = MembersSeen f u held good m × Listed f u keys m
 
-abbrev μ-loop7 : tie.MeasureT-loop7
-μ-loop7 f n added keys₀ u j₀ keys j = 16 - j
+abbrev μ-loop4 : tie.MeasureT-loop4
+μ-loop4 f s counters n added keys₀ u held good₀ m₀ keys good m = held - m
+
+abbrev Inv-loop5 : tie.InvT-loop5
+Inv-loop5 f s counters n added keys u held good₀ r₀ good r = RestSeen f u held good r
+
+abbrev μ-loop5 : tie.MeasureT-loop5
+μ-loop5 f s counters n added keys u held good₀ r₀ good r = 16 - r
 
 abbrev Inv-loop6 : tie.InvT-loop6
-Inv-loop6 f n added keys₀ u₀ keys u = ListedTo f keys u
+Inv-loop6 f s counters n added keys u held good items₀ i₀ items i = Copied f u items i
 
 abbrev μ-loop6 : tie.MeasureT-loop6
-μ-loop6 f n added keys₀ u₀ keys u = 64 - u
+μ-loop6 f s counters n added keys u held good items₀ i₀ items i = 16 - i
 
--- ---- the places that a need goes back to: the start and the floor, the loop over the tiles, its end
-abbrev start : tie.At-loop Inv-loop2 μ-loop2 Inv-loop3 μ-loop3 Inv-loop4 μ-loop4 Inv-loop5 μ-loop5 Inv-loop μ-loop Inv-loop7 μ-loop7 Inv-loop6 μ-loop6 → tie.Start Inv-loop2 μ-loop2 Inv-loop3 μ-loop3 Inv-loop4 μ-loop4 Inv-loop5 μ-loop5 Inv-loop μ-loop Inv-loop7 μ-loop7 Inv-loop6 μ-loop6
+abbrev Inv-loop3 : tie.InvT-loop3
+Inv-loop3 f s counters n added keys₀ u₀ keys u = Seen f keys u
+
+abbrev μ-loop3 : tie.MeasureT-loop3
+μ-loop3 f s counters n added keys₀ u₀ keys u = 64 - u
+
+-- ---- the places that a need goes back to: the start and the floor; the loops over the tiles, from a place in them; the end of the first
+abbrev start : tie.At-loop Inv-loop2 μ-loop2 Inv-loop μ-loop Inv-loop4 μ-loop4 Inv-loop5 μ-loop5 Inv-loop6 μ-loop6 Inv-loop3 μ-loop3 → tie.Start Inv-loop2 μ-loop2 Inv-loop μ-loop Inv-loop4 μ-loop4 Inv-loop5 μ-loop5 Inv-loop6 μ-loop6 Inv-loop3 μ-loop3
 start c = c .before .before .before
 
-abbrev floor : tie.At-loop Inv-loop2 μ-loop2 Inv-loop3 μ-loop3 Inv-loop4 μ-loop4 Inv-loop5 μ-loop5 Inv-loop μ-loop Inv-loop7 μ-loop7 Inv-loop6 μ-loop6 → Floor
+abbrev floor : tie.At-loop Inv-loop2 μ-loop2 Inv-loop μ-loop Inv-loop4 μ-loop4 Inv-loop5 μ-loop5 Inv-loop6 μ-loop6 Inv-loop3 μ-loop3 → Floor
 floor c = start c .args .t1
 
-abbrev at-tile : tie.After-head-test Inv-loop2 μ-loop2 Inv-loop3 μ-loop3 Inv-loop4 μ-loop4 Inv-loop5 μ-loop5 Inv-loop μ-loop Inv-loop7 μ-loop7 Inv-loop6 μ-loop6 → tie.At-loop Inv-loop2 μ-loop2 Inv-loop3 μ-loop3 Inv-loop4 μ-loop4 Inv-loop5 μ-loop5 Inv-loop μ-loop Inv-loop7 μ-loop7 Inv-loop6 μ-loop6
+abbrev at-tile : tie.After-head-test Inv-loop2 μ-loop2 Inv-loop μ-loop Inv-loop4 μ-loop4 Inv-loop5 μ-loop5 Inv-loop6 μ-loop6 Inv-loop3 μ-loop3 → tie.At-loop Inv-loop2 μ-loop2 Inv-loop μ-loop Inv-loop4 μ-loop4 Inv-loop5 μ-loop5 Inv-loop6 μ-loop6 Inv-loop3 μ-loop3
 at-tile c = c .before .before .before
 
-abbrev at-members : tie.At-loop3 Inv-loop2 μ-loop2 Inv-loop3 μ-loop3 Inv-loop4 μ-loop4 Inv-loop5 μ-loop5 Inv-loop μ-loop Inv-loop7 μ-loop7 Inv-loop6 μ-loop6 → tie.At-loop Inv-loop2 μ-loop2 Inv-loop3 μ-loop3 Inv-loop4 μ-loop4 Inv-loop5 μ-loop5 Inv-loop μ-loop Inv-loop7 μ-loop7 Inv-loop6 μ-loop6
-at-members c = let e = c .before .before .before in at-tile (e .before .before .before)
+abbrev scanned : tie.At-loop3 Inv-loop2 μ-loop2 Inv-loop μ-loop Inv-loop4 μ-loop4 Inv-loop5 μ-loop5 Inv-loop6 μ-loop6 Inv-loop3 μ-loop3 → tie.After-loop Inv-loop2 μ-loop2 Inv-loop μ-loop Inv-loop4 μ-loop4 Inv-loop5 μ-loop5 Inv-loop6 μ-loop6 Inv-loop3 μ-loop3
+scanned c = c .before .before .before
 
-abbrev at-rest : tie.At-loop4 Inv-loop2 μ-loop2 Inv-loop3 μ-loop3 Inv-loop4 μ-loop4 Inv-loop5 μ-loop5 Inv-loop μ-loop Inv-loop7 μ-loop7 Inv-loop6 μ-loop6 → tie.At-loop Inv-loop2 μ-loop2 Inv-loop3 μ-loop3 Inv-loop4 μ-loop4 Inv-loop5 μ-loop5 Inv-loop μ-loop Inv-loop7 μ-loop7 Inv-loop6 μ-loop6
+abbrev at-used : tie.After-struct-known3 Inv-loop2 μ-loop2 Inv-loop μ-loop Inv-loop4 μ-loop4 Inv-loop5 μ-loop5 Inv-loop6 μ-loop6 Inv-loop3 μ-loop3 → tie.At-loop3 Inv-loop2 μ-loop2 Inv-loop μ-loop Inv-loop4 μ-loop4 Inv-loop5 μ-loop5 Inv-loop6 μ-loop6 Inv-loop3 μ-loop3
+at-used c = c .before .before .before
+
+abbrev at-members : tie.At-loop4 Inv-loop2 μ-loop2 Inv-loop μ-loop Inv-loop4 μ-loop4 Inv-loop5 μ-loop5 Inv-loop6 μ-loop6 Inv-loop3 μ-loop3 → tie.At-loop3 Inv-loop2 μ-loop2 Inv-loop μ-loop Inv-loop4 μ-loop4 Inv-loop5 μ-loop5 Inv-loop6 μ-loop6 Inv-loop3 μ-loop3
+at-members c = at-used (c .before .before)
+
+abbrev at-rest : tie.At-loop5 Inv-loop2 μ-loop2 Inv-loop μ-loop Inv-loop4 μ-loop4 Inv-loop5 μ-loop5 Inv-loop6 μ-loop6 Inv-loop3 μ-loop3 → tie.At-loop3 Inv-loop2 μ-loop2 Inv-loop μ-loop Inv-loop4 μ-loop4 Inv-loop5 μ-loop5 Inv-loop6 μ-loop6 Inv-loop3 μ-loop3
 at-rest c = at-members (c .before .before)
 
-abbrev scanned : tie.At-loop6 Inv-loop2 μ-loop2 Inv-loop3 μ-loop3 Inv-loop4 μ-loop4 Inv-loop5 μ-loop5 Inv-loop μ-loop Inv-loop7 μ-loop7 Inv-loop6 μ-loop6 → tie.After-loop Inv-loop2 μ-loop2 Inv-loop3 μ-loop3 Inv-loop4 μ-loop4 Inv-loop5 μ-loop5 Inv-loop μ-loop Inv-loop7 μ-loop7 Inv-loop6 μ-loop6
-scanned c = let n = c .before .before in n .before .before .before
-
 -- ---- what several needs of one place share
-sized : (c : tie.At-loop Inv-loop2 μ-loop2 Inv-loop3 μ-loop3 Inv-loop4 μ-loop4 Inv-loop5 μ-loop5 Inv-loop μ-loop Inv-loop7 μ-loop7 Inv-loop6 μ-loop6) → (length (floor c .tiles) ≡ 64) × (length (floor c .canisters) ≡ 1024)
+sized : (c : tie.At-loop Inv-loop2 μ-loop2 Inv-loop μ-loop Inv-loop4 μ-loop4 Inv-loop5 μ-loop5 Inv-loop6 μ-loop6 Inv-loop3 μ-loop3) → (length (floor c .tiles) ≡ 64) × (length (floor c .canisters) ≡ 1024)
 sized c = (tiles-length (floor c) _ (start c .good .0), canisters-length (floor c) _ (start c .good .0))
 
-tested : (c : tie.Joined1 Inv-loop2 μ-loop2 Inv-loop3 μ-loop3 Inv-loop4 μ-loop4 Inv-loop5 μ-loop5 Inv-loop μ-loop Inv-loop7 μ-loop7 Inv-loop6 μ-loop6) → let o = at-tile (c .before .before) in c .if1 .ok ≡ testOf (floor o) (o .loop .t)
-tested c =
+first : (c : tie.Joined1 Inv-loop2 μ-loop2 Inv-loop μ-loop Inv-loop4 μ-loop4 Inv-loop5 μ-loop5 Inv-loop6 μ-loop6 Inv-loop3 μ-loop3) → let o = at-tile (c .before .before) in c .if1 .ok ≡ firstTest (floor o) (o .loop .t)
+first c =
     let h = c .before .before in
     let o = at-tile h in
     let t = o .loop .t in
     let on : t < 64 = omega arith in
-    let lc = sized o .1 in
     ⊎-elim
-    (λ w. w .3 ∙ after-empty (floor o) t (w .1 .k) lc on (w .0 .taken) (w .2 .left) (w .1 .inv .tested))
-    (λ v. ⊎-elim
-    (λ w. w .12 ∙ after-pairs (floor o) lc t _ (w .6 .r) (w .9 .i) (w .9 .items) (w .7 .left) (w .6 .inv) (w .0 .left) (w .10 .left) (w .9 .inv .items-length) (w .9 .inv .copied) (w .11 .ensures))
-    (λ w. w .9 ∙ after-one (floor o) lc t _ (w .6 .r) (w .7 .left) (w .6 .inv) (w .0 .left) (w .8 .left))
-    v)
+    (λ w. first-empty (floor o) t (w .0 .taken) (w .3 ∙ after-empty (floor o) t (w .1 .k) (sized o .1) on (w .0 .taken) (w .2 .left) (w .1 .inv .tested)))
+    (λ w. first-used (floor o) t (w .0 .left) (w .1 ∙ h .head-test .ensures))
     (c .if1 .came)
 
-all-tested : (c : tie.After-loop Inv-loop2 μ-loop2 Inv-loop3 μ-loop3 Inv-loop4 μ-loop4 Inv-loop5 μ-loop5 Inv-loop μ-loop Inv-loop7 μ-loop7 Inv-loop6 μ-loop6) → allBelow (testOf (floor (c .before))) 64 ≡ true
-all-tested c =
+all-first : (c : tie.After-loop Inv-loop2 μ-loop2 Inv-loop μ-loop Inv-loop4 μ-loop4 Inv-loop5 μ-loop5 Inv-loop6 μ-loop6 Inv-loop3 μ-loop3) → allBelow (firstTest (floor (c .before))) 64 ≡ true
+all-first c =
     let l = c .before .loop .inv in
-    sym (ended (allBelow (testOf (floor (c .before)))) (c .loop-test .left) (l .below) (l .tested))
+    sym (ended (allBelow (firstTest (floor (c .before)))) (c .loop-test .left) (l .below) (l .tested))
 
-all-keys : (c : tie.After-loop6 Inv-loop2 μ-loop2 Inv-loop3 μ-loop3 Inv-loop4 μ-loop4 Inv-loop5 μ-loop5 Inv-loop μ-loop Inv-loop7 μ-loop7 Inv-loop6 μ-loop6) → c .before .loop6 .keys ≡ numbers (floor (scanned (c .before) .before) .canisters)
-all-keys c =
-    let o = scanned (c .before) .before in
-    let x = c .before .loop6 in
-    keyed-end (floor o) (sized o .1) (x .u) (x .keys) (omega (arith, c .loop6-test .left, x .inv .below)) (x .inv .keys-length) (x .inv .keyed)
+all-counted : (c : tie.After-loop Inv-loop2 μ-loop2 Inv-loop μ-loop Inv-loop4 μ-loop4 Inv-loop5 μ-loop5 Inv-loop6 μ-loop6 Inv-loop3 μ-loop3) → c .before .loop .n ≡ counted (floor (c .before) .tiles) 64
+all-counted c =
+    let l = c .before .loop .inv in
+    ended (counted (floor (c .before) .tiles)) (c .loop-test .left) (l .below) (l .totalled)
 
-loop-holds : tie.Need-loop-holds Inv-loop2 μ-loop2 Inv-loop3 μ-loop3 Inv-loop4 μ-loop4 Inv-loop5 μ-loop5 Inv-loop μ-loop Inv-loop7 μ-loop7 Inv-loop6 μ-loop6
-loop-holds c = record { below = omega arith; tested = sym (below-zero (testOf (c .before .before .args .t1))) }
+first-here : (c : tie.At-loop3 Inv-loop2 μ-loop2 Inv-loop μ-loop Inv-loop4 μ-loop4 Inv-loop5 μ-loop5 Inv-loop6 μ-loop6 Inv-loop3 μ-loop3) → (u : ℕ) → u < 64 → firstTest (floor (scanned c .before)) u ≡ true
+first-here c u on = below-at (firstTest (floor (scanned c .before))) 64 (all-first (scanned c)) u on
 
-mul-h : tie.Need-mul-h Inv-loop2 μ-loop2 Inv-loop3 μ-loop3 Inv-loop4 μ-loop4 Inv-loop5 μ-loop5 Inv-loop μ-loop Inv-loop7 μ-loop7 Inv-loop6 μ-loop6
-mul-h c = search needs
+tested : (c : tie.Joined5 Inv-loop2 μ-loop2 Inv-loop μ-loop Inv-loop4 μ-loop4 Inv-loop5 μ-loop5 Inv-loop6 μ-loop6 Inv-loop3 μ-loop3) → let o = at-rest (c .before .before) in c .if5 .good ≡ testOf (floor (scanned o .before)) (o .loop3 .u)
+tested c =
+    let p = c .before in
+    let z = p .before in
+    let o = at-rest z in
+    let f = floor (scanned o .before) in
+    let lc = sized (scanned o .before) .1 in
+    let v = z .loop5 .inv in
+    let some = z .before .before .before .if4 .taken in
+    ⊎-elim
+    (λ w. w .4 ∙ after-pairs f lc (o .loop3 .u) _ (z .loop5 .r) (w .1 .i) (w .1 .items) (p .loop5-test .left) v (λ e. absurd (omega (arith, some, e))) (w .2 .left) (w .1 .inv .items-length) (w .1 .inv .copied) (w .3 .ensures))
+    (λ w. w .1 ∙ after-one f lc (o .loop3 .u) _ (z .loop5 .r) (p .loop5-test .left) v (λ e. absurd (omega (arith, some, e))) (w .0 .left))
+    (c .if5 .came)
 
-element-copy-out-h : tie.Need-element-copy-out-h Inv-loop2 μ-loop2 Inv-loop3 μ-loop3 Inv-loop4 μ-loop4 Inv-loop5 μ-loop5 Inv-loop μ-loop Inv-loop7 μ-loop7 Inv-loop6 μ-loop6
-element-copy-out-h c = search needs
+loop-holds : tie.Need-loop-holds Inv-loop2 μ-loop2 Inv-loop μ-loop Inv-loop4 μ-loop4 Inv-loop5 μ-loop5 Inv-loop6 μ-loop6 Inv-loop3 μ-loop3
+loop-holds c = record { below = omega arith; small = omega arith; totalled = none-yet (c .before .before .args .t1 .tiles); tested = sym (below-zero (firstTest (c .before .before .args .t1))) }
 
-head-test-requires : tie.Need-head-test-requires Inv-loop2 μ-loop2 Inv-loop3 μ-loop3 Inv-loop4 μ-loop4 Inv-loop5 μ-loop5 Inv-loop μ-loop Inv-loop7 μ-loop7 Inv-loop6 μ-loop6
+head-test-requires : tie.Need-head-test-requires Inv-loop2 μ-loop2 Inv-loop μ-loop Inv-loop4 μ-loop4 Inv-loop5 μ-loop5 Inv-loop6 μ-loop6 Inv-loop3 μ-loop3
 head-test-requires c κs = let S = start (c .before .before) in pass-sized (S .args .t1 .settings) (S .pre) .0
 
-loop2-holds : tie.Need-loop2-holds Inv-loop2 μ-loop2 Inv-loop3 μ-loop3 Inv-loop4 μ-loop4 Inv-loop5 μ-loop5 Inv-loop μ-loop Inv-loop7 μ-loop7 Inv-loop6 μ-loop6
+loop2-holds : tie.Need-loop2-holds Inv-loop2 μ-loop2 Inv-loop μ-loop Inv-loop4 μ-loop4 Inv-loop5 μ-loop5 Inv-loop6 μ-loop6 Inv-loop3 μ-loop3
 loop2-holds c =
     let h = c .before .before in
     let o = at-tile h in
     record { below = omega arith; here = omega arith; tested = with-zero isZeroCanister (block (floor o .canisters) (o .loop .t)) (h .head-test .ensures) }
 
-mul-is-zero-canister : tie.Need-mul-is-zero-canister Inv-loop2 μ-loop2 Inv-loop3 μ-loop3 Inv-loop4 μ-loop4 Inv-loop5 μ-loop5 Inv-loop μ-loop Inv-loop7 μ-loop7 Inv-loop6 μ-loop6
-mul-is-zero-canister c = search needs
-
-add-is-zero-canister : tie.Need-add-is-zero-canister Inv-loop2 μ-loop2 Inv-loop3 μ-loop3 Inv-loop4 μ-loop4 Inv-loop5 μ-loop5 Inv-loop μ-loop Inv-loop7 μ-loop7 Inv-loop6 μ-loop6
-add-is-zero-canister c = search needs
-
-mul-is-zero-canister-2 : tie.Need-mul-is-zero-canister-2 Inv-loop2 μ-loop2 Inv-loop3 μ-loop3 Inv-loop4 μ-loop4 Inv-loop5 μ-loop5 Inv-loop μ-loop Inv-loop7 μ-loop7 Inv-loop6 μ-loop6
-mul-is-zero-canister-2 c = search needs
-
-element-copy-out-is-zero-canister : tie.Need-element-copy-out-is-zero-canister Inv-loop2 μ-loop2 Inv-loop3 μ-loop3 Inv-loop4 μ-loop4 Inv-loop5 μ-loop5 Inv-loop μ-loop Inv-loop7 μ-loop7 Inv-loop6 μ-loop6
-element-copy-out-is-zero-canister c = search needs
-
-is-zero-canister-requires : tie.Need-is-zero-canister-requires Inv-loop2 μ-loop2 Inv-loop3 μ-loop3 Inv-loop4 μ-loop4 Inv-loop5 μ-loop5 Inv-loop μ-loop Inv-loop7 μ-loop7 Inv-loop6 μ-loop6
-is-zero-canister-requires c κs = search needs
-
-add-k : tie.Need-add-k Inv-loop2 μ-loop2 Inv-loop3 μ-loop3 Inv-loop4 μ-loop4 Inv-loop5 μ-loop5 Inv-loop μ-loop Inv-loop7 μ-loop7 Inv-loop6 μ-loop6
-add-k c = search needs
-
-loop2-less : tie.Need-loop2-less Inv-loop2 μ-loop2 Inv-loop3 μ-loop3 Inv-loop4 μ-loop4 Inv-loop5 μ-loop5 Inv-loop μ-loop Inv-loop7 μ-loop7 Inv-loop6 μ-loop6
-loop2-less c = search needs
-
-loop2-again : tie.Need-loop2-again Inv-loop2 μ-loop2 Inv-loop3 μ-loop3 Inv-loop4 μ-loop4 Inv-loop5 μ-loop5 Inv-loop μ-loop Inv-loop7 μ-loop7 Inv-loop6 μ-loop6
+loop2-again : tie.Need-loop2-again Inv-loop2 μ-loop2 Inv-loop μ-loop Inv-loop4 μ-loop4 Inv-loop5 μ-loop5 Inv-loop6 μ-loop6 Inv-loop3 μ-loop3
 loop2-again c =
     let z = c .before .before .before in
     let o = at-tile (z .before .before .before) in
@@ -178,244 +154,158 @@ loop2-again c =
       tested = with-step (headed f t) isZeroCanister (block cs t) (l .k) zeroCanister (rw (block-length cs t (sized o .1) (v .here)) on) (v .tested) (c .is-zero-canister .ensures ∙ ap isZeroCanister (sym (block-at cs t (l .k) on)));
     }
 
-returns : tie.Need-returns Inv-loop2 μ-loop2 Inv-loop3 μ-loop3 Inv-loop4 μ-loop4 Inv-loop5 μ-loop5 Inv-loop μ-loop Inv-loop7 μ-loop7 Inv-loop6 μ-loop6
+returns : tie.Need-returns Inv-loop2 μ-loop2 Inv-loop μ-loop Inv-loop4 μ-loop4 Inv-loop5 μ-loop5 Inv-loop6 μ-loop6 Inv-loop3 μ-loop3
 returns c =
-    let e = c .before .before in
-    let o = at-tile (e .before .before) in
+    let o = at-tile (c .before .before .before) in
     let s = sized o in
-    well-unlike (floor o) (s .0) (s .1) (start o .pre) (o .loop .t) (omega arith) (after-many (floor o) (s .1) (o .loop .t) _ refl (c .if2 .taken))
+    well-unlike (floor o) (s .0) (s .1) (start o .pre) (o .loop .t) (omega arith) (first-off (floor o) (o .loop .t) (sym (first (c .before)) ∙ not-true _ (c .if2 .taken)))
 
-cast-n : tie.Need-cast-n Inv-loop2 μ-loop2 Inv-loop3 μ-loop3 Inv-loop4 μ-loop4 Inv-loop5 μ-loop5 Inv-loop μ-loop Inv-loop7 μ-loop7 Inv-loop6 μ-loop6
-cast-n c = search needs
+loop-again : tie.Need-loop-again Inv-loop2 μ-loop2 Inv-loop μ-loop Inv-loop4 μ-loop4 Inv-loop5 μ-loop5 Inv-loop6 μ-loop6 Inv-loop3 μ-loop3
+loop-again c =
+    let j = c .before .before in
+    let o = at-tile (j .before .before) in
+    let f = floor o in
+    let t = o .loop .t in
+    record {
+      below = omega arith;
+      small = omega arith;
+      totalled = omega (arith, counted-more (f .tiles) t, o .loop .inv .totalled);
+      tested = below-step (firstTest f) t (o .loop .inv .tested) (sym (not-false _ (c .before .if2 .left)) ∙ first j);
+    }
 
-loop3-holds : tie.Need-loop3-holds Inv-loop2 μ-loop2 Inv-loop3 μ-loop3 Inv-loop4 μ-loop4 Inv-loop5 μ-loop5 Inv-loop μ-loop Inv-loop7 μ-loop7 Inv-loop6 μ-loop6
-loop3-holds c =
-    let h = c .before .before .before .before .before in
-    let f = floor (at-tile h) in
-    record { below = omega arith; few = c .before .if2 .left; here = omega arith; counted = refl; tested = with-zero (memberSound (f .settings) (f .counters .last)) (block (f .canisters) (at-tile h .loop .t)) (h .head-test .ensures) }
+counters-ok-requires : tie.Need-counters-ok-requires Inv-loop2 μ-loop2 Inv-loop μ-loop Inv-loop4 μ-loop4 Inv-loop5 μ-loop5 Inv-loop6 μ-loop6 Inv-loop3 μ-loop3
+counters-ok-requires c κs = search needs
 
-mul-member-ok : tie.Need-mul-member-ok Inv-loop2 μ-loop2 Inv-loop3 μ-loop3 Inv-loop4 μ-loop4 Inv-loop5 μ-loop5 Inv-loop μ-loop Inv-loop7 μ-loop7 Inv-loop6 μ-loop6
-mul-member-ok c = search needs
+returns-2 : tie.Need-returns-2 Inv-loop2 μ-loop2 Inv-loop μ-loop Inv-loop4 μ-loop4 Inv-loop5 μ-loop5 Inv-loop6 μ-loop6 Inv-loop3 μ-loop3
+returns-2 c =
+    let over = c .before .before in
+    let o = over .before in
+    let s = sized o in
+    let none : counted (floor o .tiles) 64 ≡ 0 = sym (all-counted over) ∙ c .if3 .taken in
+    rw (c .before .counters-ok .ensures, all-counted over) (well-empty (floor o) (s .0) (s .1) (start o .pre) (first-all (floor o) none (all-first over)) none)
 
-add-member-ok : tie.Need-add-member-ok Inv-loop2 μ-loop2 Inv-loop3 μ-loop3 Inv-loop4 μ-loop4 Inv-loop5 μ-loop5 Inv-loop μ-loop Inv-loop7 μ-loop7 Inv-loop6 μ-loop6
-add-member-ok c = search needs
+loop3-holds : tie.Need-loop3-holds Inv-loop2 μ-loop2 Inv-loop μ-loop Inv-loop4 μ-loop4 Inv-loop5 μ-loop5 Inv-loop6 μ-loop6 Inv-loop3 μ-loop3
+loop3-holds c = let f = floor (c .before .before .before) in record { below = omega arith; keys-length = refl; keyed = keyed-start f; tested = sym (below-zero (testOf f)) }
 
-mul-member-ok-2 : tie.Need-mul-member-ok-2 Inv-loop2 μ-loop2 Inv-loop3 μ-loop3 Inv-loop4 μ-loop4 Inv-loop5 μ-loop5 Inv-loop μ-loop Inv-loop7 μ-loop7 Inv-loop6 μ-loop6
-mul-member-ok-2 c = search needs
-
-element-copy-out-member-ok : tie.Need-element-copy-out-member-ok Inv-loop2 μ-loop2 Inv-loop3 μ-loop3 Inv-loop4 μ-loop4 Inv-loop5 μ-loop5 Inv-loop μ-loop Inv-loop7 μ-loop7 Inv-loop6 μ-loop6
-element-copy-out-member-ok c = search needs
-
-member-ok-requires : tie.Need-member-ok-requires Inv-loop2 μ-loop2 Inv-loop3 μ-loop3 Inv-loop4 μ-loop4 Inv-loop5 μ-loop5 Inv-loop μ-loop Inv-loop7 μ-loop7 Inv-loop6 μ-loop6
-member-ok-requires c κs = let S = start (at-members (c .before .before)) in pass-sized (S .args .t1 .settings) (S .pre) .1
-
-add-m : tie.Need-add-m Inv-loop2 μ-loop2 Inv-loop3 μ-loop3 Inv-loop4 μ-loop4 Inv-loop5 μ-loop5 Inv-loop μ-loop Inv-loop7 μ-loop7 Inv-loop6 μ-loop6
-add-m c = search needs
-
-loop3-less : tie.Need-loop3-less Inv-loop2 μ-loop2 Inv-loop3 μ-loop3 Inv-loop4 μ-loop4 Inv-loop5 μ-loop5 Inv-loop μ-loop Inv-loop7 μ-loop7 Inv-loop6 μ-loop6
-loop3-less c = search needs
-
-loop3-again : tie.Need-loop3-again Inv-loop2 μ-loop2 Inv-loop3 μ-loop3 Inv-loop4 μ-loop4 Inv-loop5 μ-loop5 Inv-loop μ-loop Inv-loop7 μ-loop7 Inv-loop6 μ-loop6
-loop3-again c =
-    let z = c .before .before .before in
-    let o = at-members z in
-    members-turn (floor o) (sized o .1) (o .loop .t) _ (z .loop3 .m) (omega arith) (z .loop3 .inv) (c .member-ok .ensures)
-
-loop4-holds : tie.Need-loop4-holds Inv-loop2 μ-loop2 Inv-loop3 μ-loop3 Inv-loop4 μ-loop4 Inv-loop5 μ-loop5 Inv-loop μ-loop Inv-loop7 μ-loop7 Inv-loop6 μ-loop6
+loop4-holds : tie.Need-loop4-holds Inv-loop2 μ-loop2 Inv-loop μ-loop Inv-loop4 μ-loop4 Inv-loop5 μ-loop5 Inv-loop6 μ-loop6 Inv-loop3 μ-loop3
 loop4-holds c =
-    let o = at-members (c .before) in
-    rest-start (floor o) (sized o .1) (o .loop .t) _ (c .before .loop3 .m) (c .loop3-test .left) (c .before .loop3 .inv)
+    let o = at-used (c .before) in
+    let f = floor (scanned o .before) in
+    let x = o .loop3 in
+    let on : x .u < 64 = omega arith in
+    let h = first-headed f (x .u) (first-here o (x .u) on) in (
+      record { below = omega arith; few = headed-few f (x .u) h; here = on; counted = refl; tested = with-zero (memberSound (f .settings) (f .counters .last)) (block (f .canisters) (x .u)) (sym h) },
+      record { keys-length = x .inv .keys-length; keyed = keyed-first f (x .u) (x .keys) (x .inv .keyed) },
+    )
 
-mul-is-zero-canister-3 : tie.Need-mul-is-zero-canister-3 Inv-loop2 μ-loop2 Inv-loop3 μ-loop3 Inv-loop4 μ-loop4 Inv-loop5 μ-loop5 Inv-loop μ-loop Inv-loop7 μ-loop7 Inv-loop6 μ-loop6
-mul-is-zero-canister-3 c = search needs
+member-ok-requires : tie.Need-member-ok-requires Inv-loop2 μ-loop2 Inv-loop μ-loop Inv-loop4 μ-loop4 Inv-loop5 μ-loop5 Inv-loop6 μ-loop6 Inv-loop3 μ-loop3
+member-ok-requires c κs = let S = start (scanned (at-members (c .before .before)) .before) in pass-sized (S .args .t1 .settings) (S .pre) .1
 
-add-is-zero-canister-2 : tie.Need-add-is-zero-canister-2 Inv-loop2 μ-loop2 Inv-loop3 μ-loop3 Inv-loop4 μ-loop4 Inv-loop5 μ-loop5 Inv-loop μ-loop Inv-loop7 μ-loop7 Inv-loop6 μ-loop6
-add-is-zero-canister-2 c = search needs
-
-mul-is-zero-canister-4 : tie.Need-mul-is-zero-canister-4 Inv-loop2 μ-loop2 Inv-loop3 μ-loop3 Inv-loop4 μ-loop4 Inv-loop5 μ-loop5 Inv-loop μ-loop Inv-loop7 μ-loop7 Inv-loop6 μ-loop6
-mul-is-zero-canister-4 c = search needs
-
-element-copy-out-is-zero-canister-2 : tie.Need-element-copy-out-is-zero-canister-2 Inv-loop2 μ-loop2 Inv-loop3 μ-loop3 Inv-loop4 μ-loop4 Inv-loop5 μ-loop5 Inv-loop μ-loop Inv-loop7 μ-loop7 Inv-loop6 μ-loop6
-element-copy-out-is-zero-canister-2 c = search needs
-
-is-zero-canister-requires-2 : tie.Need-is-zero-canister-requires-2 Inv-loop2 μ-loop2 Inv-loop3 μ-loop3 Inv-loop4 μ-loop4 Inv-loop5 μ-loop5 Inv-loop μ-loop Inv-loop7 μ-loop7 Inv-loop6 μ-loop6
-is-zero-canister-requires-2 c κs = search needs
-
-add-r : tie.Need-add-r Inv-loop2 μ-loop2 Inv-loop3 μ-loop3 Inv-loop4 μ-loop4 Inv-loop5 μ-loop5 Inv-loop μ-loop Inv-loop7 μ-loop7 Inv-loop6 μ-loop6
-add-r c = search needs
-
-loop4-less : tie.Need-loop4-less Inv-loop2 μ-loop2 Inv-loop3 μ-loop3 Inv-loop4 μ-loop4 Inv-loop5 μ-loop5 Inv-loop μ-loop Inv-loop7 μ-loop7 Inv-loop6 μ-loop6
-loop4-less c = search needs
-
-loop4-again : tie.Need-loop4-again Inv-loop2 μ-loop2 Inv-loop3 μ-loop3 Inv-loop4 μ-loop4 Inv-loop5 μ-loop5 Inv-loop μ-loop Inv-loop7 μ-loop7 Inv-loop6 μ-loop6
+loop4-again : tie.Need-loop4-again Inv-loop2 μ-loop2 Inv-loop μ-loop Inv-loop4 μ-loop4 Inv-loop5 μ-loop5 Inv-loop6 μ-loop6 Inv-loop3 μ-loop3
 loop4-again c =
     let z = c .before .before .before in
-    let o = at-rest z in
-    rest-turn (floor o) (sized o .1) (o .loop .t) _ (z .loop4 .r) (omega arith) (z .loop4 .inv) (c .is-zero-canister2 .ensures)
+    let o = at-members z in
+    let f = floor (scanned o .before) in
+    let l = z .loop4 in (
+      members-turn f (sized (scanned o .before) .1) (o .loop3 .u) _ (l .m) (omega arith) (l .inv .0) (c .member-ok .ensures),
+      record { keys-length = simp length-set (l .inv .1 .keys-length); keyed = keyed-turn f (o .loop3 .u) (l .m) (l .keys) (omega arith) (l .inv .1 .keyed) },
+    )
 
-loop5-holds : tie.Need-loop5-holds Inv-loop2 μ-loop2 Inv-loop3 μ-loop3 Inv-loop4 μ-loop4 Inv-loop5 μ-loop5 Inv-loop μ-loop Inv-loop7 μ-loop7 Inv-loop6 μ-loop6
-loop5-holds c = record { below = omega arith; items-length = refl; copied = λ i h. absurd (omega arith) }
+loop5-holds : tie.Need-loop5-holds Inv-loop2 μ-loop2 Inv-loop μ-loop Inv-loop4 μ-loop4 Inv-loop5 μ-loop5 Inv-loop6 μ-loop6 Inv-loop3 μ-loop3
+loop5-holds c =
+    let z = c .before in
+    let o = at-members z in
+    rest-start (floor (scanned o .before)) (sized (scanned o .before) .1) (o .loop3 .u) _ (z .loop4 .m) (c .loop4-test .left) (z .loop4 .inv .0)
 
-mul-items : tie.Need-mul-items Inv-loop2 μ-loop2 Inv-loop3 μ-loop3 Inv-loop4 μ-loop4 Inv-loop5 μ-loop5 Inv-loop μ-loop Inv-loop7 μ-loop7 Inv-loop6 μ-loop6
-mul-items c = search needs
-
-add-items : tie.Need-add-items Inv-loop2 μ-loop2 Inv-loop3 μ-loop3 Inv-loop4 μ-loop4 Inv-loop5 μ-loop5 Inv-loop μ-loop Inv-loop7 μ-loop7 Inv-loop6 μ-loop6
-add-items c = search needs
-
-mul-items-2 : tie.Need-mul-items-2 Inv-loop2 μ-loop2 Inv-loop3 μ-loop3 Inv-loop4 μ-loop4 Inv-loop5 μ-loop5 Inv-loop μ-loop Inv-loop7 μ-loop7 Inv-loop6 μ-loop6
-mul-items-2 c = search needs
-
-element-copy-out-items : tie.Need-element-copy-out-items Inv-loop2 μ-loop2 Inv-loop3 μ-loop3 Inv-loop4 μ-loop4 Inv-loop5 μ-loop5 Inv-loop μ-loop Inv-loop7 μ-loop7 Inv-loop6 μ-loop6
-element-copy-out-items c = search needs
-
-mul-items-3 : tie.Need-mul-items-3 Inv-loop2 μ-loop2 Inv-loop3 μ-loop3 Inv-loop4 μ-loop4 Inv-loop5 μ-loop5 Inv-loop μ-loop Inv-loop7 μ-loop7 Inv-loop6 μ-loop6
-mul-items-3 c = search needs
-
-array-set-from-items : tie.Need-array-set-from-items Inv-loop2 μ-loop2 Inv-loop3 μ-loop3 Inv-loop4 μ-loop4 Inv-loop5 μ-loop5 Inv-loop μ-loop Inv-loop7 μ-loop7 Inv-loop6 μ-loop6
-array-set-from-items c = search needs
-
-add-i : tie.Need-add-i Inv-loop2 μ-loop2 Inv-loop3 μ-loop3 Inv-loop4 μ-loop4 Inv-loop5 μ-loop5 Inv-loop μ-loop Inv-loop7 μ-loop7 Inv-loop6 μ-loop6
-add-i c = search needs
-
-loop5-less : tie.Need-loop5-less Inv-loop2 μ-loop2 Inv-loop3 μ-loop3 Inv-loop4 μ-loop4 Inv-loop5 μ-loop5 Inv-loop μ-loop Inv-loop7 μ-loop7 Inv-loop6 μ-loop6
-loop5-less c = search needs
-
-loop5-again : tie.Need-loop5-again Inv-loop2 μ-loop2 Inv-loop3 μ-loop3 Inv-loop4 μ-loop4 Inv-loop5 μ-loop5 Inv-loop μ-loop Inv-loop7 μ-loop7 Inv-loop6 μ-loop6
+loop5-again : tie.Need-loop5-again Inv-loop2 μ-loop2 Inv-loop μ-loop Inv-loop4 μ-loop4 Inv-loop5 μ-loop5 Inv-loop6 μ-loop6 Inv-loop3 μ-loop3
 loop5-again c =
+    let z = c .before .before .before in
+    let o = at-rest z in
+    rest-turn (floor (scanned o .before)) (sized (scanned o .before) .1) (o .loop3 .u) _ (z .loop5 .r) (omega arith) (z .loop5 .inv) (c .is-zero-canister2 .ensures)
+
+loop6-holds : tie.Need-loop6-holds Inv-loop2 μ-loop2 Inv-loop μ-loop Inv-loop4 μ-loop4 Inv-loop5 μ-loop5 Inv-loop6 μ-loop6 Inv-loop3 μ-loop3
+loop6-holds c = record { below = omega arith; items-length = refl; copied = λ i h. absurd (omega arith) }
+
+loop6-again : tie.Need-loop6-again Inv-loop2 μ-loop2 Inv-loop μ-loop Inv-loop4 μ-loop4 Inv-loop5 μ-loop5 Inv-loop6 μ-loop6 Inv-loop3 μ-loop3
+loop6-again c =
     let z = c .before .before in
     let o = at-rest (z .before .before .before) in
-    let cs = floor o .canisters in
-    let l = z .loop5 in
+    let cs = floor (scanned o .before) .canisters in
+    let l = z .loop6 in
     record {
       below = omega arith;
       items-length = simp length-set (l .inv .items-length);
-      copied = upto-turn (l .i) (λ j. getD cs (16 * o .loop .t + j) zeroCanister) zeroCanister (l .items) (getD cs (16 * o .loop .t + l .i) zeroCanister) (omega arith) (l .inv .copied) refl;
+      copied = upto-turn (l .i) (λ j. getD cs (16 * o .loop3 .u + j) zeroCanister) zeroCanister (l .items) (getD cs (16 * o .loop3 .u + l .i) zeroCanister) (omega arith) (l .inv .copied) refl;
     }
 
-pairs-ok-requires : tie.Need-pairs-ok-requires Inv-loop2 μ-loop2 Inv-loop3 μ-loop3 Inv-loop4 μ-loop4 Inv-loop5 μ-loop5 Inv-loop μ-loop Inv-loop7 μ-loop7 Inv-loop6 μ-loop6
-pairs-ok-requires c κs = let v = c .before .before .before .before .loop4 .inv in omega (arith, v .behind, v .below)
+pairs-ok-requires : tie.Need-pairs-ok-requires Inv-loop2 μ-loop2 Inv-loop μ-loop Inv-loop4 μ-loop4 Inv-loop5 μ-loop5 Inv-loop6 μ-loop6 Inv-loop3 μ-loop3
+pairs-ok-requires c κs = let v = c .before .before .before .before .loop5 .inv in omega (arith, v .behind, v .below)
 
-returns-2 : tie.Need-returns-2 Inv-loop2 μ-loop2 Inv-loop3 μ-loop3 Inv-loop4 μ-loop4 Inv-loop5 μ-loop5 Inv-loop μ-loop Inv-loop7 μ-loop7 Inv-loop6 μ-loop6
-returns-2 c =
-    let o = at-tile (c .before .before .before) in
-    let s = sized o in
-    well-unlike (floor o) (s .0) (s .1) (start o .pre) (o .loop .t) (omega arith) (sym (tested (c .before)) ∙ not-true _ (c .if4 .taken))
-
-add-t : tie.Need-add-t Inv-loop2 μ-loop2 Inv-loop3 μ-loop3 Inv-loop4 μ-loop4 Inv-loop5 μ-loop5 Inv-loop μ-loop Inv-loop7 μ-loop7 Inv-loop6 μ-loop6
-add-t c = search needs
-
-loop-less : tie.Need-loop-less Inv-loop2 μ-loop2 Inv-loop3 μ-loop3 Inv-loop4 μ-loop4 Inv-loop5 μ-loop5 Inv-loop μ-loop Inv-loop7 μ-loop7 Inv-loop6 μ-loop6
-loop-less c = search needs
-
-loop-again : tie.Need-loop-again Inv-loop2 μ-loop2 Inv-loop3 μ-loop3 Inv-loop4 μ-loop4 Inv-loop5 μ-loop5 Inv-loop μ-loop Inv-loop7 μ-loop7 Inv-loop6 μ-loop6
-loop-again c =
-    let o = at-tile (c .before .before .before) in
-    record { below = omega arith; tested = below-step (testOf (floor o)) (o .loop .t) (o .loop .inv .tested) (sym (not-false _ (c .if4 .left)) ∙ tested (c .before)) }
-
-count-all-requires : tie.Need-count-all-requires Inv-loop2 μ-loop2 Inv-loop3 μ-loop3 Inv-loop4 μ-loop4 Inv-loop5 μ-loop5 Inv-loop μ-loop Inv-loop7 μ-loop7 Inv-loop6 μ-loop6
-count-all-requires c κs = search needs
-
-counters-ok-requires : tie.Need-counters-ok-requires Inv-loop2 μ-loop2 Inv-loop3 μ-loop3 Inv-loop4 μ-loop4 Inv-loop5 μ-loop5 Inv-loop μ-loop Inv-loop7 μ-loop7 Inv-loop6 μ-loop6
-counters-ok-requires c κs = search needs
-
-returns-3 : tie.Need-returns-3 Inv-loop2 μ-loop2 Inv-loop3 μ-loop3 Inv-loop4 μ-loop4 Inv-loop5 μ-loop5 Inv-loop μ-loop Inv-loop7 μ-loop7 Inv-loop6 μ-loop6
+returns-3 : tie.Need-returns-3 Inv-loop2 μ-loop2 Inv-loop μ-loop Inv-loop4 μ-loop4 Inv-loop5 μ-loop5 Inv-loop6 μ-loop6 Inv-loop3 μ-loop3
 returns-3 c =
-    let n = c .before .before in
-    let over = n .before .before in
-    let o = over .before in
-    let s = sized o in
-    let none : counted (floor o .tiles) 64 ≡ 0 = sym (n .count-all .ensures) ∙ c .if5 .taken in
-    rw (c .before .counters-ok .ensures, n .count-all .ensures) (well-empty (floor o) (s .0) (s .1) (start o .pre) (all-tested over) none)
+    let o = at-rest (c .before .before .before) in
+    let r = scanned o .before in
+    let s = sized r in
+    well-unlike (floor r) (s .0) (s .1) (start r .pre) (o .loop3 .u) (omega arith) (sym (tested (c .before)) ∙ not-true _ (c .if6 .taken))
 
-loop6-holds : tie.Need-loop6-holds Inv-loop2 μ-loop2 Inv-loop3 μ-loop3 Inv-loop4 μ-loop4 Inv-loop5 μ-loop5 Inv-loop μ-loop Inv-loop7 μ-loop7 Inv-loop6 μ-loop6
-loop6-holds c = let n = c .before .before in record { below = omega arith; keys-length = refl; keyed = keyed-start (floor (n .before .before .before)) }
+loop3-again : tie.Need-loop3-again Inv-loop2 μ-loop2 Inv-loop μ-loop Inv-loop4 μ-loop4 Inv-loop5 μ-loop5 Inv-loop6 μ-loop6 Inv-loop3 μ-loop3
+loop3-again c =
+    let b = c .before in
+    let o = at-used b in
+    let r = scanned o .before in
+    let f = floor r in
+    let x = o .loop3 in
+    let on : x .u < 64 = omega arith in
+    let lc = sized r .1 in
+    ⊎-elim
+    (λ w.
+    let j : tie.Joined5 Inv-loop2 μ-loop2 Inv-loop μ-loop Inv-loop4 μ-loop4 Inv-loop5 μ-loop5 Inv-loop6 μ-loop6 Inv-loop3 μ-loop3 = record {
+      before = record { before = record { before = record { before = record { before = record { before = b; if4 = w .0 }; loop4 = w .1 }; loop4-test = w .2 }; loop5 = w .3 }; loop5-test = w .4 };
+      if5 = w .5;
+    } in
+    let good : testOf f (x .u) ≡ true = sym (tested j) ∙ not-false _ (w .6 .left) in
+    let v = w .1 .inv in
+    record {
+      below = omega arith;
+      keys-length = ap length (w .7) ∙ v .1 .keys-length;
+      keyed = subst (λ (l : List ℕ). Keyed f (16 * (x .u + 1)) l) (sym (w .7)) (keyed-rest f lc (x .u) (w .1 .m) (w .1 .keys) on (test-fit f (x .u) good) (omega (arith, v .0 .counted, w .2 .left)) (v .1 .keyed) (omega (arith, v .0 .below, v .0 .few)));
+      tested = below-step (testOf f) (x .u) (x .inv .tested) (sym good);
+    })
+    (λ w.
+    let none = w .0 .left in
+    let good : testOf f (x .u) ≡ true = first-tested f (x .u) (first-here o (x .u) on) (omega (arith, none)) in
+    record {
+      below = omega arith;
+      keys-length = ap length (w .1) ∙ x .inv .keys-length;
+      keyed = subst (λ (l : List ℕ). Keyed f (16 * (x .u + 1)) l) (sym (w .1)) (keyed-rest f lc (x .u) 0 (x .keys) on (test-fit f (x .u) good) (omega (arith, none)) (keyed-first f (x .u) (x .keys) (x .inv .keyed)) (omega arith));
+      tested = below-step (testOf f) (x .u) (x .inv .tested) (sym good);
+    })
+    (c .if4 .came)
 
-mul-h-2 : tie.Need-mul-h-2 Inv-loop2 μ-loop2 Inv-loop3 μ-loop3 Inv-loop4 μ-loop4 Inv-loop5 μ-loop5 Inv-loop μ-loop Inv-loop7 μ-loop7 Inv-loop6 μ-loop6
-mul-h-2 c = search needs
+all-tested : (c : tie.After-loop3 Inv-loop2 μ-loop2 Inv-loop μ-loop Inv-loop4 μ-loop4 Inv-loop5 μ-loop5 Inv-loop6 μ-loop6 Inv-loop3 μ-loop3) → allBelow (testOf (floor (scanned (c .before) .before))) 64 ≡ true
+all-tested c =
+    let x = c .before .loop3 .inv in
+    sym (ended (allBelow (testOf (floor (scanned (c .before) .before)))) (c .loop3-test .left) (x .below) (x .tested))
 
-element-copy-out-h-2 : tie.Need-element-copy-out-h-2 Inv-loop2 μ-loop2 Inv-loop3 μ-loop3 Inv-loop4 μ-loop4 Inv-loop5 μ-loop5 Inv-loop μ-loop Inv-loop7 μ-loop7 Inv-loop6 μ-loop6
-element-copy-out-h-2 c = search needs
+all-keys : (c : tie.After-loop3 Inv-loop2 μ-loop2 Inv-loop μ-loop Inv-loop4 μ-loop4 Inv-loop5 μ-loop5 Inv-loop6 μ-loop6 Inv-loop3 μ-loop3) → c .before .loop3 .keys ≡ numbers (floor (scanned (c .before) .before) .canisters)
+all-keys c =
+    let o = scanned (c .before) .before in
+    let x = c .before .loop3 in
+    keyed-end (floor o) (sized o .1) (x .u) (x .keys) (omega (arith, c .loop3-test .left, x .inv .below)) (x .inv .keys-length) (x .inv .keyed)
 
-loop7-holds : tie.Need-loop7-holds Inv-loop2 μ-loop2 Inv-loop3 μ-loop3 Inv-loop4 μ-loop4 Inv-loop5 μ-loop5 Inv-loop μ-loop Inv-loop7 μ-loop7 Inv-loop6 μ-loop6
-loop7-holds c =
-    let p = c .before .before .before in
-    let f = floor (scanned (p .before) .before) in
-    let x = p .before .loop6 in
-    record { below = omega arith; keys-length = x .inv .keys-length; keyed = keyed-first f (x .u) (x .keys) (x .inv .keyed) }
+numbers-differ-requires : tie.Need-numbers-differ-requires Inv-loop2 μ-loop2 Inv-loop μ-loop Inv-loop4 μ-loop4 Inv-loop5 μ-loop5 Inv-loop6 μ-loop6 Inv-loop3 μ-loop3
+numbers-differ-requires c κs = subst (λ (l : List ℕ). Runs l) (sym (all-keys c)) (keys-run (floor (scanned (c .before) .before)) (all-tested c) (sized (scanned (c .before) .before) .1))
 
-mul-c : tie.Need-mul-c Inv-loop2 μ-loop2 Inv-loop3 μ-loop3 Inv-loop4 μ-loop4 Inv-loop5 μ-loop5 Inv-loop μ-loop Inv-loop7 μ-loop7 Inv-loop6 μ-loop6
-mul-c c = search needs
-
-add-c : tie.Need-add-c Inv-loop2 μ-loop2 Inv-loop3 μ-loop3 Inv-loop4 μ-loop4 Inv-loop5 μ-loop5 Inv-loop μ-loop Inv-loop7 μ-loop7 Inv-loop6 μ-loop6
-add-c c = search needs
-
-mul-c-2 : tie.Need-mul-c-2 Inv-loop2 μ-loop2 Inv-loop3 μ-loop3 Inv-loop4 μ-loop4 Inv-loop5 μ-loop5 Inv-loop μ-loop Inv-loop7 μ-loop7 Inv-loop6 μ-loop6
-mul-c-2 c = search needs
-
-element-copy-out-c : tie.Need-element-copy-out-c Inv-loop2 μ-loop2 Inv-loop3 μ-loop3 Inv-loop4 μ-loop4 Inv-loop5 μ-loop5 Inv-loop μ-loop Inv-loop7 μ-loop7 Inv-loop6 μ-loop6
-element-copy-out-c c = search needs
-
-mul-keys : tie.Need-mul-keys Inv-loop2 μ-loop2 Inv-loop3 μ-loop3 Inv-loop4 μ-loop4 Inv-loop5 μ-loop5 Inv-loop μ-loop Inv-loop7 μ-loop7 Inv-loop6 μ-loop6
-mul-keys c = search needs
-
-add-keys : tie.Need-add-keys Inv-loop2 μ-loop2 Inv-loop3 μ-loop3 Inv-loop4 μ-loop4 Inv-loop5 μ-loop5 Inv-loop μ-loop Inv-loop7 μ-loop7 Inv-loop6 μ-loop6
-add-keys c = search needs
-
-mul-keys-2 : tie.Need-mul-keys-2 Inv-loop2 μ-loop2 Inv-loop3 μ-loop3 Inv-loop4 μ-loop4 Inv-loop5 μ-loop5 Inv-loop μ-loop Inv-loop7 μ-loop7 Inv-loop6 μ-loop6
-mul-keys-2 c = search needs
-
-array-write-keys : tie.Need-array-write-keys Inv-loop2 μ-loop2 Inv-loop3 μ-loop3 Inv-loop4 μ-loop4 Inv-loop5 μ-loop5 Inv-loop μ-loop Inv-loop7 μ-loop7 Inv-loop6 μ-loop6
-array-write-keys c = search needs
-
-add-j : tie.Need-add-j Inv-loop2 μ-loop2 Inv-loop3 μ-loop3 Inv-loop4 μ-loop4 Inv-loop5 μ-loop5 Inv-loop μ-loop Inv-loop7 μ-loop7 Inv-loop6 μ-loop6
-add-j c = search needs
-
-loop7-less : tie.Need-loop7-less Inv-loop2 μ-loop2 Inv-loop3 μ-loop3 Inv-loop4 μ-loop4 Inv-loop5 μ-loop5 Inv-loop μ-loop Inv-loop7 μ-loop7 Inv-loop6 μ-loop6
-loop7-less c = search needs
-
-loop7-again : tie.Need-loop7-again Inv-loop2 μ-loop2 Inv-loop3 μ-loop3 Inv-loop4 μ-loop4 Inv-loop5 μ-loop5 Inv-loop μ-loop Inv-loop7 μ-loop7 Inv-loop6 μ-loop6
-loop7-again c =
-    let z = c .before .before in
-    let p = z .before .before .before in
-    let a = p .before .before in
-    let l = z .loop7 in
-    record { below = omega arith; keys-length = simp length-set (l .inv .keys-length); keyed = keyed-turn (floor (scanned a .before)) (a .loop6 .u) (l .j) (l .keys) (omega arith) (l .inv .keyed) }
-
-add-u : tie.Need-add-u Inv-loop2 μ-loop2 Inv-loop3 μ-loop3 Inv-loop4 μ-loop4 Inv-loop5 μ-loop5 Inv-loop μ-loop Inv-loop7 μ-loop7 Inv-loop6 μ-loop6
-add-u c = search needs
-
-loop6-less : tie.Need-loop6-less Inv-loop2 μ-loop2 Inv-loop3 μ-loop3 Inv-loop4 μ-loop4 Inv-loop5 μ-loop5 Inv-loop μ-loop Inv-loop7 μ-loop7 Inv-loop6 μ-loop6
-loop6-less c = search needs
-
-loop6-again : tie.Need-loop6-again Inv-loop2 μ-loop2 Inv-loop3 μ-loop3 Inv-loop4 μ-loop4 Inv-loop5 μ-loop5 Inv-loop μ-loop Inv-loop7 μ-loop7 Inv-loop6 μ-loop6
-loop6-again c =
-    let p = c .before .before .before in
-    let over = scanned (p .before) in
-    let f = floor (over .before) in
-    let x = p .before .loop6 in
-    let on : x .u < 64 = p .loop6-test .taken in
-    let j = c .if6 in
-    let len : length (j .keys) ≡ 1024 = ⊎-elim (λ w. ap length (w .3) ∙ w .1 .inv .keys-length) (λ w. ap length (w .1) ∙ x .inv .keys-length) (j .came) in
-    let keyed : Keyed f (16 * (x .u + 1)) (j .keys)
-    = ⊎-elim
-    (λ w. subst (λ (l : List ℕ). Keyed f (16 * (x .u + 1)) l) (sym (w .3)) (keyed-last f (x .u) (w .1 .j) (w .1 .keys) (omega (arith, w .1 .inv .below, w .2 .left)) (w .1 .inv .keyed)))
-    (λ w. subst (λ (l : List ℕ). Keyed f (16 * (x .u + 1)) l) (sym (w .1)) (keyed-empty f (sized (over .before) .1) (x .u) (x .keys) on (fit-each f (all-tested over) (x .u) on) (w .0 .left) (x .inv .keyed)))
-    (j .came) in
-    record { below = omega arith; keys-length = len; keyed = keyed }
-
-numbers-differ-requires : tie.Need-numbers-differ-requires Inv-loop2 μ-loop2 Inv-loop3 μ-loop3 Inv-loop4 μ-loop4 Inv-loop5 μ-loop5 Inv-loop μ-loop Inv-loop7 μ-loop7 Inv-loop6 μ-loop6
-numbers-differ-requires c κs =
-    let over = scanned (c .before) in
-    subst (λ (l : List ℕ). Runs l) (sym (all-keys c)) (keys-run (floor (over .before)) (all-tested over) (sized (over .before) .1))
-
-returns-4 : tie.Need-returns-4 Inv-loop2 μ-loop2 Inv-loop3 μ-loop3 Inv-loop4 μ-loop4 Inv-loop5 μ-loop5 Inv-loop μ-loop Inv-loop7 μ-loop7 Inv-loop6 μ-loop6
+returns-4 : tie.Need-returns-4 Inv-loop2 μ-loop2 Inv-loop μ-loop Inv-loop4 μ-loop4 Inv-loop5 μ-loop5 Inv-loop6 μ-loop6 Inv-loop3 μ-loop3
 returns-4 c =
-    let n = c .before .before .before in
-    let over = scanned (c .before .before) in
+    let l = c .before in
+    let over = scanned (l .before) in
     let o = over .before in
     let s = sized o in
-    rw (n .before .counters-ok .ensures, n .before .before .count-all .ensures, c .numbers-differ .ensures, all-keys (c .before))
-    (well-tiled (floor o) (s .0) (s .1) (start o .pre) (all-tested over))
+    let f = floor o in
+    let a = l .before .before .before .counters-ok .ensures ∙ ap (countersSound (length (hoppersOf (f .settings))) (f .counters)) (all-counted over) in
+    let d = c .numbers-differ .ensures ∙ ap differ (all-keys l) in
+    (λ i. a i && d i) ∙ well-tiled f (s .0) (s .1) (start o .pre) (all-tested l)
 
 pub scan-spec : {M : Type 1} → statement M
 scan-spec =
@@ -423,86 +313,77 @@ scan-spec =
     (tie.spec
     Inv-loop2
     μ-loop2
-    Inv-loop3
-    μ-loop3
+    Inv-loop
+    μ-loop
     Inv-loop4
     μ-loop4
     Inv-loop5
     μ-loop5
-    Inv-loop
-    μ-loop
-    Inv-loop7
-    μ-loop7
     Inv-loop6
     μ-loop6
+    Inv-loop3
+    μ-loop3
     loop-holds
-    mul-h
-    element-copy-out-h
+    (λ c. search needs)  -- mul-h
+    (λ c. search needs)  -- element-copy-out-h
     head-test-requires
     loop2-holds
-    mul-is-zero-canister
-    add-is-zero-canister
-    mul-is-zero-canister-2
-    element-copy-out-is-zero-canister
-    is-zero-canister-requires
-    add-k
-    loop2-less
+    (λ c. search needs)  -- mul-is-zero-canister
+    (λ c. search needs)  -- add-is-zero-canister
+    (λ c. search needs)  -- mul-is-zero-canister-2
+    (λ c. search needs)  -- element-copy-out-is-zero-canister
+    (λ c κs. search needs)  -- is-zero-canister-requires
+    (λ c. search needs)  -- add-k
+    (λ c. search needs)  -- loop2-less
     loop2-again
     returns
-    cast-n
+    (λ c. search needs)  -- cast-n
+    (λ c. search needs)  -- add-n
+    (λ c. search needs)  -- add-t
+    (λ c. search needs)  -- loop-less
+    loop-again
+    counters-ok-requires
+    returns-2
     loop3-holds
-    mul-member-ok
-    add-member-ok
-    mul-member-ok-2
-    element-copy-out-member-ok
-    member-ok-requires
-    add-m
-    loop3-less
-    loop3-again
+    (λ c. search needs)  -- mul-g
+    (λ c. search needs)  -- element-copy-out-g
+    (λ c. search needs)  -- cast-held
     loop4-holds
-    mul-is-zero-canister-3
-    add-is-zero-canister-2
-    mul-is-zero-canister-4
-    element-copy-out-is-zero-canister-2
-    is-zero-canister-requires-2
-    add-r
-    loop4-less
+    (λ c. search needs)  -- mul-c
+    (λ c. search needs)  -- add-c
+    (λ c. search needs)  -- mul-c-2
+    (λ c. search needs)  -- element-copy-out-c
+    member-ok-requires
+    (λ c. search needs)  -- mul-keys
+    (λ c. search needs)  -- add-keys
+    (λ c. search needs)  -- mul-keys-2
+    (λ c. search needs)  -- array-write-keys
+    (λ c. search needs)  -- add-m
+    (λ c. search needs)  -- loop4-less
     loop4-again
     loop5-holds
-    mul-items
-    add-items
-    mul-items-2
-    element-copy-out-items
-    mul-items-3
-    array-set-from-items
-    add-i
-    loop5-less
+    (λ c. search needs)  -- mul-is-zero-canister-3
+    (λ c. search needs)  -- add-is-zero-canister-2
+    (λ c. search needs)  -- mul-is-zero-canister-4
+    (λ c. search needs)  -- element-copy-out-is-zero-canister-2
+    (λ c κs. search needs)  -- is-zero-canister-requires-2
+    (λ c. search needs)  -- add-r
+    (λ c. search needs)  -- loop5-less
     loop5-again
-    pairs-ok-requires
-    returns-2
-    add-t
-    loop-less
-    loop-again
-    count-all-requires
-    counters-ok-requires
-    returns-3
     loop6-holds
-    mul-h-2
-    element-copy-out-h-2
-    loop7-holds
-    mul-c
-    add-c
-    mul-c-2
-    element-copy-out-c
-    mul-keys
-    add-keys
-    mul-keys-2
-    array-write-keys
-    add-j
-    loop7-less
-    loop7-again
-    add-u
-    loop6-less
+    (λ c. search needs)  -- mul-items
+    (λ c. search needs)  -- add-items
+    (λ c. search needs)  -- mul-items-2
+    (λ c. search needs)  -- element-copy-out-items
+    (λ c. search needs)  -- mul-items-3
+    (λ c. search needs)  -- array-set-from-items
+    (λ c. search needs)  -- add-i
+    (λ c. search needs)  -- loop6-less
     loop6-again
+    pairs-ok-requires
+    returns-3
+    (λ c. search needs)  -- add-u
+    (λ c. search needs)  -- loop3-less
+    loop3-again
     numbers-differ-requires
     returns-4)
