@@ -49,10 +49,6 @@ module _ (s : Settings) (t : ℕ) (h : Tile) (all : ℕ) (e : all ≡ total s) (
 pub head-in : (s : Settings) (t all : ℕ) → all ≡ total s → t < all → t < total s
 head-in s t all e on = omega arith
 
-pub places-many : (s : Settings) (last n : ℕ) (l : List Canister) → 16 < n → false ≡ placesTest s last n l
-unfolding placesTest
-places-many s last n l h = rw (lt-leb n 16 h)
-
 pub places-few : (s : Settings) (last n : ℕ) (l : List Canister) (free each pairs : Bool) → n ≤ 16
     → free ≡ allOf isZeroCanister (drop n l) → each ≡ allOf (memberSound s last) (take n l) → pairs ≡ pairsOf (inOrder s) (take n l) → (free && (each && pairs)) ≡ placesTest s last n l
 unfolding placesTest usedSound

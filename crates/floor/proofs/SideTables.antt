@@ -48,10 +48,10 @@ unfolding found
 next-on k x hk hx n e = rw (ne-eqb x 0 n, ne-eqb (beyond k x) 0 e) at (right-at k x hk hx)
 
 -- ---- whether a side is in a set
-same : Bool → Bool → Bool
+unfoldable pub same : Bool → Bool → Bool
 same a b = cond a b (not b)
 
-same-true : (a b : Bool) → same a b ≡ true → a ≡ b
+pub same-true : (a b : Bool) → same a b ≡ true → a ≡ b
 unfolding same
 same-true true b h = sym h
 same-true false true h = h

@@ -1,7 +1,9 @@
 // The memory of a floor, the answers of the calls, and the sides of a tile.
 
 ghost use mathlib.Core.Path.{_≡_};
-ghost use Prim.Native.Nat.{_≤_, _<_};
+ghost use Prim.Native.Nat.{ℕ, _+_, _%_, _≤_, _<_};
+ghost use lib.Dec.{eqb};
+ghost use Rattle.laws.specs.Define.{bit};
 ghost use Rattle.floor.specs.Settings.{total};
 ghost use Rattle.floor.specs.Settings as T;
 ghost use Rattle.floor.specs.Sides as S;
@@ -11,6 +13,8 @@ ghost use Rattle.floor.specs.Memory.{zeroFloor};
 
 pub mod reason;
 pub mod refusals;
+
+use sets::has;
 
 // A canister: its number, never 0, and its place, the south-west corner measured from the tile's.
 #[repr(C)]
@@ -37,6 +41,40 @@ pub const SOUTH: u8 = 2;
 pub const NORTH: u8 = 3;
 
 pub const EAST: u8 = 4;
+
+// The tiles of row 0 where a column has this many rows, as a set: no division for each tile.
+fn first_row(rows: u8) -> u64
+    requires { ⌜ (1 ≤ rows) × (rows ≤ 8) ⌝ }
+    ensures { λ r. ⌜ ((t : ℕ) → t < 64 → bit r t ≡ eqb (t % rows) 0) ⌝ }
+{
+    match rows {
+        1 => 0xffffffffffffffff,
+        2 => 0x5555555555555555,
+        3 => 0x9249249249249249,
+        4 => 0x1111111111111111,
+        5 => 0x1084210842108421,
+        6 => 0x1041041041041041,
+        7 => 0x8102040810204081,
+        _ => 0x0101010101010101,
+    }
+}
+
+// The tiles of the last row, likewise.
+fn last_row(rows: u8) -> u64
+    requires { ⌜ (1 ≤ rows) × (rows ≤ 8) ⌝ }
+    ensures { λ r. ⌜ ((t : ℕ) → t < 64 → bit r t ≡ eqb (t % rows + 1) rows) ⌝ }
+{
+    match rows {
+        1 => 0xffffffffffffffff,
+        2 => 0xaaaaaaaaaaaaaaaa,
+        3 => 0x4924924924924924,
+        4 => 0x8888888888888888,
+        5 => 0x0842108421084210,
+        6 => 0x0820820820820820,
+        7 => 0x4081020408102040,
+        _ => 0x8080808080808080,
+    }
+}
 
 // A side of a tile, by document 01's number.
 #[repr(C)]
@@ -105,8 +143,16 @@ impl Side {
         let k = self.code;
         match k {
             WEST => if rows <= t { t - rows } else { all },
-            SOUTH => if 0 < t % rows { t - 1 } else { all },
-            NORTH => if t % rows + 1 < rows { t + 1 } else { all },
+            SOUTH => if has(first_row(s.rows), t as u8) {
+                all
+            } else {
+                t - 1
+            },
+            NORTH => if has(last_row(s.rows), t as u8) {
+                all
+            } else {
+                t + 1
+            },
             EAST => if t + rows < all { t + rows } else { all },
             _ => all,
         }

@@ -1,86 +1,76 @@
-use native.Mathlib.Nat.{mod-le}
 use native.Mathlib.Omega.{arith}
-use Rattle.floor.proofs.GridBranches.{some-rest, west-in, west-out, south-in, south-out, north-in, north-out, east-in, east-out, no-side}
+use Rattle.floor.proofs.GridBranches.{first-in, first-out, last-in, last-out, some-rest, west-in, west-out, south-in, south-out, north-in, north-out, east-in, east-out, no-side}
 use borrow.Author.Needs.{needs}
 use Rattle.floor.proofs.Side.neighbour.Statement.{statement}
 use Rattle.floor.proofs.Side.neighbour.Tie as tie
-use Rattle.floor.proofs.Side.neighbour.Reads as reads
-use Rattle.floor.proofs.Side.neighbour.Lts as lts
-use Rattle.floor.proofs.Settings.tile_count.Reads as tile-count-reads
-
-cast-rows : tie.Need-cast-rows
-cast-rows c = search needs
-
-tile-count-requires : tie.Need-tile-count-requires
-tile-count-requires c κs = tt
-
-rem-if2 : tie.Need-rem-if2
-rem-if2 c = search needs
 
 sub-result : tie.Need-sub-result
-sub-result c = search (some-rest, needs)
-
-rem-if3 : tie.Need-rem-if3
-rem-if3 c = search needs
-
-add-if3 : tie.Need-add-if3
-add-if3 c = omega (arith, mod-le (c .before .before .before .args .t) (c .before .before .before .args .s .rows))
-
-add-result : tie.Need-add-result
-add-result c = search needs
-
-add-if4 : tie.Need-add-if4
-add-if4 c = search needs
-
-add-result-2 : tie.Need-add-result-2
-add-result-2 c = search needs
-
-returns : tie.Need-returns
-returns c = search (west-in, needs)
-
-returns-2 : tie.Need-returns-2
-returns-2 c = search (west-out, needs)
+sub-result c =
+    let h = c .before in
+    let m = h .before in
+    let p = m .before .before .before in
+    let g = p .before .args in
+    let e = first-out (m .first-row .result) g.t (g.s .rows) (omega (arith, p .before .pre)) (h .has .ensures) (m .first-row .ensures) (c .if2 .left) in
+    omega (arith, some-rest g.t (g.s .rows) e)
 
 returns-3 : tie.Need-returns-3
-returns-3 c = search (south-in, needs)
+returns-3 c =
+    let h = c .before in
+    let m = h .before in
+    let p = m .before .before .before in
+    let g = p .before .args in
+    let e = first-in (m .first-row .result) g.t (g.s .rows) (omega (arith, p .before .pre)) (h .has .ensures) (m .first-row .ensures) (c .if2 .taken) in
+    search (south-out, needs)
 
 returns-4 : tie.Need-returns-4
-returns-4 c = search (south-out, needs)
+returns-4 c =
+    let h = c .before in
+    let m = h .before in
+    let p = m .before .before .before in
+    let g = p .before .args in
+    let e = first-out (m .first-row .result) g.t (g.s .rows) (omega (arith, p .before .pre)) (h .has .ensures) (m .first-row .ensures) (c .if2 .left) in
+    search (south-in, needs)
 
 returns-5 : tie.Need-returns-5
-returns-5 c = search (north-in, needs)
+returns-5 c =
+    let h = c .before in
+    let m = h .before in
+    let p = m .before .before .before in
+    let g = p .before .args in
+    let e = last-in (m .last-row .result) g.t (g.s .rows) (omega (arith, p .before .pre)) (h .has2 .ensures) (m .last-row .ensures) (c .if3 .taken) in
+    search (north-out, needs)
 
 returns-6 : tie.Need-returns-6
-returns-6 c = search (north-out, needs)
-
-returns-7 : tie.Need-returns-7
-returns-7 c = search (east-in, needs)
-
-returns-8 : tie.Need-returns-8
-returns-8 c = search (east-out, needs)
-
-returns-9 : tie.Need-returns-9
-returns-9 c = search (no-side, needs)
+returns-6 c =
+    let h = c .before in
+    let m = h .before in
+    let p = m .before .before .before in
+    let g = p .before .args in
+    let e = last-out (m .last-row .result) g.t (g.s .rows) (omega (arith, p .before .pre)) (h .has2 .ensures) (m .last-row .ensures) (p .before .pre .0) (c .if3 .left) in
+    search (north-in, needs)
 
 pub neighbour-spec : {M : Type 1} → statement M
 neighbour-spec =
     tie.close
     (tie.spec
-    cast-rows
-    tile-count-requires
-    rem-if2
+    (λ c. search needs)  -- cast-rows
+    (λ c κs. tt)  -- tile-count-requires
+    (λ c κs. search needs)  -- first-row-requires
+    (λ c. search needs)  -- cast-has
+    (λ c κs. search needs)  -- has-requires
     sub-result
-    rem-if3
-    add-if3
-    add-result
-    add-if4
-    add-result-2
-    returns
-    returns-2
+    (λ c κs. search needs)  -- last-row-requires
+    (λ c. search needs)  -- cast-has-2
+    (λ c κs. search needs)  -- has-requires-2
+    (λ c. search needs)  -- add-result
+    (λ c. search needs)  -- add-if4
+    (λ c. search needs)  -- add-result-2
+    (λ c. search (west-in, needs))  -- returns
+    (λ c. search (west-out, needs))  -- returns-2
     returns-3
     returns-4
     returns-5
     returns-6
-    returns-7
-    returns-8
-    returns-9)
+    (λ c. search (east-in, needs))  -- returns-7
+    (λ c. search (east-out, needs))  -- returns-8
+    (λ c. search (no-side, needs)))  -- returns-9
