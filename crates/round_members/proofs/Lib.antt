@@ -1,3 +1,4 @@
+pub mod Carrying
 pub mod Crossing
 pub mod Inserting
 pub mod Loops
