@@ -20,7 +20,7 @@ use Rattle.floor.specs.Calls.{bookingTests, bookTests, withBooking, booked}
 use Rattle.floor.proofs.Pack.{pack-put, well-sound, well-fits, well-few, below-64, head-view, place-view}
 use Rattle.floor.proofs.Capacity.{sound-small}
 use Rattle.round_members.specs.Held.{Places, Holds}
-use Rattle.round_members.proofs.Inserting.{holds-list}
+use Rattle.round_members.proofs.Inserting.{shown-list}
 use Rattle.book_call.proofs.Tests.{book-same, book-on, book-room}
 use Rattle.book_call.proofs.Loops.{PlacesRead, PlacesPut}
 
@@ -59,7 +59,7 @@ module _ {f : Floor} {t : ℕ} {items : List Canister} (p : PlacesRead f t items
         (ap (λ (x : Tile). x .count) (own-head f t (p .well) on), λ i k. p .copied i k ∙ ap (λ (j : ℕ). getD (f .canisters) (16 * j + i) zeroCanister) (same-tile f t (p .well) on) ∙ place-view f t (p .well) on i k)
 
     pub own-list : own ≡ membersOf (view f) t
-    own-list = holds-list (record { count = read-head f t .count; items = items }) (membersOf (view f) t) (p .items-length) (few-view f t (p .well)) own-holds
+    own-list = shown-list items (membersOf (view f) t) (read-head f t .count) (p .items-length) (few-view f t (p .well)) own-holds
 
     own-places : Places own items
     own-places = rw own-list (own-holds .1)

@@ -109,7 +109,7 @@ pub fn hopper_intake(s: Settings, t: usize, come: Side, others: Members, came: T
     ensures { λ r. ⌜ (isHopper s t ≡ true → (r .found ≡ came .found + 1) × (r .deliveries ≡ set (came .deliveries) (came .found) (deliveryOf (numbers (leaving s (come .code) (listOf others)))))) × (isHopper s t ≡ false → r ≡ came) ⌝ }
 {
     if holds(s.hoppers, t) {
-        let more = delivery(sift(s, come, true, others));
+        let more = delivery(sift(s, come, others));
         return added(came, more);
     }
     came
