@@ -1,5 +1,5 @@
-// The calls on a floor; book, book_anywhere, book_list and, by value, book_places, and keep, forget and recall come from
-// crates of their own. Each takes any bytes, and its contract determines the whole answer on all of them.
+// The calls on a floor; book, book_anywhere, book_list and, by value, book_places, bound, and keep, forget and recall come
+// from crates of their own. Each takes any bytes, and its contract determines the whole answer on all of them.
 ghost use mathlib.Core.Path.{_≡_};
 ghost use Rattle.floor.specs.Calls.{freshAnswer, stopAnswer, repairAnswer, readAnswer, roundAnswer};
 ghost use Rattle.calls.specs.Refused.{unreadWith};
@@ -7,6 +7,7 @@ pub use book_anywhere::book_anywhere;
 pub use book_call::book;
 pub use book_list::book_list;
 pub use book_list::book_places;
+pub use bound_call::bound;
 use call_parts::fresh_floor;
 use call_parts::read_refusal;
 use call_parts::repair_refusal;

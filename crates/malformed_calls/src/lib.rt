@@ -1,5 +1,6 @@
-// Whether every call that takes a floor refuses one that isn't well formed: 30 and the same floor, zeros for a reading, the
-// same bytes for a writing and for a page; a list of bookings answers 30 in every entry; a release gives the plan back too.
+// Whether every call that takes a floor refuses one that isn't well formed: 30 and the same floor, zeros for a reading and
+// for a bound, the same bytes for a writing and for a page; a list of bookings answers 30 in every entry; a release gives
+// the plan back too.
 use floor::Booking;
 use floor::Canister;
 use floor::Delivery;
@@ -134,6 +135,12 @@ fn empty_reading(f: Floor) -> bool {
     let t = r.tile;
     let members = r.members;
     (r.refusal == 30) & same_tile(t, Tile::ZERO) & no_canisters(members)
+}
+
+// A bound: 30, and zeros.
+fn counts_nothing(f: Floor) -> bool {
+    let r = calls::bound(f);
+    (r.refusal == 30) & (r.rounds == 0) & (r.connected == 0) & (r.unconnected == 0)
 }
 
 // Whether every byte is still 7.
@@ -272,8 +279,8 @@ fn list_refuses(f: Floor, n: usize, refusal: u8, written: usize) -> bool {
     (made.refusal == refusal) & answered(list, written) & same_floor(after, f)
 }
 
-// Book with and without a place, lists of 5, 64 and 65 bookings, stop, repair, round, read, write, page, keep, forget,
-// recall and release.
+// Book with and without a place, lists of 5, 64 and 65 bookings, stop, repair, round, read, bound, write, page, keep,
+// forget, recall and release.
 pub fn all_refuse(f: Floor) -> bool {
     let book = floors::book(f, 1, 900, 0, 0);
     let stop = calls::stop(f, 1);
@@ -294,6 +301,7 @@ pub fn all_refuse(f: Floor) -> bool {
         & same_floor(d, f)
         & empty_report(report)
         & empty_reading(f)
+        & counts_nothing(f)
         & unwritten(f)
         & unprinted(f)
         & names_refuse(f)
