@@ -3,3 +3,4 @@ pub mod Cases
 pub mod CasesRound
 pub mod CasesHoppers
 pub mod Longest
+pub mod Greatest

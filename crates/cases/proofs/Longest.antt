@@ -52,7 +52,7 @@ longest =
 
 -- ---- rising numbers differ
 -- the first number is above n, each other one above the one before it
-unfoldable rises : ℕ → List ℕ → Bool
+unfoldable pub rises : ℕ → List ℕ → Bool
 rises n [] = true
 rises n (x ∷ l) = ltb n x && rises x l
 
@@ -63,7 +63,7 @@ rises-above n (x ∷ l) h =
     let p : n < x = ltb-true n x (and-left (ltb n x) (rises x l) h) in
     (p, all-imp (λ y. x < y) (λ y. n < y) l (λ y q. omega arith) (rises-above x l (and-right (ltb n x) (rises x l) h)))
 
-rises-differ : (n : ℕ) (l : List ℕ) → rises n l ≡ true → Pairs (λ x y. x ≢ y) l
+pub rises-differ : (n : ℕ) (l : List ℕ) → rises n l ≡ true → Pairs (λ x y. x ≢ y) l
 unfolding rises
 rises-differ n [] h = tt
 rises-differ n (x ∷ l) h =
