@@ -222,6 +222,14 @@ typedef struct ceromby_reading {
     ceromby_canister members[CEROMBY_PLACES];
 } ceromby_reading;
 
+/* What ceromby_bound answers. */
+typedef struct ceromby_bounded {
+    uint32_t rounds;      /* 1 to 3,810,176,559; where refused, 0 */
+    uint32_t connected;   /* K: canisters on tiles with a live path to a hopper */
+    uint32_t unconnected; /* canisters on all other tiles, stopped ones too */
+    uint8_t refusal;
+} ceromby_bounded;
+
 typedef struct ceromby_written {
     uint8_t refusal;
     uint32_t length; /* of the image or page, never 0; where refused, 0: don't store that many bytes, see ceromby_write */
@@ -356,6 +364,12 @@ ceromby_rounded ceromby_round(ceromby_floor floor);
 
 /* All that a tile has. Refused by 30, 4. */
 ceromby_reading ceromby_read(ceromby_floor floor, uint32_t tile);
+
+/* When at the latest: (C - 1) * (1 + K * M), M being (U - l) / v rounded down, plus 1. After so many rounds without an
+   accepted booking, stop or repair, the numbers reported are just those of the K canisters that it counts, and the others
+   are still on the floor. So it is the cap of a loop that runs rounds until all is delivered; ask again after an accepted
+   booking, stop or repair, or recall. Changes nothing. Refused by 30. */
+ceromby_bounded ceromby_bound(ceromby_floor floor);
 
 /* The floor of an image. Refused by the first fault in reading order: within a record 9, 10, 11, then 1, 2, 3; then 9 for
    bytes left over, then 12. With several hoppers the settings' record has 28 bytes, the set last and its lowest tile as the

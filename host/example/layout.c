@@ -75,6 +75,11 @@ static void answers(void) {
     FIELD(reading, refusal);
     FIELD(reading, tile);
     FIELD(reading, members);
+    SIZE(bounded);
+    FIELD(bounded, rounds);
+    FIELD(bounded, connected);
+    FIELD(bounded, unconnected);
+    FIELD(bounded, refusal);
     SIZE(written);
     FIELD(written, refusal);
     FIELD(written, length);

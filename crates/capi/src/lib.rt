@@ -5,6 +5,7 @@ ghost use Rattle.floor.specs.Layouts.{nameNumber};
 ghost use Rattle.floor.specs.Calls.{freshAnswer, bookAnswer, stopAnswer, repairAnswer, keepAnswer, forgetAnswer, recallAnswer, roundAnswer, readAnswer};
 ghost use Rattle.floor.specs.Anywhere.{anywhereAnswer};
 ghost use Rattle.floor.specs.Bookings.{listAnswer, listAfter};
+ghost use Rattle.bound.specs.Answer.{boundAnswer};
 ghost use Rattle.image.specs.Image.{loadAnswer, writeAnswer, written};
 ghost use Rattle.throughput.specs.Window.{feedTold};
 ghost use Rattle.page_call.specs.Page.{pageAnswer, paged};
@@ -14,6 +15,7 @@ use barge::Barge;
 use barge::BargeAnswer;
 use barge::BargePlaced;
 use barge::BargeRounded;
+use bound::Bounded;
 use floor::Answer;
 use floor::Booking;
 use floor::Canister;
@@ -86,6 +88,13 @@ pub extern "C" fn ceromby_read(floor: Floor, tile: u32) -> Reading
     ensures { λ r. ⌜ r ≡ readAnswer floor tile ⌝ }
 {
     calls::read(floor, tile)
+}
+
+#[no_mangle]
+pub extern "C" fn ceromby_bound(floor: Floor) -> Bounded
+    ensures { λ r. ⌜ r ≡ boundAnswer floor ⌝ }
+{
+    calls::bound(floor)
 }
 
 #[no_mangle]

@@ -18,9 +18,9 @@ pub use barge::{Barge, BargeAnswer, BargePlaced, BargeRounded};
 pub use plan::{Entry, Offered, Plan, Planned, Released, Stage};
 pub use throughput::{feed, Fed, Throughput, Told, FED_CLOSED, FED_OPEN, FED_REFUSED, WINDOW};
 pub use types::{
-    reason, Answer, Booking, Canister, Counters, Delivery, Floor, Layout, Name, Placed, Reading,
-    Report, Rounded, Settings, Side, Tile, Written, DISTANCE_NONE, LONGEST_IMAGE, LONGEST_LIST,
-    LONGEST_PAGE, MAX_HOPPERS, MAX_LAYOUTS, MAX_TILES, PLACES,
+    reason, Answer, Booking, Bounded, Canister, Counters, Delivery, Floor, Layout, Name, Placed,
+    Reading, Report, Rounded, Settings, Side, Tile, Written, DISTANCE_NONE, LONGEST_IMAGE,
+    LONGEST_LIST, LONGEST_PAGE, MAX_HOPPERS, MAX_LAYOUTS, MAX_TILES, PLACES,
 };
 
 mod raw {
@@ -28,7 +28,8 @@ mod raw {
     use crate::plan::{Offered, Plan, Planned, Released};
     use crate::throughput::{Throughput, Told};
     use crate::types::{
-        Answer, Booking, Canister, Floor, Name, Placed, Reading, Report, Rounded, Settings, Written,
+        Answer, Booking, Bounded, Canister, Floor, Name, Placed, Reading, Report, Rounded,
+        Settings, Written,
     };
 
     extern "C" {
@@ -43,6 +44,7 @@ mod raw {
         pub fn ceromby_recall(floor: Floor, name: Name) -> Answer;
         pub fn ceromby_round(floor: Floor) -> Rounded;
         pub fn ceromby_read(floor: Floor, tile: u32) -> Reading;
+        pub fn ceromby_bound(floor: Floor) -> Bounded;
         pub fn ceromby_load(bytes: *const u8, length: usize) -> Answer;
         pub fn ceromby_write(floor: Floor, buffer: *mut u8, length: usize) -> Written;
         pub fn ceromby_page(floor: Floor, buffer: *mut u8, length: usize) -> Written;
@@ -145,6 +147,13 @@ pub fn round(floor: &Floor) -> Rounded {
 pub fn read(floor: &Floor, tile: u32) -> Reading {
     // SAFETY: plain values in and out.
     unsafe { raw::ceromby_read(*floor, tile) }
+}
+
+/// After how many rounds without an accepted booking, stop or repair what can
+/// be delivered is delivered, and how many canisters that is.
+pub fn bound(floor: &Floor) -> Bounded {
+    // SAFETY: plain values in and out.
+    unsafe { raw::ceromby_bound(*floor) }
 }
 
 /// The floor of an image. Zero bytes, as in the file of a new controller, load

@@ -286,6 +286,22 @@ pub struct Reading {
     pub members: [Canister; PLACES],
 }
 
+/// After how many rounds what can be delivered is delivered. Beside a refusal
+/// the rest is zero.
+#[must_use]
+#[repr(C)]
+#[derive(Clone, Copy, PartialEq, Eq, Debug)]
+pub struct Bounded {
+    /// (C - 1) x (1 + K x M), at least 1.
+    pub rounds: u32,
+    /// K: canisters on tiles with a live path to a hopper.
+    pub connected: u32,
+    /// Canisters on all other tiles.
+    pub unconnected: u32,
+    /// 0 for accepted.
+    pub refusal: u8,
+}
+
 /// The answer of a write or a page as C gets it; [`crate::write`] and
 /// [`crate::page`] don't give the length of a refused one.
 #[repr(C)]

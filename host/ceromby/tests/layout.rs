@@ -3,9 +3,9 @@
 use std::mem::{offset_of, size_of};
 
 use ceromby::{
-    Answer, Barge, BargeAnswer, BargePlaced, BargeRounded, Booking, Canister, Counters, Delivery,
-    Entry, Floor, Layout, Name, Offered, Placed, Plan, Planned, Reading, Released, Report, Rounded,
-    Settings, Side, Throughput, Tile, Told, Written,
+    Answer, Barge, BargeAnswer, BargePlaced, BargeRounded, Booking, Bounded, Canister, Counters,
+    Delivery, Entry, Floor, Layout, Name, Offered, Placed, Plan, Planned, Reading, Released,
+    Report, Rounded, Settings, Side, Throughput, Tile, Told, Written,
 };
 
 macro_rules! layout {
@@ -40,6 +40,7 @@ fn as_in_c() {
         "placed" Placed { floor, a, b, refusal }
         "rounded" Rounded { floor, report, refusal }
         "reading" Reading { refusal, tile, members }
+        "bounded" Bounded { rounds, connected, unconnected, refusal }
         "written" Written { refusal, length }
         "throughput" Throughput { last, least, greatest, rounds, deliveries, closed }
         "fed" Told { throughput, rate, rounds, kind, refusal }
