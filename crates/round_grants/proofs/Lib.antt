@@ -1,2 +1,1 @@
 pub mod SignalLaws
-pub mod Loops

@@ -1,5 +1,5 @@
 -- One tile of Signal, branch by branch: the sides that want, the side chosen, the gap, the outcome.
-use mathlib.Core.Path.{_≡_, refl, sym, _∙_}
+use mathlib.Core.Path.{_≡_, refl, sym, ap, _∙_}
 use mathlib.Core.Logic.{_≢_}
 use mathlib.Core.Bool.{Bool, true, false, cond}
 use mathlib.Core.List.{List, [], _∷_, _++_}
@@ -10,7 +10,7 @@ use lib.ListN.{length, getD, take}
 use lib.Seq.{take-suc}
 use native.Mathlib.Numerals.{add-one}
 use borrow.Author.Tests.{lt-ltb, eq-eqb, ne-eqb}
-use Rattle.laws.specs.Define.{firstOf}
+use Rattle.laws.specs.Define.{bit, firstOf}
 use Rattle.laws.proofs.Tables.{ended}
 use Rattle.floor.specs.declared.Canister.{Canister}
 use Rattle.floor.specs.declared.Settings.{Settings}
@@ -63,6 +63,16 @@ pub chosen-le : (p : ℕ → Bool) (token k : ℕ) → k ≡ chosen p token → 
 unfolding chosen
 chosen-le p token k e h = rw e (cond-le (p token) h (following-le p token))
 
+-- no side wants
+pub chosen-none : (set k : ℕ) → set ≡ 0 → k ≤ 4 → 0 ≡ chosen (inSet set) k
+unfolding chosen following after inSet firstOf bit
+chosen-none set zero e h = rw e
+chosen-none set (suc zero) e h = rw e
+chosen-none set (suc (suc zero)) e h = rw e
+chosen-none set (suc (suc (suc zero))) e h = rw e
+chosen-none set (suc (suc (suc (suc zero)))) e h = rw e
+chosen-none set (suc (suc (suc (suc (suc k))))) e h = absurd (omega arith)
+
 pub chosen-kept : (p : ℕ → Bool) (k : ℕ) → p k ≡ true → k ≡ chosen p k
 unfolding chosen
 chosen-kept p k h = rw h
@@ -99,7 +109,7 @@ lack-none s (suc (suc (suc (suc zero)))) c w so n e = absurd (e refl)
 lack-none s (suc (suc (suc (suc (suc k))))) c w so n e = refl
 
 -- ---- the worst canister's: at first none, then one canister after another
-pub missing-zero : (s : Settings) (k : ℕ) (l : List Canister) → 0 ≡ missing s k (take 0 l)
+missing-zero : (s : Settings) (k : ℕ) (l : List Canister) → 0 ≡ missing s k (take 0 l)
 unfolding missing
 missing-zero s k l = refl
 
@@ -109,11 +119,37 @@ missing-snoc s k [] c = omega arith
 missing-snoc s k (x ∷ l) c = omega (arith, missing-snoc s k l c)
 
 module _ (s : Settings) (side : ℕ) (l : List Canister) (k w : ℕ) (e : w ≡ missing s side (take k l)) where
-  pub missing-step : (n one r : ℕ) → k < n → n ≤ 16 → length l ≡ 16 → one ≡ lack s side (getD l k zeroCanister) → r ≡ max w one → r ≡ missing s side (take (k + 1) l)
-  missing-step n one r h few z q m = rw (m, e, q, add-one, take-suc l k zeroCanister (omega arith)) (sym (missing-snoc s side (take k l) (getD l k zeroCanister)))
+  missing-step : (one r : ℕ) → k < length l → one ≡ lack s side (getD l k zeroCanister) → r ≡ max w one → r ≡ missing s side (take (k + 1) l)
+  missing-step one r h q m = rw (m, e, q, add-one, take-suc l k zeroCanister h) (sym (missing-snoc s side (take k l) (getD l k zeroCanister)))
 
-  pub missing-end : (n : ℕ) → n ≤ k → k ≤ n → w ≡ missing s side (take n l)
+  missing-end : (n : ℕ) → n ≤ k → k ≤ n → w ≡ missing s side (take n l)
   missing-end n lo hi = ended (λ (k : ℕ). missing s side (take k l)) lo hi e
+
+-- ---- the loop over a tile's canisters, the first n of the list: k of them are seen
+pub record LackFound (s : Settings) (side n : ℕ) (l : List Canister) (worst k : ℕ) : Type 0 where
+  pub below : k ≤ n
+  pub few : n ≤ 16
+  pub items-length : n ≤ length l
+  pub found : worst ≡ missing s side (take k l)
+
+pub lacks-start : (s : Settings) (side n : ℕ) (l : List Canister) → n ≤ 16 → n ≤ length l → LackFound s side n l 0 0
+lacks-start s side n l h z = record { below = omega arith; few = h; items-length = z; found = missing-zero s side l }
+
+module _ {s : Settings} {side n : ℕ} {l : List Canister} {worst k : ℕ} (p : LackFound s side n l worst k) where
+  pub turn-in : k < n → k < 16
+  turn-in turn = omega (arith, p .few)
+
+  -- c is the one that is read
+  pub lacks-turn : k < n → {c : Canister} → c ≡ getD l k zeroCanister → {one r : ℕ} → one ≡ lack s side c → r ≡ max worst one → LackFound s side n l r (k + 1)
+  lacks-turn turn at {one} {r} q m = record {
+    below = omega arith;
+    few = p .few;
+    items-length = p .items-length;
+    found = missing-step s side l k worst (p .found) one r (omega (arith, p .items-length)) (q ∙ ap (lack s side) at) m;
+  }
+
+  pub lacks-all : n ≤ k → worst ≡ missing s side (take n l)
+  lacks-all over = missing-end s side l k worst (p .found) n over (p .below)
 
 -- nothing is missing at the side none
 missing-none : (s : Settings) (l : List Canister) → missing s 0 l ≡ 0

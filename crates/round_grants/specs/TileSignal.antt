@@ -5,11 +5,6 @@ use lib.Dec.{eqb}
 use Rattle.floor.specs.declared.Canister.{Canister}
 use Rattle.floor.specs.declared.Settings.{Settings}
 use Rattle.floor.specs.Signal.{Signal, requests, signalBy}
-use Rattle.round_grants.specs.declared.Signal as M
-
--- a signal in memory as a value
-abbrev pub given : M.Signal → Signal
-given x = record { token = x .token .code; grant = x .grant .code; turn = x .turn .code; missing = x .missing }
 
 -- one tile, l its canisters, from what its neighbours show
 abbrev pub signalFrom : Settings → ℕ → ℕ → List Canister → ℕ → ℕ → ℕ → ℕ → Signal

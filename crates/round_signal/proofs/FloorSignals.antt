@@ -1,14 +1,14 @@
 -- Signal over a floor in memory: each tile's new token, grant, turn and missing millimetres, and what the pass asks of the tiles.
-use Prim.Native.Nat.{ℕ, _^_, _≤_, _<_}
+use Prim.Native.Nat.{ℕ, _*_, _^_, _≤_, _<_}
 use mathlib.Core.List.{List}
-use lib.ListN.{getD, take}
+use lib.ListN.{getD, take, drop}
 use Rattle.floor.specs.declared.Canister.{Canister}
 use Rattle.floor.specs.declared.Settings.{Settings}
 use Rattle.floor.specs.declared.Side.{Side}
 use Rattle.floor.specs.declared.Tile.{Tile}
 use Rattle.floor.specs.Settings.{total}
 use Rattle.floor.specs.Grid.{around}
-use Rattle.floor.specs.Memory.{zeroTile, block}
+use Rattle.floor.specs.Memory.{zeroTile}
 use Rattle.floor.specs.Signal.{Signal}
 use Rattle.round_route.specs.Routed.{within}
 use Rattle.round_grants.specs.TileSignal.{signalFrom}
@@ -26,7 +26,7 @@ Roomy s ts = (t : ℕ) → t < total s → getD ts t zeroTile .count ≤ 16
 unfoldable pub signalAt : Settings → List Tile → List Canister → ℕ → Signal
 signalAt s ts cs t =
     let h = getD ts t zeroTile in
-    around s (within (total s) (shownIn ts) 0) t (signalFrom s (h .running) (h .token .code) (take (h .count) (block cs t)))
+    around s (within (total s) (shownIn ts) 0) t (signalFrom s (h .running) (h .token .code) (take (h .count) (drop (16 * t) cs)))
 
 unfoldable pub tileAt : Settings → List Tile → List Canister → ℕ → Tile
 tileAt s ts cs t = tokened (getD ts t zeroTile) (signalAt s ts cs t .token)

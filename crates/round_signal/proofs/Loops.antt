@@ -1,25 +1,27 @@
--- What holds at the heads of Signal's loops: over the tiles; a tile's sixteen places copied; over the tiles again, why each stood; what each shows.
--- The first two are loops of `run_round`, so that their turns are laws here.
-use mathlib.Core.Path.{_≡_, refl, sym, ap, _∙_, subst, fun-ext}
+-- What holds at the heads of Signal's loops: over the tiles; over the tiles again, why each stood; what each shows. The first is a loop of
+-- `run_round`, so that its turns are laws here, one for each way out of it.
+use mathlib.Core.Path.{_≡_, refl, ap, _∙_, subst, fun-ext}
+use mathlib.Core.Logic.{_≢_}
+use mathlib.Core.Bool.{Bool}
 use mathlib.Core.List.{List}
 use Prim.Native.Nat.{ℕ, _+_, _*_, _^_, _≤_, _<_}
 use native.Mathlib.Omega.{arith}
-use lib.ListN.{length, take, drop, getD, set, replicate, length-set}
-use lib.Seq.{take-all}
+use lib.Dec.{eqb}
+use lib.ListN.{length, take, drop, getD, set, replicate, length-drop}
 use Rattle.laws.specs.Filled.{Filled}
-use Rattle.laws.proofs.Tables.{copy-turn, filled-none, filled-turn, filled-all}
+use Rattle.laws.proofs.Tables.{filled-none, filled-turn, filled-skip, filled-all}
 use Rattle.floor.specs.declared.Canister.{Canister}
 use Rattle.floor.specs.declared.Settings.{Settings}
 use Rattle.floor.specs.declared.Side.{Side}
 use Rattle.floor.specs.declared.Tile.{Tile}
 use Rattle.floor.specs.Settings.{total, Ranged}
 use Rattle.floor.specs.Grid.{around}
-use Rattle.floor.specs.Memory.{zeroTile, zeroCanister, block}
-use Rattle.floor.specs.Signal.{Signal}
+use Rattle.floor.specs.Memory.{zeroTile}
+use Rattle.floor.specs.Sides.{inSet, following, chosen}
+use Rattle.floor.specs.Signal.{Signal, requests, signalBy}
 use Rattle.round_route.specs.Routed.{Redone}
 use Rattle.round_route.proofs.Passes.{redone-none, redone-turn, redone-end}
-use Rattle.round_grants.specs.declared.Signal as S
-use Rattle.round_grants.specs.TileSignal.{given, signalFrom}
+use Rattle.round_grants.proofs.SignalLaws.{LackFound, lacks-start, lacks-all, signal-stopped, signal-none, signal-grants, signal-stays}
 use Rattle.round_signal.specs.Signalling as M
 use Rattle.round_signal.proofs.FloorSignals as F
 use Rattle.round_signal.proofs.PassLaws.{signal-read, filled-within}
@@ -43,14 +45,6 @@ pub record Signalled (s : Settings) (tiles : List Tile) (canisters : List Canist
   pub turned : Filled 65 (F.turnSide s tiles canisters) M.noSide t turns
   pub lacking : Filled 65 (F.lackAt s tiles canisters) 0 t lacks
 
-pub record Copied (tiles : List Tile) (canisters : List Canister) (t : ℕ) (items : List Canister) (k : ℕ) : Type 0 where
-  pub below : k ≤ 16
-  pub here : t < 64
-  pub items-length : length items ≡ 16
-  pub canisters-length : length canisters ≡ 1024
-  pub tiles-length : length tiles ≡ 64
-  pub copied : take k items ≡ take k (drop (16 * t) canisters)
-
 pub record Reasoned (s : Settings) (tiles : List Tile) (all : ℕ) (turns : List Side) (lacks reasons missing : List ℕ) (i : ℕ) : Type 0 where
   pub below : i ≤ all
   pub whole : all ≡ total s
@@ -68,23 +62,6 @@ pub record Shown (tiles : List Tile) (all : ℕ) (d : List Side) (t : ℕ) : Typ
   pub tiles-length : length tiles ≡ 64
   pub shows-length : length d ≡ 65
   pub shown : M.ShownUpto tiles t d
-
--- ---- the places of tile t
-module _ {tiles : List Tile} {canisters : List Canister} {t : ℕ} {items : List Canister} {k : ℕ} (p : Copied tiles canisters t items k) where
-  pub copied-turn : k < 16 → Copied tiles canisters t (set items k (getD canisters (16 * t + k) zeroCanister)) (k + 1)
-  copied-turn h = record {
-    below = omega arith;
-    here = p .here;
-    items-length = simp length-set (p .items-length);
-    canisters-length = p .canisters-length;
-    tiles-length = p .tiles-length;
-    copied = copy-turn items canisters (16 * t) k zeroCanister (omega (arith, h, p .items-length)) (omega (arith, h, p .here, p .canisters-length)) (p .copied);
-  }
-
-  pub copied-whole : 16 ≤ k → items ≡ block canisters t
-  copied-whole h =
-      let e : k ≡ 16 = omega (arith, h, p .below) in
-      sym (take-all 16 items (omega (arith, p .items-length))) ∙ rw e at (p .copied)
 
 -- ---- the tiles
 pub signalled-start : (s : Settings) (tiles : List Tile) (canisters : List Canister) → Asked s tiles canisters → {all : ℕ} → all ≡ total s
@@ -108,28 +85,79 @@ module _ {s : Settings} {tiles : List Tile} {canisters : List Canister} {all : �
     pub here : t < 64
     here = omega (arith, p .few)
 
-    pub copied-start : Copied tiles canisters t (replicate 16 zeroCanister) 0
-    copied-start = record { below = omega arith; here = here; items-length = refl; canisters-length = p .asked .canisters-length; tiles-length = p .asked .tiles-length; copied = refl }
+    abbrev tile : Tile
+    tile = getD tiles t zeroTile
 
-    pub tile-asked : Ranged s × (t < total s) × (getD tiles t zeroTile .token .code ≤ 4) × (getD tiles t zeroTile .count ≤ 16)
-    tile-asked = (p .asked .ranged, on, p .asked .ready t on, p .asked .roomy t on)
+    abbrev own : List Canister
+    own = take (tile .count) (drop (16 * t) canisters)
 
-    pub signalled-turn : {items : List Canister} {k : ℕ} → Copied tiles canisters t items k → 16 ≤ k → (show : List Side) → M.ShownUpto tiles (total s) show
-        → (one : S.Signal) → given one ≡ around s (M.sideIn show) t (signalFrom s (getD tiles t zeroTile .running) (getD tiles t zeroTile .token .code) (take (getD tiles t zeroTile .count) items))
-        → {v : Tile} → v ≡ M.tokened (getD tiles t zeroTile) (one .token .code)
-        → Signalled s tiles canisters all (set out t v) (set grants t (one .grant .code)) (set turns t (one .turn)) (set lacks t (one .missing)) (t + 1)
-    unfolding F.tileAt F.grantAt F.turnAt F.lackAt
-    signalled-turn {items} {k} q over show shows one e {v} w =
-        let r = signal-read s tiles canisters items t show on (p .asked .ranged .2) shows e (copied-whole q over) in record {
+    pub token-few : tile .token .code ≤ 4
+    token-few = p .asked .ready t on
+
+    pub own-few : tile .count ≤ 16
+    own-few = p .asked .roomy t on
+
+    pub lacks-first : (side : ℕ) → LackFound s side (tile .count) (drop (16 * t) canisters) 0 0
+    lacks-first side = lacks-start s side (tile .count) (drop (16 * t) canisters) own-few (rw length-drop (omega (arith, here, own-few, p .asked .canisters-length)))
+
+    -- ---- show: what the tiles show; each way out of the loop gives the tile's signal, x
+    module _ (show : List Side) (shows : M.ShownUpto tiles (total s) show) where
+      abbrev wants : ℕ → Bool
+      wants = around s (M.sideIn show) t requests
+
+      module _ (x : Signal) (e : x ≡ signalBy s (eqb (tile .running) 1) (tile .token .code) own wants) where
+        is : x ≡ F.signalAt s tiles canisters t
+        is = signal-read s tiles canisters t show on (p .asked .ranged .2) shows e
+
+        next : {v : Tile} {gs : List ℕ} {ts : List Side} {ls : List ℕ} → v ≡ M.tokened tile (x .token)
+            → (x .grant ≡ F.grantAt s tiles canisters t → Filled 64 (F.grantAt s tiles canisters) 0 (t + 1) gs)
+            → (F.side (x .turn) ≡ F.turnSide s tiles canisters t → Filled 65 (F.turnSide s tiles canisters) M.noSide (t + 1) ts)
+            → (x .missing ≡ F.lackAt s tiles canisters t → Filled 65 (F.lackAt s tiles canisters) 0 (t + 1) ls) → Signalled s tiles canisters all (set out t v) gs ts ls (t + 1)
+        unfolding F.tileAt F.grantAt F.turnAt F.lackAt
+        next {v} w g u l = record {
           asked = p .asked;
           below = omega arith;
           whole = p .whole;
           few = p .few;
-          tokened = redone-turn (F.tileAt s tiles canisters) tiles out t v here (p .tokened) (w ∙ ap (λ (x : Signal). M.tokened (getD tiles t zeroTile) (x .token)) r);
-          granted = filled-turn 64 (F.grantAt s tiles canisters) 0 t grants (one .grant .code) here (ap (λ (x : Signal). x .grant) r) (p .granted);
-          turned = filled-turn 65 (F.turnSide s tiles canisters) M.noSide t turns (one .turn) (omega (arith, here)) (ap (λ (x : Signal). F.side (x .turn)) r) (p .turned);
-          lacking = filled-turn 65 (F.lackAt s tiles canisters) 0 t lacks (one .missing) (omega (arith, here)) (ap (λ (x : Signal). x .missing) r) (p .lacking);
+          tokened = redone-turn (F.tileAt s tiles canisters) tiles out t v here (p .tokened) (w ∙ ap (λ (x : Signal). M.tokened tile (x .token)) is);
+          granted = g (ap (λ (x : Signal). x .grant) is);
+          turned = u (ap (λ (x : Signal). F.side (x .turn)) is);
+          lacking = l (ap (λ (x : Signal). x .missing) is);
         }
+
+      no-grant : 0 ≡ F.grantAt s tiles canisters t → Filled 64 (F.grantAt s tiles canisters) 0 (t + 1) grants
+      no-grant e = filled-skip 64 (F.grantAt s tiles canisters) 0 t grants e (p .granted)
+
+      no-lack : 0 ≡ F.lackAt s tiles canisters t → Filled 65 (F.lackAt s tiles canisters) 0 (t + 1) lacks
+      no-lack e = filled-skip 65 (F.lackAt s tiles canisters) 0 t lacks e (p .lacking)
+
+      turn-to : (k : Side) → k ≡ F.turnSide s tiles canisters t → Filled 65 (F.turnSide s tiles canisters) M.noSide (t + 1) (set turns t k)
+      turn-to k e = filled-turn 65 (F.turnSide s tiles canisters) M.noSide t turns k (omega (arith, here)) e (p .turned)
+
+      -- a stopped tile
+      pub stopped-turn : tile .running ≢ 1 → Signalled s tiles canisters all (set out t tile) grants (set turns t (tile .token)) lacks (t + 1)
+      unfolding M.tokened
+      stopped-turn r = next _ (signal-stopped s (tile .running) (tile .token .code) own wants r) refl no-grant (turn-to (tile .token)) no-lack
+
+      -- k the side chosen of those that want
+      module _ (r : tile .running ≡ 1) (sides : ℕ) (q : inSet sides ≡ wants) (k : Side) (e : k .code ≡ chosen (inSet sides) (tile .token .code)) {v : Tile} where
+        pub none-turn : k .code ≡ 0 → v ≡ M.tokened tile 0 → Signalled s tiles canisters all (set out t v) grants turns lacks (t + 1)
+        none-turn z w =
+            next _ (signal-none s (tile .running) (tile .token .code) own wants r sides q (k .code) e z) w no-grant
+            (λ u. filled-skip 65 (F.turnSide s tiles canisters) M.noSide t turns u (p .turned)) no-lack
+
+        -- n is missing there
+        module _ (some : k .code ≢ 0) {n j : ℕ} (found : LackFound s (k .code) (tile .count) (drop (16 * t) canisters) n j) (over : tile .count ≤ j) where
+          pub grants-turn : (after : ℕ) → n ≡ 0 → after ≡ following (inSet sides) (k .code) → v ≡ M.tokened tile after
+              → Signalled s tiles canisters all (set out t v) (set grants t (k .code)) (set turns t k) lacks (t + 1)
+          grants-turn after z f w =
+              next _ (signal-grants s (tile .running) (tile .token .code) own wants r sides q (k .code) e some n (lacks-all found over) after z f) w
+              (λ g. filled-turn 64 (F.grantAt s tiles canisters) 0 t grants (k .code) here g (p .granted)) (turn-to k) no-lack
+
+          pub waits-turn : n ≢ 0 → v ≡ M.tokened tile (k .code) → Signalled s tiles canisters all (set out t v) grants (set turns t k) (set lacks t n) (t + 1)
+          waits-turn z w =
+              next _ (signal-stays s (tile .running) (tile .token .code) own wants r sides q (k .code) e some n (lacks-all found over) z) w no-grant (turn-to k)
+              (λ l. filled-turn 65 (F.lackAt s tiles canisters) 0 t lacks n (omega (arith, here)) l (p .lacking))
 
   -- the end of the pass
   module _ (over : all ≤ t) where

@@ -6,24 +6,22 @@ use Prim.Native.Nat.{ℕ, suc, _*_, _≤_, _<_}
 use native.Mathlib.Omega.{arith}
 use native.Mathlib.Decide.{decLe}
 use lib.ListN.{length, take, drop, getD}
-use lib.Seq.{take-take}
 use lib.Dec.{ltb, eqb}
 use borrow.Author.Tests.{lt-ltb, le-ltb}
 use Rattle.laws.specs.Filled.{Filled}
 use Rattle.laws.specs.Define.{tab, refusal}
 use Rattle.laws.proofs.Tables.{tab-length, tab-at, filled}
-use Rattle.floor.specs.declared.Canister.{Canister}
 use Rattle.floor.specs.declared.Tile.{Tile}
 use Rattle.floor.specs.declared.Floor.{Floor}
 use Rattle.floor.specs.Settings.{total}
 use Rattle.floor.specs.Sides.{opposite}
 use Rattle.floor.specs.Grid.{neighbour, around}
 use Rattle.floor.specs.Model.{TileState, Model, noTile, tileOf, runs, membersOf}
-use Rattle.floor.specs.Memory.{headOf, retiled, stateOf, block, view, head, pack, fits}
+use Rattle.floor.specs.Memory.{headOf, retiled, stateOf, view, head, pack, fits}
 use Rattle.floor.specs.Signal.{Signal, waiting, shownNext, shownOf, signalBy, signalTile, signalOf, grantOf, withToken, signal}
 use Rattle.floor.specs.Reasons.{reasonTests, aheadOf, reasonOf, missingOf}
 use Rattle.floor.proofs.Rows.{view-at}
-use Rattle.floor.proofs.Pack.{few-on, head-state, head-read, pack-heads}
+use Rattle.floor.proofs.Pack.{head-state, head-read, pack-heads}
 use Rattle.round_route.specs.Routed.{Redone, within}
 use Rattle.round_route.proofs.Passes.{within-view, tile-off}
 use Rattle.round_grants.specs.TileSignal.{signalFrom}
@@ -44,15 +42,10 @@ module _ (f : Floor) (few : total (f .settings) ≤ 64) (ok : fits f ≡ true) w
   unfolding shownOf head
   shown-view = within-view f (shownIn (f .tiles)) (λ x. shownNext (length (x .members)) (x .next)) (λ t h. ap (λ (x : Tile). shownNext (x .count) (x .next .code)) (sym (head-state f few ok t h)))
 
-  members-view : (t : ℕ) → t < total (f .settings) → take (headOf f t .count) (block (f .canisters) t) ≡ stateOf f t .members
-  unfolding stateOf
-  members-view t h = take-take (headOf f t .count) 16 (drop (16 * t) (f .canisters)) (few-on f few ok t h)
-
   signal-view : (t : ℕ) → t < total (f .settings) → signalAt (f .settings) (f .tiles) (f .canisters) t ≡ signalOf (view f) t
   unfolding signalAt signalOf signalTile view stateOf
   signal-view t h =
-      ap (λ (d : ℕ → ℕ). around (f .settings) d t (signalFrom (f .settings) (headOf f t .running) (headOf f t .token .code) (take (headOf f t .count) (block (f .canisters) t)))) (fun-ext shown-view)
-      ∙ ap (λ (l : List Canister). around (f .settings) (shownOf (view f)) t (signalFrom (f .settings) (headOf f t .running) (headOf f t .token .code) l)) (members-view t h)
+      ap (λ (d : ℕ → ℕ). around (f .settings) d t (signalFrom (f .settings) (headOf f t .running) (headOf f t .token .code) (take (headOf f t .count) (drop (16 * t) (f .canisters))))) (fun-ext shown-view)
       ∙ ap (λ (x : TileState). around (f .settings) (shownOf (view f)) t (signalTile (f .settings) x)) (sym (view-at f t noTile h))
 
   tile-view : (t : ℕ) → t < total (f .settings) → tileAt (f .settings) (f .tiles) (f .canisters) t ≡ head (turned (view f) t)

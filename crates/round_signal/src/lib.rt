@@ -4,22 +4,16 @@
 ghost use mathlib.Core.Path.{_≡_};
 ghost use mathlib.Core.Bool.{cond};
 ghost use lib.Dec.{eqb};
-ghost use lib.ListN.{getD, take};
+ghost use lib.ListN.{getD};
 ghost use Prim.Native.Nat.{ℕ, _^_, _≤_, _<_};
 ghost use Rattle.laws.specs.Filled.{Filled};
 ghost use Rattle.floor.specs.Settings.{total, Ranged};
-ghost use Rattle.floor.specs.Grid.{around};
 ghost use Rattle.floor.specs.Signal.{shownNext};
-ghost use Rattle.round_grants.specs.TileSignal.{given, signalFrom};
 ghost use Rattle.round_signal.specs.Signalling.{sideIn, ShownUpto, tokened, ownReason, aheadReason, reasonBy, lackBy};
-use floor::Canister;
-use floor::Members;
 use floor::Settings;
 use floor::Side;
 use floor::Tile;
 use floor::reason;
-use round_grants::Signal;
-use round_grants::signal_tile;
 
 // Why each tile stood, 6 where it moved, and the millimetres missing beside 5.
 pub struct Stood {
@@ -106,29 +100,6 @@ fn beside(why: u8, lack: u32) -> u16
     } else {
         0
     }
-}
-
-// Tile t's signal, from its sixteen places and what all tiles show.
-pub fn signal_at(
-    s: Settings,
-    t: usize,
-    tile: Tile,
-    items: [Canister; 16],
-    show: [Side; 65],
-) -> Signal
-    requires { ⌜ Ranged s × (t < total s) × (tile .token .code ≤ 4) × (tile .count ≤ 16) ⌝ }
-    ensures { λ r. ⌜ given r ≡ around s (sideIn show) t (signalFrom s (tile .running) (tile .token .code) (take (tile .count) items)) ⌝ }
-{
-    let token = tile.token;
-    let members = Members {
-        count: tile.count,
-        items: items,
-    };
-    let west = show[Side::WEST.neighbour(s, t)];
-    let south = show[Side::SOUTH.neighbour(s, t)];
-    let north = show[Side::NORTH.neighbour(s, t)];
-    let east = show[Side::EAST.neighbour(s, t)];
-    signal_tile(s, tile.running, token, members, west, south, north, east)
 }
 
 // Why each tile stood: it tells by itself, or by the tile ahead of it, from that one's turn before it passed on and the
