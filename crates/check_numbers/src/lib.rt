@@ -7,8 +7,8 @@ use check_unique::all_differ;
 // The greatest prime below 2048, the size of the table of remainders.
 const REMAINDERS: u32 = 2039;
 
-// How many comparisons the chains may take: one for each place. Numbers drawn at random take a quarter of that.
-const STEPS: u32 = 1024;
+// How many comparisons the chains may take. A thousand numbers drawn at random take half of that.
+const STEPS: u32 = 512;
 
 // What the chains tell: two numbers are equal, all differ, or the steps ran out.
 const EQUAL: u8 = 0;
