@@ -73,7 +73,8 @@ pub fn anywhere_checked(floor: Floor, tile: u32, number: u32, well: bool) -> Pla
     let mut a: u16 = 0;
     let mut b: u16 = 0;
     if well {
-        // off the floor it is some other tile; that is 4 before anything of it counts
+        // `% 64` keeps the index within the arrays. A number beyond the floor reads some other tile here; `find` answers 4
+        // for it before it uses what was read.
         let t = (tile % 64) as usize;
         let s = changed.settings;
         let counters = changed.counters;

@@ -22,7 +22,8 @@ pub fn book_checked(floor: Floor, tile: u32, canister: Canister, well: bool) -> 
     let mut changed = floor;
     let mut number: u8 = refusals::MALFORMED;
     if well {
-        // off the floor it is some other tile; that is 4 before anything of it counts
+        // `% 64` keeps the index within the arrays. A number beyond the floor reads some other tile here; `book_refusal`
+        // answers 4 for it before it uses what was read.
         let t = (tile % 64) as usize;
         let s = changed.settings;
         let counters = changed.counters;

@@ -1,4 +1,5 @@
-// Reading an image: the floor in memory, or the first refusal in reading order. Of 12 only a layout without a name.
+// Reads an image: gives the floor that its records hold, or the first refusal in reading order. It doesn't check that the
+// floor is well formed (12); only a layout without a name is refused here.
 ghost use mathlib.Core.Path.{_≡_};
 ghost use Prim.Native.Nat.{ℕ, _+_, _*_, _≤_, _<_};
 ghost use lib.Dec.{ltb};
@@ -141,8 +142,9 @@ fn read_front(s: &[u8]) -> Front
     }
 }
 
-// The floor that the bytes hold, or the first refusal in reading order and the all-zero floor. It answers 12 for a layout
-// without a name only, which would not show in memory: what else is 12 shows there, and is told there.
+// The floor that the bytes hold; or the first refusal in reading order, with the all-zero floor. A layout without a name is
+// 12 here, because in memory it would look like an unused place. Every other floor that is not well formed is given as it
+// is: `image_calls::load` checks it and answers 12.
 pub fn read_image(s: &[u8]) -> Answer
     ensures { λ r. ⌜ r ≡ recordsAnswer (now (s .entry)) ⌝ }
 {
