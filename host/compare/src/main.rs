@@ -24,6 +24,7 @@ mod reasons;
 mod runs;
 mod show;
 mod shrink;
+mod stored;
 mod tally;
 mod throughput;
 mod waits;
@@ -34,17 +35,25 @@ use std::time::Instant;
 use oracle::random::{self, Rng};
 
 use runs::{single, Failure};
+use stored::Part;
 use tally::Tally;
 
-const USAGE: &str =
-    "compare [--seed N] [--calls N] [--images N] [--faults | --fault NAME | --page]";
+const USAGE: &str = "compare [--seed N] [--calls N] [--images N] [--faults | --fault NAME | --page]
+compare --write-counts";
 
-#[derive(Clone, Copy)]
+#[derive(Clone, Copy, PartialEq)]
 struct Extent {
     seed: u64,
     calls: u64,
     images: u64,
 }
+
+/// The extent of the gate's runs, whose counts are stored.
+const STANDARD: Extent = Extent {
+    seed: 1,
+    calls: 1_500_000,
+    images: 150_000,
+};
 
 /// A failure with the kind of run that met it.
 struct Found {
@@ -130,7 +139,8 @@ fn cycles(extent: Extent, tally: &mut Tally) -> Result<(), Found> {
     Ok(())
 }
 
-fn ordinary(extent: Extent) -> ExitCode {
+/// The standard run. Gives the counts if it passed.
+fn ordinary(extent: Extent) -> Option<Vec<String>> {
     let start = Instant::now();
     let mut tally = Tally::new();
     if let Err(found) = run(extent, &mut tally) {
@@ -146,36 +156,28 @@ fn ordinary(extent: Extent) -> ExitCode {
             show::case(&case),
             trouble.text
         );
-        return ExitCode::FAILURE;
+        return None;
     }
-    let missing = tally.print();
-    for line in &missing {
-        println!("missing: {line}");
-    }
-    let rest = match missing.len() {
-        0 => String::new(),
-        count => format!(", but {count} of the above are missing"),
-    };
+    let lines = tally.lines();
+    lines.print();
     println!(
-        "no difference{rest}; seed {}, {:.1} s",
+        "{}; seed {}, {:.1} s",
+        lines.verdict(),
         extent.seed,
         start.elapsed().as_secs_f64()
     );
-    match missing.is_empty() {
-        true => ExitCode::SUCCESS,
-        false => ExitCode::FAILURE,
-    }
+    lines.missing.is_empty().then_some(lines.all)
 }
 
 #[cfg(feature = "faults")]
-fn with_faults(extent: Extent, name: Option<&str>) -> ExitCode {
+fn with_faults(extent: Extent, name: Option<&str>) -> Option<Vec<String>> {
     faults::run(extent, name)
 }
 
+/// Without the feature the oracle has no faults.
 #[cfg(not(feature = "faults"))]
-fn with_faults(_: Extent, _: Option<&str>) -> ExitCode {
-    eprintln!("--faults needs a build with --features faults");
-    ExitCode::from(2)
+fn with_faults(_: Extent, _: Option<&str>) -> Option<Vec<String>> {
+    None
 }
 
 /// What is to be run.
@@ -185,15 +187,13 @@ enum Mode {
     Faults(Option<String>),
     /// The program `page`.
     Page,
+    /// All of these, to store what they count.
+    WriteCounts,
 }
 
 /// What the command's words ask for. None if they can't be read.
 fn asked() -> Option<(Extent, Mode)> {
-    let mut extent = Extent {
-        seed: 1,
-        calls: 1_500_000,
-        images: 150_000,
-    };
+    let mut extent = STANDARD;
     let mut mode = Mode::Ordinary;
     let mut words = std::env::args().skip(1);
     while let Some(word) = words.next() {
@@ -206,18 +206,86 @@ fn asked() -> Option<(Extent, Mode)> {
                 continue;
             }
             "--fault" => {
-                mode = Mode::Faults(words.next());
+                mode = Mode::Faults(Some(words.next()?));
                 continue;
             }
             "--page" => {
                 mode = Mode::Page;
                 continue;
             }
+            "--write-counts" => {
+                mode = Mode::WriteCounts;
+                continue;
+            }
             _ => return None,
         };
         *field = words.next()?.parse().ok()?;
     }
-    Some((extent, mode))
+    match mode {
+        Mode::WriteCounts if extent != STANDARD => None,
+        _ => Some((extent, mode)),
+    }
+}
+
+/// What the mode needs and isn't there.
+fn lacking(mode: &Mode) -> Option<String> {
+    let faults = matches!(mode, Mode::Faults(_) | Mode::WriteCounts);
+    let page = matches!(mode, Mode::Page | Mode::WriteCounts);
+    if faults && !cfg!(feature = "faults") {
+        return Some("this needs a build with --features faults".into());
+    }
+    if page && std::env::var_os(program::NAME).is_none() {
+        let name = program::NAME;
+        return Some(format!("this needs the page program's path in {name}"));
+    }
+    None
+}
+
+/// Makes one of the runs. Gives the counts if it passed.
+fn made(part: Part, extent: Extent) -> Option<Vec<String>> {
+    match part {
+        Part::Ordinary => ordinary(extent),
+        Part::Faults => with_faults(extent, None),
+        Part::Page => program::run(extent, std::env::var_os(program::NAME)?.into()),
+    }
+}
+
+/// Whether a run passes and, if it is a standard one, counts what is stored.
+fn passes(part: Part, extent: Extent) -> bool {
+    let Some(counted) = made(part, extent) else {
+        return false;
+    };
+    if extent != STANDARD {
+        return true;
+    }
+    match stored::check(part, &counted) {
+        Ok(()) => {
+            println!("the counts are those stored");
+            true
+        }
+        Err(text) => {
+            println!("{}", text.trim_end());
+            false
+        }
+    }
+}
+
+/// Makes all runs and stores what they counted. Whether all passed.
+fn write_counts() -> bool {
+    let mut parts = Vec::new();
+    for part in [Part::Ordinary, Part::Faults, Part::Page] {
+        let Some(counted) = made(part, STANDARD) else {
+            return false;
+        };
+        parts.push((part, counted));
+    }
+    match stored::write(&parts) {
+        Ok(()) => true,
+        Err(error) => {
+            println!("the counts can't be stored: {error}");
+            false
+        }
+    }
 }
 
 fn main() -> ExitCode {
@@ -225,10 +293,20 @@ fn main() -> ExitCode {
         eprintln!("{USAGE}");
         return ExitCode::from(2);
     };
+    if let Some(text) = lacking(&mode) {
+        eprintln!("{text}");
+        return ExitCode::from(2);
+    }
     call::hush_the_oracle();
-    match mode {
-        Mode::Ordinary => ordinary(extent),
-        Mode::Faults(name) => with_faults(extent, name.as_deref()),
-        Mode::Page => program::run(extent),
+    let passed = match mode {
+        Mode::Ordinary => passes(Part::Ordinary, extent),
+        Mode::Faults(None) => passes(Part::Faults, extent),
+        Mode::Faults(name) => with_faults(extent, name.as_deref()).is_some(),
+        Mode::Page => passes(Part::Page, extent),
+        Mode::WriteCounts => write_counts(),
+    };
+    match passed {
+        true => ExitCode::SUCCESS,
+        false => ExitCode::FAILURE,
     }
 }

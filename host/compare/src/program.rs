@@ -3,16 +3,16 @@
 
 use std::fs::{self, File};
 use std::io::{ErrorKind, Write};
-use std::path::{Path, PathBuf};
-use std::process::{Command, ExitCode, Stdio};
+use std::path::PathBuf;
+use std::process::{Command, Stdio};
 
 use oracle::random::{self, Rng};
 use oracle::{Floor, LONGEST_PAGE, STANDARD};
 
-use crate::{blank, call::Call, images, makers, Extent};
+use crate::{blank, call::Call, images, makers, tally::Lines, Extent};
 
 /// The environment variable that names the program.
-const NAME: &str = "CEROMBY_PAGE";
+pub const NAME: &str = "CEROMBY_PAGE";
 
 /// The longest records that can stand before a faulty one without a fault of
 /// their own: kind 1 and kind 2 for four hoppers, eight layouts, 64 tiles of
@@ -114,13 +114,11 @@ impl Met {
         }
     }
 
-    /// Prints the counts; false if one that must occur is 0. A record cut in
-    /// its last byte is 9, a whole one is not.
-    fn print(&self) -> bool {
-        let mut all = true;
+    /// All counts. A record cut in its last byte is 9, a whole one is not.
+    fn lines(&self) -> Lines {
+        let mut lines = Lines::default();
         let mut line = |name: &str, count: u64| {
-            println!("page program, {name}: {count}");
-            all &= count > 0;
+            lines.event(&format!("page program, {name}"), count, 1);
         };
         for (answer, count) in ANSWERS.iter().zip(self.answers) {
             line(&format!("answer {answer}"), count);
@@ -139,7 +137,7 @@ impl Met {
                 }
             }
         }
-        all
+        lines
     }
 }
 
@@ -346,15 +344,11 @@ fn all(runner: &mut Runner, extent: Extent) -> Result<(), String> {
     Ok(())
 }
 
-/// Runs the program that `CEROMBY_PAGE` names. It fails without one.
-pub fn run(extent: Extent) -> ExitCode {
-    let Some(program) = std::env::var_os(NAME) else {
-        eprintln!("--page needs the program's path in {NAME}");
-        return ExitCode::from(2);
-    };
+/// Runs the program on its inputs. Gives the counts if it passed.
+pub fn run(extent: Extent, program: PathBuf) -> Option<Vec<String>> {
     let file = format!("ceromby-page-{}", std::process::id());
     let mut runner = Runner {
-        program: Path::new(&program).to_path_buf(),
+        program,
         file: std::env::temp_dir().join(file),
         rng: Rng::new(extent.seed),
         met: Met::default(),
@@ -365,20 +359,15 @@ pub fn run(extent: Extent) -> ExitCode {
     let _ = fs::remove_file(&runner.file);
     if let Err(text) = made {
         println!("trouble with the page program: {text}");
-        return ExitCode::FAILURE;
+        return None;
     }
-    let met = runner.met.print();
-    let rest = if met {
-        ""
-    } else {
-        ", but some of the above are missing"
-    };
+    let lines = runner.met.lines();
+    lines.print();
     println!(
-        "page program: no difference{rest}; seed {}, {} inputs",
-        extent.seed, runner.made
+        "page program: {}; seed {}, {} inputs",
+        lines.verdict(),
+        extent.seed,
+        runner.made
     );
-    match met {
-        true => ExitCode::SUCCESS,
-        false => ExitCode::FAILURE,
-    }
+    lines.missing.is_empty().then_some(lines.all)
 }

@@ -53,6 +53,61 @@ pub fn length_group(length: usize, over: usize) -> usize {
     }
 }
 
+/// Counts as lines of text.
+#[derive(Default)]
+pub struct Lines {
+    pub all: Vec<String>,
+    /// Those that are 0, or less than is required.
+    pub missing: Vec<String>,
+}
+
+impl Lines {
+    /// A line of several counts, none of which may be 0.
+    fn row<T: Display>(&mut self, name: &str, cells: impl IntoIterator<Item = (T, u64)>) {
+        let mut line = name.to_string();
+        for (at, (cell, count)) in cells.into_iter().enumerate() {
+            let between = if at == 0 { " " } else { "; " };
+            line += &format!("{between}{cell}: {count}");
+            if count == 0 {
+                let name = name.trim_end();
+                self.missing.push(format!("{name} {cell}: never"));
+            }
+        }
+        self.all.push(line);
+    }
+
+    /// A line of one count, and the least that it may be.
+    pub fn event(&mut self, name: &str, count: u64, least: u64) {
+        self.all.push(format!("{name}: {count}"));
+        match count {
+            _ if count >= least => {}
+            0 => self.missing.push(format!("{name}: never")),
+            _ => {
+                let text = format!("{name}: {count}, {least} are required");
+                self.missing.push(text);
+            }
+        }
+    }
+
+    /// Prints all of them, and again those that are missing.
+    pub fn print(&self) {
+        for line in &self.all {
+            println!("{line}");
+        }
+        for line in &self.missing {
+            println!("missing: {line}");
+        }
+    }
+
+    /// What a run's last line says of those that are missing.
+    pub fn verdict(&self) -> String {
+        match self.missing.len() {
+            0 => "no difference".into(),
+            count => format!("no difference, but {count} of the above are missing"),
+        }
+    }
+}
+
 #[derive(Default)]
 pub struct Tally {
     pub calls: u64,
@@ -208,24 +263,24 @@ impl Tally {
         }
     }
 
-    /// Prints the counts and gives those that are 0, or less than is required.
-    pub fn print(&self) -> Vec<String> {
-        let mut missing = Vec::new();
+    /// All counts.
+    pub fn lines(&self) -> Lines {
+        let mut lines = Lines::default();
         for ((name, answers), counts) in NAMES.iter().zip(ANSWERS).zip(&self.answers) {
             let cells = answers.iter().map(|at| (*at, counts[usize::from(*at)]));
-            print_line(&format!("{name:13}"), cells, &mut missing);
+            lines.row(&format!("{name:14}"), cells);
         }
-        let lines = [
+        let rows = [
             self.exchanges.lines(),
             self.waits.lines(),
             self.reasons.lines(),
             self.layouts.lines(),
             self.places.lines(),
         ];
-        for (name, cells) in lines.into_iter().flatten() {
-            print_line(&name, cells, &mut missing);
+        for (name, cells) in rows.into_iter().flatten() {
+            lines.row(&name, cells);
         }
-        let lines = [
+        let rows = [
             self.hoppers.lines(),
             self.book_lists.lines(),
             self.throughput.lines(),
@@ -233,24 +288,19 @@ impl Tally {
             self.plans.lines(),
             self.barges.lines(),
         ];
-        for (name, cells) in lines.into_iter().flatten() {
-            print_line(&name, cells, &mut missing);
+        for (name, cells) in rows.into_iter().flatten() {
+            lines.row(&name, cells);
         }
         for (name, count) in self.events() {
-            println!("{name}: {count}");
-            if count == 0 {
-                missing.push(format!("{name}: never"));
-            }
+            lines.event(&name, count, 1);
         }
         let sizes = ("floor sizes that had a page", self.page.sizes(), 63);
         for (name, count, least) in self.blank.events().into_iter().chain([sizes]) {
-            println!("{name}: {count}");
-            if count < least {
-                missing.push(format!("{name}: {count}, {least} are required"));
-            }
+            lines.event(name, count, least);
         }
-        println!("rounds used of the bound, at most: {:.3}", self.closest);
-        missing
+        let closest = format!("rounds used of the bound, at most: {:.3}", self.closest);
+        lines.all.push(closest);
+        lines
     }
 
     /// What else must have occurred.
@@ -286,18 +336,24 @@ impl Tally {
     }
 }
 
-/// Prints a line of counts; those that are 0 are missing.
-fn print_line<T: Display>(
-    name: &str,
-    cells: impl IntoIterator<Item = (T, u64)>,
-    missing: &mut Vec<String>,
-) {
-    print!("{name}");
-    for (cell, count) in cells {
-        print!(" {cell}: {count}");
-        if count == 0 {
-            missing.push(format!("{} {cell}: never", name.trim_end()));
-        }
+#[cfg(test)]
+mod tests {
+    use super::Lines;
+
+    #[test]
+    fn a_count_of_zero_is_missing() {
+        let mut lines = Lines::default();
+        lines.row("stop  ", [(0, 3), (8, 0)]);
+        lines.event("crossings", 0, 1);
+        assert_eq!(lines.all, ["stop   0: 3; 8: 0", "crossings: 0"]);
+        assert_eq!(lines.missing, ["stop 8: never", "crossings: never"]);
     }
-    println!();
+
+    #[test]
+    fn a_count_below_the_least_is_missing() {
+        let mut lines = Lines::default();
+        lines.event("loads", 999, 1_000);
+        lines.event("pages", 1_000, 1_000);
+        assert_eq!(lines.missing, ["loads: 999, 1000 are required"]);
+    }
 }
