@@ -5,17 +5,6 @@ use Rattle.barge_calls.proofs.Answers.{book-begins, book-own, book-full
 use borrow.Author.Needs.{needs}
 use Rattle.barge_calls.proofs.book.Statement.{statement}
 use Rattle.barge_calls.proofs.book.Tie as tie
-use Rattle.barge_calls.proofs.book.Reads as reads
-use Rattle.barge_calls.proofs.book.Lts as lts
-use Rattle.barge_parts.proofs.begin.Reads as begin-reads
-use Rattle.barge_parts.proofs.last_refusal.Reads as last-refusal-reads
-use Rattle.book_call.proofs.book_checked.Reads as book-checked-reads
-
-begin-requires : tie.Need-begin-requires
-begin-requires c κs = search needs
-
-mul-old : tie.Need-mul-old
-mul-old c = search needs
 
 -- the floor that the call names
 begun : (c : tie.Then1) → On (c .before .before .args .barge) (c .before .before .args .floor)
@@ -29,12 +18,6 @@ element-copy-out-old c = begun c .named
 
 book-checked-requires : tie.Need-book-checked-requires
 book-checked-requires c κs = sym (begun (c .before) .well)
-
-last-refusal-requires : tie.Need-last-refusal-requires
-last-refusal-requires c κs = search needs
-
-mul-booked : tie.Need-mul-booked
-mul-booked c = search needs
 
 element-set-from-booked : tie.Need-element-set-from-booked
 element-set-from-booked c =
@@ -69,12 +52,12 @@ pub book-spec : {M : Type 1} → statement M
 book-spec =
     tie.close
     (tie.spec
-    begin-requires
-    mul-old
+    (λ c κs. search needs)  -- begin-requires
+    (λ c. search needs)  -- mul-old
     element-copy-out-old
     book-checked-requires
-    last-refusal-requires
-    mul-booked
+    (λ c κs. search needs)  -- last-refusal-requires
+    (λ c. search needs)  -- mul-booked
     element-set-from-booked
     returns
     returns-2

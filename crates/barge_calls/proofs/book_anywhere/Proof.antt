@@ -5,17 +5,6 @@ use Rattle.barge_calls.proofs.Answers.{anywhere-begins, anywhere-own, a
 use borrow.Author.Needs.{needs}
 use Rattle.barge_calls.proofs.book_anywhere.Statement.{statement}
 use Rattle.barge_calls.proofs.book_anywhere.Tie as tie
-use Rattle.barge_calls.proofs.book_anywhere.Reads as reads
-use Rattle.barge_calls.proofs.book_anywhere.Lts as lts
-use Rattle.barge_parts.proofs.begin.Reads as begin-reads
-use Rattle.barge_parts.proofs.last_refusal.Reads as last-refusal-reads
-use Rattle.book_anywhere.proofs.anywhere_checked.Reads as anywhere-checked-reads
-
-begin-requires : tie.Need-begin-requires
-begin-requires c κs = search needs
-
-mul-old : tie.Need-mul-old
-mul-old c = search needs
 
 -- the floor that the call names
 begun : (c : tie.Then1) → On (c .before .before .args .barge) (c .before .before .args .floor)
@@ -29,12 +18,6 @@ element-copy-out-old c = begun c .named
 
 anywhere-checked-requires : tie.Need-anywhere-checked-requires
 anywhere-checked-requires c κs = sym (begun (c .before) .well)
-
-last-refusal-requires : tie.Need-last-refusal-requires
-last-refusal-requires c κs = search needs
-
-mul-placed : tie.Need-mul-placed
-mul-placed c = search needs
 
 element-set-from-placed : tie.Need-element-set-from-placed
 element-set-from-placed c =
@@ -69,12 +52,12 @@ pub book-anywhere-spec : {M : Type 1} → statement M
 book-anywhere-spec =
     tie.close
     (tie.spec
-    begin-requires
-    mul-old
+    (λ c κs. search needs)  -- begin-requires
+    (λ c. search needs)  -- mul-old
     element-copy-out-old
     anywhere-checked-requires
-    last-refusal-requires
-    mul-placed
+    (λ c κs. search needs)  -- last-refusal-requires
+    (λ c. search needs)  -- mul-placed
     element-set-from-placed
     returns
     returns-2

@@ -5,17 +5,6 @@ use Rattle.barge_calls.proofs.Presses.{repair-begins, repair-refused, r
 use borrow.Author.Needs.{needs}
 use Rattle.barge_calls.proofs.repair.Statement.{statement}
 use Rattle.barge_calls.proofs.repair.Tie as tie
-use Rattle.barge_calls.proofs.repair.Reads as reads
-use Rattle.barge_calls.proofs.repair.Lts as lts
-use Rattle.barge_parts.proofs.begin.Reads as begin-reads
-use Rattle.call_parts.proofs.repair_refusal.Reads as repair-refusal-reads
-use Rattle.call_parts.proofs.repaired_floor.Reads as repaired-floor-reads
-
-begin-requires : tie.Need-begin-requires
-begin-requires c κs = search needs
-
-mul-old : tie.Need-mul-old
-mul-old c = search needs
 
 -- the floor that the call names
 begun : (c : tie.Then1) → On (c .before .before .args .barge) (c .before .before .args .floor)
@@ -32,9 +21,6 @@ repair-refusal-requires c κs = begun (c .before) .well
 
 repaired-floor-requires : tie.Need-repaired-floor-requires
 repaired-floor-requires c κs = (begun (c .before .before .before) .well, sym (c .before .repair-refusal .ensures) ∙ c .if2 .taken)
-
-mul-repaired : tie.Need-mul-repaired
-mul-repaired c = search needs
 
 element-set-from-repaired : tie.Need-element-set-from-repaired
 element-set-from-repaired c = let a = c .before .before in begun (a .before .before) .named
@@ -54,12 +40,12 @@ pub repair-spec : {M : Type 1} → statement M
 repair-spec =
     tie.close
     (tie.spec
-    begin-requires
-    mul-old
+    (λ c κs. search needs)  -- begin-requires
+    (λ c. search needs)  -- mul-old
     element-copy-out-old
     repair-refusal-requires
     repaired-floor-requires
-    mul-repaired
+    (λ c. search needs)  -- mul-repaired
     element-set-from-repaired
     returns
     returns-2

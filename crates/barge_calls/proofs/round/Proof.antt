@@ -5,16 +5,6 @@ use Rattle.barge_calls.proofs.Answers.{round-begins, round-done}
 use borrow.Author.Needs.{needs}
 use Rattle.barge_calls.proofs.round.Statement.{statement}
 use Rattle.barge_calls.proofs.round.Tie as tie
-use Rattle.barge_calls.proofs.round.Reads as reads
-use Rattle.barge_calls.proofs.round.Lts as lts
-use Rattle.barge_parts.proofs.begin.Reads as begin-reads
-use Rattle.round_move.proofs.run_round.Reads as run-round-reads
-
-begin-requires : tie.Need-begin-requires
-begin-requires c κs = search needs
-
-mul-old : tie.Need-mul-old
-mul-old c = search needs
 
 -- the floor that the call names
 begun : (c : tie.Then1) → On (c .before .before .before .args .barge) (c .before .before .before .args .floor)
@@ -28,9 +18,6 @@ element-copy-out-old c = begun c .named
 
 run-round-requires : tie.Need-run-round-requires
 run-round-requires c κs = begun (c .before) .well
-
-mul-moved : tie.Need-mul-moved
-mul-moved c = search needs
 
 element-set-from-moved : tie.Need-element-set-from-moved
 element-set-from-moved c = begun (c .before .before .before) .named
@@ -49,11 +36,11 @@ pub round-spec : {M : Type 1} → statement M
 round-spec =
     tie.close
     (tie.spec
-    begin-requires
-    mul-old
+    (λ c κs. search needs)  -- begin-requires
+    (λ c. search needs)  -- mul-old
     element-copy-out-old
     run-round-requires
-    mul-moved
+    (λ c. search needs)  -- mul-moved
     element-set-from-moved
     returns
     returns-2)

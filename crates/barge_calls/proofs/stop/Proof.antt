@@ -5,17 +5,6 @@ use Rattle.barge_calls.proofs.Presses.{stop-begins, stop-refused, stop-
 use borrow.Author.Needs.{needs}
 use Rattle.barge_calls.proofs.stop.Statement.{statement}
 use Rattle.barge_calls.proofs.stop.Tie as tie
-use Rattle.barge_calls.proofs.stop.Reads as reads
-use Rattle.barge_calls.proofs.stop.Lts as lts
-use Rattle.barge_parts.proofs.begin.Reads as begin-reads
-use Rattle.call_parts.proofs.stop_refusal.Reads as stop-refusal-reads
-use Rattle.call_parts.proofs.stopped_floor.Reads as stopped-floor-reads
-
-begin-requires : tie.Need-begin-requires
-begin-requires c κs = search needs
-
-mul-old : tie.Need-mul-old
-mul-old c = search needs
 
 -- the floor that the call names
 begun : (c : tie.Then1) → On (c .before .before .args .barge) (c .before .before .args .floor)
@@ -32,9 +21,6 @@ stop-refusal-requires c κs = begun (c .before) .well
 
 stopped-floor-requires : tie.Need-stopped-floor-requires
 stopped-floor-requires c κs = (begun (c .before .before .before) .well, sym (c .before .stop-refusal .ensures) ∙ c .if2 .taken)
-
-mul-stopped : tie.Need-mul-stopped
-mul-stopped c = search needs
 
 element-set-from-stopped : tie.Need-element-set-from-stopped
 element-set-from-stopped c = let a = c .before .before in begun (a .before .before) .named
@@ -54,12 +40,12 @@ pub stop-spec : {M : Type 1} → statement M
 stop-spec =
     tie.close
     (tie.spec
-    begin-requires
-    mul-old
+    (λ c κs. search needs)  -- begin-requires
+    (λ c. search needs)  -- mul-old
     element-copy-out-old
     stop-refusal-requires
     stopped-floor-requires
-    mul-stopped
+    (λ c. search needs)  -- mul-stopped
     element-set-from-stopped
     returns
     returns-2

@@ -14,11 +14,6 @@ use Rattle.barge_parts.proofs.Loops.{Checked}
 use borrow.Author.Needs.{needs}
 use Rattle.barge_parts.proofs.begin.Statement.{statement}
 use Rattle.barge_parts.proofs.begin.Tie as tie
-use Rattle.barge_parts.proofs.begin.Reads as reads
-use Rattle.barge_parts.proofs.begin.Lts as lts
-use Rattle.barge_parts.proofs.first_refusal.Reads as first-refusal-reads
-use Rattle.barge_parts.proofs.on_floor.Reads as on-floor-reads
-use Rattle.check_floor.proofs.well_formed.Reads as well-formed-reads
 
 abbrev Inv-loop : tie.InvT-loop
 Inv-loop floor barge sound₀ total₀ k₀ sound total k = Checked barge sound total k

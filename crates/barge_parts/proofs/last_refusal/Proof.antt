@@ -2,8 +2,6 @@ use borrow.Author.Tests.{le-leb, lt-leb}
 use Rattle.laws.specs.Define.{refusal}
 use Rattle.barge_parts.proofs.last_refusal.Statement.{statement}
 use Rattle.barge_parts.proofs.last_refusal.Tie as tie
-use Rattle.barge_parts.proofs.last_refusal.Reads as reads
-use Rattle.barge_parts.proofs.last_refusal.Lts as lts
 
 returns : tie.Need-returns
 unfolding refusal

@@ -5,26 +5,9 @@ use Rattle.barge_parts.proofs.Joint.{sum-four}
 use borrow.Author.Needs.{needs}
 use Rattle.barge_parts.proofs.on_floor.Statement.{statement}
 use Rattle.barge_parts.proofs.on_floor.Tie as tie
-use Rattle.barge_parts.proofs.on_floor.Reads as reads
-use Rattle.barge_parts.proofs.on_floor.Lts as lts
 
 returns : tie.Need-returns
 returns c = (rw (not-true (c .before .args .well) (c .if1 .taken)), omega arith)
-
-cast-result : tie.Need-cast-result
-cast-result c = search needs
-
-array-read-result : tie.Need-array-read-result
-array-read-result c = search needs
-
-cast-result-2 : tie.Need-cast-result-2
-cast-result-2 c = search needs
-
-array-read-result-2 : tie.Need-array-read-result-2
-array-read-result-2 c = search needs
-
-cast-result-3 : tie.Need-cast-result-3
-cast-result-3 c = search needs
 
 add-result : tie.Need-add-result
 add-result c = let g = c .before .before .before .args in
@@ -32,23 +15,11 @@ add-result c = let g = c .before .before .before .args in
     let four = sum-four (g.c .delivered) (delivered-length g.c _ (c .before .before .before .good .0)) in
     omega (arith, few, four)
 
-array-read-result-3 : tie.Need-array-read-result-3
-array-read-result-3 c = search needs
-
-cast-result-4 : tie.Need-cast-result-4
-cast-result-4 c = search needs
-
 add-result-2 : tie.Need-add-result-2
 add-result-2 c = let g = c .before .before .before .args in
     let few = c .before .before .before .pre (not-false g.well (c .before .before .if1 .left)) in
     let four = sum-four (g.c .delivered) (delivered-length g.c _ (c .before .before .before .good .0)) in
     omega (arith, few, four)
-
-array-read-result-4 : tie.Need-array-read-result-4
-array-read-result-4 c = search needs
-
-cast-result-5 : tie.Need-cast-result-5
-cast-result-5 c = search needs
 
 add-result-3 : tie.Need-add-result-3
 add-result-3 c = let g = c .before .before .before .args in
@@ -73,17 +44,17 @@ on-floor-spec =
     tie.close
     (tie.spec
     returns
-    cast-result
-    array-read-result
-    cast-result-2
-    array-read-result-2
-    cast-result-3
+    (λ c. search needs)  -- cast-result
+    (λ c. search needs)  -- array-read-result
+    (λ c. search needs)  -- cast-result-2
+    (λ c. search needs)  -- array-read-result-2
+    (λ c. search needs)  -- cast-result-3
     add-result
-    array-read-result-3
-    cast-result-4
+    (λ c. search needs)  -- array-read-result-3
+    (λ c. search needs)  -- cast-result-4
     add-result-2
-    array-read-result-4
-    cast-result-5
+    (λ c. search needs)  -- array-read-result-4
+    (λ c. search needs)  -- cast-result-5
     add-result-3
     sub-result
     returns-2)

@@ -5,21 +5,11 @@ use Rattle.book_anywhere.proofs.Tests.{corner-number, corner-place, nea
 use borrow.Author.Needs.{needs}
 use Rattle.book_anywhere.proofs.find.Statement.{statement}
 use Rattle.book_anywhere.proofs.find.Tie as tie
-use Rattle.book_anywhere.proofs.find.Reads as reads
-use Rattle.book_anywhere.proofs.find.Lts as lts
-use Rattle.book_search.proofs.find_place.Reads as find-place-reads
-use Rattle.book_tile.proofs.book_refusal.Reads as book-refusal-reads
-
-book-refusal-requires : tie.Need-book-refusal-requires
-book-refusal-requires c κs = search needs
 
 returns : tie.Need-returns
 returns c = let g = c .before .before .args in
     let n = c .before .book-refusal in
     (corner-number g.s g.last g.tile g.number g.running (take (g.own .count) (g.own .items)) (n .result) (n .ensures) (c .if1 .taken), corner-place g.s g.last g.tile g.number g.running (take (g.own .count) (g.own .items)) (n .result) (n .ensures))
-
-cast-find-place : tie.Need-cast-find-place
-cast-find-place c = search needs
 
 find-place-requires : tie.Need-find-place-requires
 find-place-requires c κs =
@@ -29,9 +19,6 @@ find-place-requires c κs =
     let n = i .before .book-refusal in
     let p = S .pre in
     (p .3 (near-on-floor g.s g.last g.tile g.number g.running (take (g.own .count) (g.own .items)) (n .result) (n .ensures) (i .if1 .left)), p .1, p .2)
-
-sub-if2 : tie.Need-sub-if2
-sub-if2 c = search needs
 
 returns-2 : tie.Need-returns-2
 returns-2 c =
@@ -55,10 +42,10 @@ pub find-spec : {M : Type 1} → statement M
 find-spec =
     tie.close
     (tie.spec
-    book-refusal-requires
+    (λ c κs. search needs)  -- book-refusal-requires
     returns
-    cast-find-place
+    (λ c. search needs)  -- cast-find-place
     find-place-requires
-    sub-if2
+    (λ c. search needs)  -- sub-if2
     returns-2
     returns-3)

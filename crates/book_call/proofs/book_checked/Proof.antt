@@ -16,12 +16,6 @@ use Rattle.book_call.proofs.Booking.{own-few, book-number, book-ready, 
 use borrow.Author.Needs.{needs}
 use Rattle.book_call.proofs.book_checked.Statement.{statement}
 use Rattle.book_call.proofs.book_checked.Tie as tie
-use Rattle.book_call.proofs.book_checked.Reads as reads
-use Rattle.book_call.proofs.book_checked.Lts as lts
-use Rattle.book_tile.proofs.book_refusal.Reads as book-refusal-reads
-use Rattle.book_tile.proofs.with_booking.Reads as with-booking-reads
-use Rattle.book_tile.proofs.with_count.Reads as with-count-reads
-use Rattle.round_members.proofs.insert.Reads as insert-reads
 
 abbrev Inv-loop : tie.InvT-loop
 Inv-loop tile canister well changed number t s counters old items₀ k₀ items k = PlacesRead changed tile items k
@@ -58,12 +52,6 @@ accepted : (s : tie.Then2 Inv-loop μ-loop Inv-loop2 μ-loop2) → refusal (test
 accepted s = sym (number-is (s .before)) ∙ s .if2 .taken
 
 -- ---- the code in its order
-cast-t : tie.Need-cast-t Inv-loop μ-loop Inv-loop2 μ-loop2
-cast-t c = search needs
-
-mul-old : tie.Need-mul-old Inv-loop μ-loop Inv-loop2 μ-loop2
-mul-old c = search needs
-
 element-copy-out-old : tie.Need-element-copy-out-old Inv-loop μ-loop Inv-loop2 μ-loop2
 element-copy-out-old c = let s = c .before .before .before in omega (arith, tiles-length (s .args .floor) _ (s .good .0))
 
@@ -72,30 +60,6 @@ loop-holds c =
     let i = c .before .before .before in
     let s = i .before in
     read-none (s .args .floor) (s .args .tile) (s .args .canister) (sym (s .pre) ∙ i .if1 .taken)
-
-mul-items : tie.Need-mul-items Inv-loop μ-loop Inv-loop2 μ-loop2
-mul-items c = search needs
-
-add-items : tie.Need-add-items Inv-loop μ-loop Inv-loop2 μ-loop2
-add-items c = search needs
-
-mul-items-2 : tie.Need-mul-items-2 Inv-loop μ-loop Inv-loop2 μ-loop2
-mul-items-2 c = search needs
-
-element-copy-out-items : tie.Need-element-copy-out-items Inv-loop μ-loop Inv-loop2 μ-loop2
-element-copy-out-items c = search needs
-
-mul-items-3 : tie.Need-mul-items-3 Inv-loop μ-loop Inv-loop2 μ-loop2
-mul-items-3 c = search needs
-
-array-set-from-items : tie.Need-array-set-from-items Inv-loop μ-loop Inv-loop2 μ-loop2
-array-set-from-items c = search needs
-
-add-k : tie.Need-add-k Inv-loop μ-loop Inv-loop2 μ-loop2
-add-k c = search needs
-
-loop-less : tie.Need-loop-less Inv-loop μ-loop Inv-loop2 μ-loop2
-loop-less c = search needs
 
 loop-again : tie.Need-loop-again Inv-loop μ-loop Inv-loop2 μ-loop2
 loop-again c = let l = c .before .before .loop in read-turn _ _ (l .items) (l .k) (omega arith) (l .inv)
@@ -114,41 +78,8 @@ loop2-holds c =
     let t = c .before .before in
     put-none _ _ (m .result .items) (own (t .before .before) .well) (items-length (m .result) _ (m .ok))
 
-mul-changed : tie.Need-mul-changed Inv-loop μ-loop Inv-loop2 μ-loop2
-mul-changed c = search needs
-
-array-copy-out-changed : tie.Need-array-copy-out-changed Inv-loop μ-loop Inv-loop2 μ-loop2
-array-copy-out-changed c = search needs
-
-mul-t40 : tie.Need-mul-t40 Inv-loop μ-loop Inv-loop2 μ-loop2
-mul-t40 c = search needs
-
-add-t41 : tie.Need-add-t41 Inv-loop μ-loop Inv-loop2 μ-loop2
-add-t41 c = search needs
-
-mul-t42 : tie.Need-mul-t42 Inv-loop μ-loop Inv-loop2 μ-loop2
-mul-t42 c = search needs
-
-element-set-from-changed : tie.Need-element-set-from-changed Inv-loop μ-loop Inv-loop2 μ-loop2
-element-set-from-changed c = search needs
-
-add-j : tie.Need-add-j Inv-loop μ-loop Inv-loop2 μ-loop2
-add-j c = search needs
-
-loop2-less : tie.Need-loop2-less Inv-loop μ-loop Inv-loop2 μ-loop2
-loop2-less c = search needs
-
 loop2-again : tie.Need-loop2-again Inv-loop μ-loop Inv-loop2 μ-loop2
 loop2-again c = let l = c .before .before .loop2 in put-turn _ _ _ (l .changed) (l .j) (omega arith) (l .inv)
-
-with-count-requires : tie.Need-with-count-requires Inv-loop μ-loop Inv-loop2 μ-loop2
-with-count-requires c κs = search needs
-
-mul-t46 : tie.Need-mul-t46 Inv-loop μ-loop Inv-loop2 μ-loop2
-mul-t46 c = search needs
-
-element-set-from-changed-2 : tie.Need-element-set-from-changed-2 Inv-loop μ-loop Inv-loop2 μ-loop2
-element-set-from-changed-2 c = search needs
 
 with-booking-requires : tie.Need-with-booking-requires Inv-loop μ-loop Inv-loop2 μ-loop2
 with-booking-requires c κs =
@@ -191,34 +122,34 @@ book-checked-spec =
     μ-loop
     Inv-loop2
     μ-loop2
-    cast-t
-    mul-old
+    (λ c. search needs)  -- cast-t
+    (λ c. search needs)  -- mul-old
     element-copy-out-old
     loop-holds
-    mul-items
-    add-items
-    mul-items-2
-    element-copy-out-items
-    mul-items-3
-    array-set-from-items
-    add-k
-    loop-less
+    (λ c. search needs)  -- mul-items
+    (λ c. search needs)  -- add-items
+    (λ c. search needs)  -- mul-items-2
+    (λ c. search needs)  -- element-copy-out-items
+    (λ c. search needs)  -- mul-items-3
+    (λ c. search needs)  -- array-set-from-items
+    (λ c. search needs)  -- add-k
+    (λ c. search needs)  -- loop-less
     loop-again
     book-refusal-requires
     insert-requires
     loop2-holds
-    mul-changed
-    array-copy-out-changed
-    mul-t40
-    add-t41
-    mul-t42
-    element-set-from-changed
-    add-j
-    loop2-less
+    (λ c. search needs)  -- mul-changed
+    (λ c. search needs)  -- array-copy-out-changed
+    (λ c. search needs)  -- mul-t40
+    (λ c. search needs)  -- add-t41
+    (λ c. search needs)  -- mul-t42
+    (λ c. search needs)  -- element-set-from-changed
+    (λ c. search needs)  -- add-j
+    (λ c. search needs)  -- loop2-less
     loop2-again
-    with-count-requires
-    mul-t46
-    element-set-from-changed-2
+    (λ c κs. search needs)  -- with-count-requires
+    (λ c. search needs)  -- mul-t46
+    (λ c. search needs)  -- element-set-from-changed-2
     with-booking-requires
     returns
     returns-2

@@ -2,8 +2,6 @@ use borrow.Author.Tests.{lt-ltb, le-ltb}
 use native.Mathlib.Omega.{arith}
 use Rattle.book_list.proofs.answer_of.Statement.{statement}
 use Rattle.book_list.proofs.answer_of.Tie as tie
-use Rattle.book_list.proofs.answer_of.Reads as reads
-use Rattle.book_list.proofs.answer_of.Lts as lts
 
 returns : tie.Need-returns
 returns c = rw (lt-ltb 64 (c .before .args .n) (omega arith))

@@ -5,9 +5,6 @@ use borrow.Author.Needs.{needs}
 use native.Mathlib.Omega.{arith}
 use Rattle.book_list.proofs.begin_list.Statement.{statement}
 use Rattle.book_list.proofs.begin_list.Tie as tie
-use Rattle.book_list.proofs.begin_list.Reads as reads
-use Rattle.book_list.proofs.begin_list.Lts as lts
-use Rattle.check_floor.proofs.well_formed.Reads as well-formed-reads
 
 returns : tie.Need-returns
 returns c = rw (lt-ltb 64 (c .before .args .n) (omega arith))

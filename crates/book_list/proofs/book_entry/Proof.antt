@@ -5,9 +5,6 @@ use Rattle.book_list.proofs.Kept.{entry-still}
 use Rattle.book_list.proofs.Widths.{entry-typed}
 use Rattle.book_list.proofs.book_entry.Statement.{statement}
 use Rattle.book_list.proofs.book_entry.Tie as tie
-use Rattle.book_list.proofs.book_entry.Reads as reads
-use Rattle.book_list.proofs.book_entry.Lts as lts
-use Rattle.book_call.proofs.book_checked.Reads as book-checked-reads
 
 book-checked-requires : tie.Need-book-checked-requires
 book-checked-requires c κs = c .pre

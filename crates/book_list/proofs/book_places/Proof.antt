@@ -15,11 +15,6 @@ use Rattle.book_list.proofs.Loops.{EntriesBooked}
 use borrow.Author.Needs.{needs}
 use Rattle.book_list.proofs.book_places.Statement.{statement}
 use Rattle.book_list.proofs.book_places.Tie as tie
-use Rattle.book_list.proofs.book_places.Reads as reads
-use Rattle.book_list.proofs.book_places.Lts as lts
-use Rattle.book_list.proofs.answer_of.Reads as answer-of-reads
-use Rattle.book_list.proofs.begin_list.Reads as begin-list-reads
-use Rattle.book_list.proofs.book_entry.Reads as book-entry-reads
 
 abbrev Inv-loop : tie.InvT-loop
 Inv-loop n entries well current₀ places₀ i₀ current places i = EntriesBooked current₀ places₀ entries well current places i

@@ -8,10 +8,6 @@ use Rattle.book_search.proofs.Loops.{RowsSearched}
 use borrow.Author.Needs.{needs}
 use Rattle.book_search.proofs.find_place.Statement.{statement}
 use Rattle.book_search.proofs.find_place.Tie as tie
-use Rattle.book_search.proofs.find_place.Reads as reads
-use Rattle.book_search.proofs.find_place.Lts as lts
-use Rattle.book_search.proofs.lowest_a.Reads as lowest-a-reads
-use Rattle.book_search.proofs.next_b.Reads as next-b-reads
 
 abbrev Inv-loop : tie.InvT-loop
 Inv-loop s items n far b₀ b = RowsSearched s items n b
@@ -19,14 +15,8 @@ Inv-loop s items n far b₀ b = RowsSearched s items n b
 abbrev μ-loop : tie.MeasureT-loop
 μ-loop s items n far b₀ b = suc (span s) - b
 
-sub-span : tie.Need-sub-span Inv-loop μ-loop
-sub-span c = search needs
-
 loop-holds : tie.Need-loop-holds Inv-loop μ-loop
 loop-holds c = let g = c .before .args in record { below = omega arith; bare = bare-none (spacing g.s) (suc (span g.s)) (take g.n g.items) }
-
-lowest-a-requires : tie.Need-lowest-a-requires Inv-loop μ-loop
-lowest-a-requires c κs = search needs
 
 returns : tie.Need-returns Inv-loop μ-loop
 returns c =
@@ -36,12 +26,6 @@ returns c =
     let e = c .before .lowest-a .ensures in
     let b = place-b g.s (take g.n g.items) (l .b) (l .inv .bare) (omega arith) (omega (arith, e)) in
     (b, λ _. place-a g.s (take g.n g.items) _ (l .b) e b)
-
-next-b-requires : tie.Need-next-b-requires Inv-loop μ-loop
-next-b-requires c κs = search needs
-
-loop-less : tie.Need-loop-less Inv-loop μ-loop
-loop-less c = search needs
 
 loop-again : tie.Need-loop-again Inv-loop μ-loop
 loop-again c =
@@ -65,11 +49,11 @@ find-place-spec =
     (tie.spec
     Inv-loop
     μ-loop
-    sub-span
+    (λ c. search needs)  -- sub-span
     loop-holds
-    lowest-a-requires
+    (λ c κs. search needs)  -- lowest-a-requires
     returns
-    next-b-requires
-    loop-less
+    (λ c κs. search needs)  -- next-b-requires
+    (λ c. search needs)  -- loop-less
     loop-again
     returns-2)

@@ -10,10 +10,6 @@ use Rattle.book_search.proofs.Loops.{RowSearched}
 use borrow.Author.Needs.{needs}
 use Rattle.book_search.proofs.lowest_a.Statement.{statement}
 use Rattle.book_search.proofs.lowest_a.Tie as tie
-use Rattle.book_search.proofs.lowest_a.Reads as reads
-use Rattle.book_search.proofs.lowest_a.Lts as lts
-use Rattle.check_places.proofs.stands_apart.Reads as stands-apart-reads
-use Rattle.floor.proofs.Settings.spacing.Reads as spacing-reads
 
 abbrev Inv-loop : tie.InvT-loop
 Inv-loop s n b items d far a₀ k₀ a k = RowSearched s items n b d far a k
@@ -37,12 +33,6 @@ jump c =
     let g = start o .args in
     row-jump (spacing g.s) g.n g.t2 g.b (l .a) (l .k) (omega arith) (omega arith) (near .stands-apart .ensures) (c .if1 .left) (l .inv .passed)
 
-spacing-requires : tie.Need-spacing-requires Inv-loop μ-loop
-spacing-requires c κs = search needs
-
-sub-span : tie.Need-sub-span Inv-loop μ-loop
-sub-span c = search needs
-
 loop-holds : tie.Need-loop-holds Inv-loop μ-loop
 loop-holds c =
     let s = c .before .before in
@@ -57,27 +47,6 @@ loop-holds c =
       passed = passed-none (spacing g.s) (take g.n g.t2) g.b;
       clear-upto = row-start (spacing g.s) 0 g.b g.t2;
     }
-
-mul-c : tie.Need-mul-c Inv-loop μ-loop
-mul-c c = search needs
-
-array-copy-out-c : tie.Need-array-copy-out-c Inv-loop μ-loop
-array-copy-out-c c = search needs
-
-stands-apart-requires : tie.Need-stands-apart-requires Inv-loop μ-loop
-stands-apart-requires c κs = search needs
-
-cast-beyond : tie.Need-cast-beyond Inv-loop μ-loop
-cast-beyond c = search needs
-
-add-beyond : tie.Need-add-beyond Inv-loop μ-loop
-add-beyond c = search needs
-
-add-k : tie.Need-add-k Inv-loop μ-loop
-add-k c = search needs
-
-loop-less : tie.Need-loop-less Inv-loop μ-loop
-loop-less c = search needs
 
 loop-again : tie.Need-loop-again Inv-loop μ-loop
 loop-again c =
@@ -96,21 +65,12 @@ loop-again c =
       clear-upto = row-step (spacing g.s) (l .a) g.b g.t2 (l .k) (omega arith) (i .clear-upto) (c .before .before .stands-apart .ensures) (c .if1 .taken);
     }
 
-cast-if2 : tie.Need-cast-if2 Inv-loop μ-loop
-cast-if2 c = search needs
-
-add-result : tie.Need-add-result Inv-loop μ-loop
-add-result c = search needs
-
 returns : tie.Need-returns Inv-loop μ-loop
 returns c =
     let o = at-item (c .before .before .before) in
     let g = start o .args in
     let p = jump (c .before) in
     add-one (span g.s) ∙ row-none (spacing g.s) (suc (span g.s)) (take g.n g.t2) g.b (λ y h. p y (omega arith))
-
-cast-a : tie.Need-cast-a Inv-loop μ-loop
-cast-a c = search needs
 
 loop-less-2 : tie.Need-loop-less-2 Inv-loop μ-loop
 loop-less-2 c =
@@ -150,21 +110,21 @@ lowest-a-spec =
     (tie.spec
     Inv-loop
     μ-loop
-    spacing-requires
-    sub-span
+    (λ c κs. search needs)  -- spacing-requires
+    (λ c. search needs)  -- sub-span
     loop-holds
-    mul-c
-    array-copy-out-c
-    stands-apart-requires
-    cast-beyond
-    add-beyond
-    add-k
-    loop-less
+    (λ c. search needs)  -- mul-c
+    (λ c. search needs)  -- array-copy-out-c
+    (λ c κs. search needs)  -- stands-apart-requires
+    (λ c. search needs)  -- cast-beyond
+    (λ c. search needs)  -- add-beyond
+    (λ c. search needs)  -- add-k
+    (λ c. search needs)  -- loop-less
     loop-again
-    cast-if2
-    add-result
+    (λ c. search needs)  -- cast-if2
+    (λ c. search needs)  -- add-result
     returns
-    cast-a
+    (λ c. search needs)  -- cast-a
     loop-less-2
     loop-again-2
     returns-2)

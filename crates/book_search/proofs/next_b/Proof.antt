@@ -11,27 +11,12 @@ use Rattle.book_search.proofs.Loops.{NextSearched}
 use borrow.Author.Needs.{needs}
 use Rattle.book_search.proofs.next_b.Statement.{statement}
 use Rattle.book_search.proofs.next_b.Tie as tie
-use Rattle.book_search.proofs.next_b.Reads as reads
-use Rattle.book_search.proofs.next_b.Lts as lts
-use Rattle.floor.proofs.Settings.spacing.Reads as spacing-reads
 
 abbrev Inv-loop : tie.InvT-loop
 Inv-loop n b items d low next₀ k₀ next k = NextSearched items n b d next₀ next k
 
 abbrev μ-loop : tie.MeasureT-loop
 μ-loop n b items d low next₀ k₀ next k = n - k
-
-spacing-requires : tie.Need-spacing-requires Inv-loop μ-loop
-spacing-requires c κs = search needs
-
-sub-next : tie.Need-sub-next Inv-loop μ-loop
-sub-next c = search needs
-
-cast-next : tie.Need-cast-next Inv-loop μ-loop
-cast-next c = search needs
-
-add-next : tie.Need-add-next Inv-loop μ-loop
-add-next c = search needs
 
 loop-holds : tie.Need-loop-holds Inv-loop μ-loop
 loop-holds c =
@@ -44,24 +29,6 @@ loop-holds c =
       within = omega arith;
       ahead = tt;
     }
-
-mul-c : tie.Need-mul-c Inv-loop μ-loop
-mul-c c = search needs
-
-array-copy-out-c : tie.Need-array-copy-out-c Inv-loop μ-loop
-array-copy-out-c c = search needs
-
-cast-beyond : tie.Need-cast-beyond Inv-loop μ-loop
-cast-beyond c = search needs
-
-add-beyond : tie.Need-add-beyond Inv-loop μ-loop
-add-beyond c = search needs
-
-add-k : tie.Need-add-k Inv-loop μ-loop
-add-k c = search needs
-
-loop-less : tie.Need-loop-less Inv-loop μ-loop
-loop-less c = search needs
 
 loop-again : tie.Need-loop-again Inv-loop μ-loop
 loop-again c =
@@ -83,12 +50,6 @@ loop-again c =
       ahead = ahead-lower d g.b (l .next) g.t2 (l .k) (omega arith) less (i .ahead);
     }
 
-add-k-2 : tie.Need-add-k-2 Inv-loop μ-loop
-add-k-2 c = search needs
-
-loop-less-2 : tie.Need-loop-less-2 Inv-loop μ-loop
-loop-less-2 c = search needs
-
 loop-again-2 : tie.Need-loop-again-2 Inv-loop μ-loop
 loop-again-2 c =
     let p = c .before .before in
@@ -105,9 +66,6 @@ loop-again-2 c =
       ahead = ahead-stay (o .before .before .spacing .result) g.b (l .next) g.t2 (l .k) (omega arith) (c .if1 .left) (i .ahead);
     }
 
-cast-result : tie.Need-cast-result Inv-loop μ-loop
-cast-result c = search needs
-
 returns : tie.Need-returns Inv-loop μ-loop
 returns c =
     let o = c .before in
@@ -123,20 +81,20 @@ next-b-spec =
     (tie.spec
     Inv-loop
     μ-loop
-    spacing-requires
-    sub-next
-    cast-next
-    add-next
+    (λ c κs. search needs)  -- spacing-requires
+    (λ c. search needs)  -- sub-next
+    (λ c. search needs)  -- cast-next
+    (λ c. search needs)  -- add-next
     loop-holds
-    mul-c
-    array-copy-out-c
-    cast-beyond
-    add-beyond
-    add-k
-    loop-less
+    (λ c. search needs)  -- mul-c
+    (λ c. search needs)  -- array-copy-out-c
+    (λ c. search needs)  -- cast-beyond
+    (λ c. search needs)  -- add-beyond
+    (λ c. search needs)  -- add-k
+    (λ c. search needs)  -- loop-less
     loop-again
-    add-k-2
-    loop-less-2
+    (λ c. search needs)  -- add-k-2
+    (λ c. search needs)  -- loop-less-2
     loop-again-2
-    cast-result
+    (λ c. search needs)  -- cast-result
     returns)

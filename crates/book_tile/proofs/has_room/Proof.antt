@@ -11,9 +11,6 @@ use borrow.Author.Needs.{needs}
 use Rattle.book_tile.proofs.Loops.{Apart}
 use Rattle.book_tile.proofs.has_room.Statement.{statement}
 use Rattle.book_tile.proofs.has_room.Tie as tie
-use Rattle.book_tile.proofs.has_room.Reads as reads
-use Rattle.book_tile.proofs.has_room.Lts as lts
-use Rattle.check_places.proofs.stands_apart.Reads as stands-apart-reads
 
 abbrev Inv-loop : tie.InvT-loop
 Inv-loop s c n items ok₀ k₀ ok k = Apart s c n items ok k
@@ -25,21 +22,6 @@ loop-holds : tie.Need-loop-holds Inv-loop μ-loop
 loop-holds c =
     let g = c .args in
     record { below = omega arith; few = c .pre; items-length = c .good .1 .1 .0 .1 .0 .1; tested = sym (all-zero (apart (spacing g.s) g.c) g.t3) }
-
-mul-stands-apart : tie.Need-mul-stands-apart Inv-loop μ-loop
-mul-stands-apart c = search needs
-
-array-copy-out-stands-apart : tie.Need-array-copy-out-stands-apart Inv-loop μ-loop
-array-copy-out-stands-apart c = search needs
-
-stands-apart-requires : tie.Need-stands-apart-requires Inv-loop μ-loop
-stands-apart-requires c κs = search needs
-
-add-k : tie.Need-add-k Inv-loop μ-loop
-add-k c = search needs
-
-loop-less : tie.Need-loop-less Inv-loop μ-loop
-loop-less c = search needs
 
 loop-again : tie.Need-loop-again Inv-loop μ-loop
 loop-again c =
@@ -66,10 +48,10 @@ has-room-spec =
     Inv-loop
     μ-loop
     loop-holds
-    mul-stands-apart
-    array-copy-out-stands-apart
-    stands-apart-requires
-    add-k
-    loop-less
+    (λ c. search needs)  -- mul-stands-apart
+    (λ c. search needs)  -- array-copy-out-stands-apart
+    (λ c κs. search needs)  -- stands-apart-requires
+    (λ c. search needs)  -- add-k
+    (λ c. search needs)  -- loop-less
     loop-again
     returns)

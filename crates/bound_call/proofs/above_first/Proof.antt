@@ -8,22 +8,12 @@ use Rattle.bound_call.proofs.Loops.{AboveFound}
 use borrow.Author.Needs.{needs}
 use Rattle.bound_call.proofs.above_first.Statement.{statement}
 use Rattle.bound_call.proofs.above_first.Tie as tie
-use Rattle.bound_call.proofs.above_first.Reads as reads
-use Rattle.bound_call.proofs.above_first.Lts as lts
-use Rattle.bound_call.proofs.with_above.Reads as with-above-reads
-use Rattle.floor.proofs.Settings.tile_count.Reads as tile-count-reads
 
 abbrev Inv-loop : tie.InvT-loop
 Inv-loop all rows set₀ t₀ set t = AboveFound all rows set t
 
 abbrev μ-loop : tie.MeasureT-loop
 μ-loop all rows set₀ t₀ set t = all - t
-
-tile-count-requires : tie.Need-tile-count-requires Inv-loop μ-loop
-tile-count-requires c κs = search needs
-
-cast-rows : tie.Need-cast-rows Inv-loop μ-loop
-cast-rows c = search needs
 
 loop-holds : tie.Need-loop-holds Inv-loop μ-loop
 loop-holds c =
@@ -37,12 +27,6 @@ loop-holds c =
 
 with-above-requires : tie.Need-with-above-requires Inv-loop μ-loop
 with-above-requires c κs = let l = c .before .loop in (omega arith, below-fits _ (l .t) (l .inv .found), l .inv .some)
-
-add-t : tie.Need-add-t Inv-loop μ-loop
-add-t c = search needs
-
-loop-less : tie.Need-loop-less Inv-loop μ-loop
-loop-less c = search needs
 
 loop-again : tie.Need-loop-again Inv-loop μ-loop
 loop-again c =
@@ -68,11 +52,11 @@ above-first-spec =
     (tie.spec
     Inv-loop
     μ-loop
-    tile-count-requires
-    cast-rows
+    (λ c κs. search needs)  -- tile-count-requires
+    (λ c. search needs)  -- cast-rows
     loop-holds
     with-above-requires
-    add-t
-    loop-less
+    (λ c. search needs)  -- add-t
+    (λ c. search needs)  -- loop-less
     loop-again
     returns)

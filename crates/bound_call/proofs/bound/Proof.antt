@@ -8,17 +8,6 @@ use Rattle.bound_call.proofs.Counts.{k-most, bound-found, bound-refused
 use borrow.Author.Needs.{needs}
 use Rattle.bound_call.proofs.bound.Statement.{statement}
 use Rattle.bound_call.proofs.bound.Tie as tie
-use Rattle.bound_call.proofs.bound.Reads as reads
-use Rattle.bound_call.proofs.bound.Lts as lts
-use Rattle.bound_call.proofs.canisters_on.Reads as canisters-on-reads
-use Rattle.bound_call.proofs.connected_set.Reads as connected-set-reads
-use Rattle.bound_call.proofs.rounds_for.Reads as rounds-for-reads
-use Rattle.check_floor.proofs.well_formed.Reads as well-formed-reads
-use Rattle.sets.proofs.full.Reads as full-reads
-use Rattle.sets.proofs.minus.Reads as minus-reads
-
-well-formed-requires : tie.Need-well-formed-requires
-well-formed-requires c κs = search needs
 
 returns : tie.Need-returns
 returns c = bound-refused _ (sym (c .before .well-formed .ensures) ∙ not-true _ (c .if1 .taken))
@@ -32,12 +21,6 @@ connected-set-requires c κs =
     let e = c .before .before in
     let f = e .before .before .args .floor in
     (ranged (f .settings) (well-settings f (well e)), well-measured f (well e) .two)
-
-full-requires : tie.Need-full-requires
-full-requires c κs = search needs
-
-minus-requires : tie.Need-minus-requires
-minus-requires c κs = search needs
 
 canisters-on-requires : tie.Need-canisters-on-requires
 canisters-on-requires c κs =
@@ -72,11 +55,11 @@ pub bound-spec : {M : Type 1} → statement M
 bound-spec =
     tie.close
     (tie.spec
-    well-formed-requires
+    (λ c κs. search needs)  -- well-formed-requires
     returns
     connected-set-requires
-    full-requires
-    minus-requires
+    (λ c κs. search needs)  -- full-requires
+    (λ c κs. search needs)  -- minus-requires
     canisters-on-requires
     canisters-on-requires-2
     rounds-for-requires

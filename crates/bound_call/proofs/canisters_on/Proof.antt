@@ -7,19 +7,12 @@ use Rattle.bound_call.proofs.Loops.{CanistersCounted}
 use borrow.Author.Needs.{needs}
 use Rattle.bound_call.proofs.canisters_on.Statement.{statement}
 use Rattle.bound_call.proofs.canisters_on.Tie as tie
-use Rattle.bound_call.proofs.canisters_on.Reads as reads
-use Rattle.bound_call.proofs.canisters_on.Lts as lts
-use Rattle.bound_call.proofs.counted.Reads as counted-reads
-use Rattle.floor.proofs.Settings.tile_count.Reads as tile-count-reads
 
 abbrev Inv-loop : tie.InvT-loop
 Inv-loop set tiles all sum₀ t₀ sum t = CanistersCounted tiles set all sum t
 
 abbrev μ-loop : tie.MeasureT-loop
 μ-loop set tiles all sum₀ t₀ sum t = all - t
-
-tile-count-requires : tie.Need-tile-count-requires Inv-loop μ-loop
-tile-count-requires c κs = search needs
 
 loop-holds : tie.Need-loop-holds Inv-loop μ-loop
 loop-holds c =
@@ -31,24 +24,6 @@ loop-holds c =
       small = omega arith;
       counted = count-none (S .args .t2) (S .args .set);
     }
-
-mul-tile : tie.Need-mul-tile Inv-loop μ-loop
-mul-tile c = search needs
-
-array-copy-out-tile : tie.Need-array-copy-out-tile Inv-loop μ-loop
-array-copy-out-tile c = search needs
-
-counted-requires : tie.Need-counted-requires Inv-loop μ-loop
-counted-requires c κs = search needs
-
-add-sum : tie.Need-add-sum Inv-loop μ-loop
-add-sum c = search needs
-
-add-t : tie.Need-add-t Inv-loop μ-loop
-add-t c = search needs
-
-loop-less : tie.Need-loop-less Inv-loop μ-loop
-loop-less c = search needs
 
 loop-again : tie.Need-loop-again Inv-loop μ-loop
 loop-again c =
@@ -75,13 +50,13 @@ canisters-on-spec =
     (tie.spec
     Inv-loop
     μ-loop
-    tile-count-requires
+    (λ c κs. search needs)  -- tile-count-requires
     loop-holds
-    mul-tile
-    array-copy-out-tile
-    counted-requires
-    add-sum
-    add-t
-    loop-less
+    (λ c. search needs)  -- mul-tile
+    (λ c. search needs)  -- array-copy-out-tile
+    (λ c κs. search needs)  -- counted-requires
+    (λ c. search needs)  -- add-sum
+    (λ c. search needs)  -- add-t
+    (λ c. search needs)  -- loop-less
     loop-again
     returns)

@@ -9,12 +9,6 @@ use Rattle.bound_call.proofs.Loops.{PathsFound}
 use borrow.Author.Needs.{needs}
 use Rattle.bound_call.proofs.connected_set.Statement.{statement}
 use Rattle.bound_call.proofs.connected_set.Tie as tie
-use Rattle.bound_call.proofs.connected_set.Reads as reads
-use Rattle.bound_call.proofs.connected_set.Lts as lts
-use Rattle.bound_call.proofs.above_first.Reads as above-first-reads
-use Rattle.bound_call.proofs.spread.Reads as spread-reads
-use Rattle.floor.proofs.Settings.tile_count.Reads as tile-count-reads
-use Rattle.layout_parts.proofs.running_set.Reads as running-set-reads
 
 abbrev Inv-loop : tie.InvT-loop
 Inv-loop s running above passes found₀ n₀ found n = PathsFound s running above passes found n
@@ -27,9 +21,6 @@ running-set-requires c κs = c .pre .0 .2
 
 above-first-requires : tie.Need-above-first-requires Inv-loop μ-loop
 above-first-requires c κs = c .before .pre .0
-
-tile-count-requires : tie.Need-tile-count-requires Inv-loop μ-loop
-tile-count-requires c κs = search needs
 
 sub-passes : tie.Need-sub-passes Inv-loop μ-loop
 sub-passes c = omega (arith, c .tile-count .ensures, c .before .before .before .pre .1)
@@ -70,12 +61,6 @@ returns c =
     reaches-connected s running (l .inv .running-fits) _ (made-bit _ (total s) running (R .running-set .ensures)) passes (l .found) (l .inv .all)
     (reaches-all s running (l .inv .running-fits) (l .n) passes (l .found) (l .inv .reaches) same (l .inv .below))
 
-add-n : tie.Need-add-n Inv-loop μ-loop
-add-n c = search needs
-
-loop-less : tie.Need-loop-less Inv-loop μ-loop
-loop-less c = search needs
-
 loop-again : tie.Need-loop-again Inv-loop μ-loop
 loop-again c =
     let P = c .before in
@@ -110,12 +95,12 @@ connected-set-spec =
     μ-loop
     running-set-requires
     above-first-requires
-    tile-count-requires
+    (λ c κs. search needs)  -- tile-count-requires
     sub-passes
     loop-holds
     spread-requires
     returns
-    add-n
-    loop-less
+    (λ c. search needs)  -- add-n
+    (λ c. search needs)  -- loop-less
     loop-again
     returns-2)

@@ -3,9 +3,6 @@ use mathlib.Core.Path.{sym, _∙_}
 use borrow.Author.Needs.{needs}
 use Rattle.bound_call.proofs.counted.Statement.{statement}
 use Rattle.bound_call.proofs.counted.Tie as tie
-use Rattle.bound_call.proofs.counted.Reads as reads
-use Rattle.bound_call.proofs.counted.Lts as lts
-use Rattle.sets.proofs.holds.Reads as holds-reads
 
 holds-requires : tie.Need-holds-requires
 holds-requires c κs = search needs

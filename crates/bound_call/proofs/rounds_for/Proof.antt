@@ -10,9 +10,6 @@ use Rattle.bound.proofs.Few.{crossing-most, product-most}
 use borrow.Author.Needs.{needs}
 use Rattle.bound_call.proofs.rounds_for.Statement.{statement}
 use Rattle.bound_call.proofs.rounds_for.Tie as tie
-use Rattle.bound_call.proofs.rounds_for.Reads as reads
-use Rattle.bound_call.proofs.rounds_for.Lts as lts
-use Rattle.floor.proofs.Settings.tile_count.Reads as tile-count-reads
 
 measured : (c : tie.Start) → Measured (c .args .s)
 measured c = settings-fact (c .args .s) .0 (c .pre .0)
@@ -35,20 +32,11 @@ products c =
 sub-span : tie.Need-sub-span
 sub-span c = omega (arith, measured (c .before) .short)
 
-cast-crossing : tie.Need-cast-crossing
-cast-crossing c = search needs
-
-cast-crossing-2 : tie.Need-cast-crossing-2
-cast-crossing-2 c = search needs
-
 div-crossing : tie.Need-div-crossing
 div-crossing c = omega (arith, measured (c .before .before) .moving)
 
 add-crossing : tie.Need-add-crossing
 add-crossing c = omega (arith, most (c .before .before))
-
-tile-count-requires : tie.Need-tile-count-requires
-tile-count-requires c κs = search needs
 
 cast-others : tie.Need-cast-others
 cast-others c = omega (arith, few c)
@@ -74,11 +62,11 @@ rounds-for-spec =
     tie.close
     (tie.spec
     sub-span
-    cast-crossing
-    cast-crossing-2
+    (λ c. search needs)  -- cast-crossing
+    (λ c. search needs)  -- cast-crossing-2
     div-crossing
     add-crossing
-    tile-count-requires
+    (λ c κs. search needs)  -- tile-count-requires
     cast-others
     sub-others
     mul-result

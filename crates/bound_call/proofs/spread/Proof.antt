@@ -2,8 +2,6 @@ use Rattle.bound_call.proofs.Spreads.{spread-fits, spread-bit}
 use borrow.Author.Needs.{needs}
 use Rattle.bound_call.proofs.spread.Statement.{statement}
 use Rattle.bound_call.proofs.spread.Tie as tie
-use Rattle.bound_call.proofs.spread.Reads as reads
-use Rattle.bound_call.proofs.spread.Lts as lts
 
 cast-west : tie.Need-cast-west
 cast-west c = search needs

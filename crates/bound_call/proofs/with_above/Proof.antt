@@ -5,9 +5,6 @@ use Rattle.laws.proofs.Bits.{with-above}
 use borrow.Author.Needs.{needs}
 use Rattle.bound_call.proofs.with_above.Statement.{statement}
 use Rattle.bound_call.proofs.with_above.Tie as tie
-use Rattle.bound_call.proofs.with_above.Reads as reads
-use Rattle.bound_call.proofs.with_above.Lts as lts
-use Rattle.sets.proofs.with.Reads as with-reads
 
 rem-if1 : tie.Need-rem-if1
 rem-if1 c = search needs

@@ -11,23 +11,12 @@ use Rattle.call_parts.proofs.Loops.{Freshened}
 use borrow.Author.Needs.{needs}
 use Rattle.call_parts.proofs.fresh_floor.Statement.{statement}
 use Rattle.call_parts.proofs.fresh_floor.Tie as tie
-use Rattle.call_parts.proofs.fresh_floor.Reads as reads
-use Rattle.call_parts.proofs.fresh_floor.Lts as lts
-use Rattle.call_parts.proofs.fresh_tile.Reads as fresh-tile-reads
-use Rattle.floor.proofs.zero_floor.Reads as zero-floor-reads
-use Rattle.floor.proofs.Settings.tile_count.Reads as tile-count-reads
 
 abbrev Inv-loop : tie.InvT-loop
 Inv-loop s all next tiles₀ t₀ tiles t = Freshened s all tiles t
 
 abbrev μ-loop : tie.MeasureT-loop
 μ-loop s all next tiles₀ t₀ tiles t = all - t
-
-tile-count-requires : tie.Need-tile-count-requires Inv-loop μ-loop
-tile-count-requires c κs = search needs
-
-zero-floor-requires : tie.Need-zero-floor-requires Inv-loop μ-loop
-zero-floor-requires c κs = search needs
 
 loop-holds : tie.Need-loop-holds Inv-loop μ-loop
 loop-holds c =
@@ -40,21 +29,6 @@ loop-holds c =
       fresh = λ i h. absurd (omega arith);
       rest = λ i h. zero-tiles (z .result) (z .ensures) i;
     }
-
-fresh-tile-requires : tie.Need-fresh-tile-requires Inv-loop μ-loop
-fresh-tile-requires c κs = search needs
-
-mul-tiles : tie.Need-mul-tiles Inv-loop μ-loop
-mul-tiles c = search needs
-
-array-set-from-tiles : tie.Need-array-set-from-tiles Inv-loop μ-loop
-array-set-from-tiles c = search needs
-
-add-t : tie.Need-add-t Inv-loop μ-loop
-add-t c = search needs
-
-loop-less : tie.Need-loop-less Inv-loop μ-loop
-loop-less c = search needs
 
 loop-again : tie.Need-loop-again Inv-loop μ-loop
 loop-again c =
@@ -76,13 +50,13 @@ fresh-floor-spec =
     (tie.spec
     Inv-loop
     μ-loop
-    tile-count-requires
-    zero-floor-requires
+    (λ c κs. search needs)  -- tile-count-requires
+    (λ c κs. search needs)  -- zero-floor-requires
     loop-holds
-    fresh-tile-requires
-    mul-tiles
-    array-set-from-tiles
-    add-t
-    loop-less
+    (λ c κs. search needs)  -- fresh-tile-requires
+    (λ c. search needs)  -- mul-tiles
+    (λ c. search needs)  -- array-set-from-tiles
+    (λ c. search needs)  -- add-t
+    (λ c. search needs)  -- loop-less
     loop-again
     returns)

@@ -4,9 +4,6 @@ use Rattle.call_parts.proofs.Packed.{fresh-hopper, fresh-other}
 use borrow.Author.Needs.{needs}
 use Rattle.call_parts.proofs.fresh_tile.Statement.{statement}
 use Rattle.call_parts.proofs.fresh_tile.Tie as tie
-use Rattle.call_parts.proofs.fresh_tile.Reads as reads
-use Rattle.call_parts.proofs.fresh_tile.Lts as lts
-use Rattle.sets.proofs.holds.Reads as holds-reads
 
 holds-requires : tie.Need-holds-requires
 holds-requires c κs = search needs

@@ -3,9 +3,6 @@ use Rattle.call_parts.proofs.Tests.{read-4, read-0}
 use borrow.Author.Needs.{needs}
 use Rattle.call_parts.proofs.read_refusal.Statement.{statement}
 use Rattle.call_parts.proofs.read_refusal.Tie as tie
-use Rattle.call_parts.proofs.read_refusal.Reads as reads
-use Rattle.call_parts.proofs.read_refusal.Lts as lts
-use Rattle.floor.proofs.Settings.tile_count.Reads as tile-count-reads
 
 tile-count-requires : tie.Need-tile-count-requires
 tile-count-requires c κs = search needs

@@ -2,10 +2,6 @@ use Rattle.call_parts.proofs.Tests.{is-tile, repair-4, repair-32, repai
 use borrow.Author.Needs.{needs}
 use Rattle.call_parts.proofs.repair_refusal.Statement.{statement}
 use Rattle.call_parts.proofs.repair_refusal.Tie as tie
-use Rattle.call_parts.proofs.repair_refusal.Reads as reads
-use Rattle.call_parts.proofs.repair_refusal.Lts as lts
-use Rattle.call_parts.proofs.tile_head.Reads as tile-head-reads
-use Rattle.floor.proofs.Settings.tile_count.Reads as tile-count-reads
 
 tile-count-requires : tie.Need-tile-count-requires
 tile-count-requires c κs = search needs

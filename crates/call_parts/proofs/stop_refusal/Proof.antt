@@ -2,11 +2,6 @@ use Rattle.call_parts.proofs.Tests.{is-tile, stop-4, stop-8, stop-31, s
 use borrow.Author.Needs.{needs}
 use Rattle.call_parts.proofs.stop_refusal.Statement.{statement}
 use Rattle.call_parts.proofs.stop_refusal.Tie as tie
-use Rattle.call_parts.proofs.stop_refusal.Reads as reads
-use Rattle.call_parts.proofs.stop_refusal.Lts as lts
-use Rattle.sets.proofs.holds.Reads as holds-reads
-use Rattle.call_parts.proofs.tile_head.Reads as tile-head-reads
-use Rattle.floor.proofs.Settings.tile_count.Reads as tile-count-reads
 
 tile-count-requires : tie.Need-tile-count-requires
 tile-count-requires c κs = search needs

@@ -6,9 +6,6 @@ use Rattle.call_parts.proofs.Tests.{stop-on}
 use borrow.Author.Needs.{needs}
 use Rattle.call_parts.proofs.stopped_floor.Statement.{statement}
 use Rattle.call_parts.proofs.stopped_floor.Tie as tie
-use Rattle.call_parts.proofs.stopped_floor.Reads as reads
-use Rattle.call_parts.proofs.stopped_floor.Lts as lts
-use Rattle.call_parts.proofs.tile_head.Reads as tile-head-reads
 
 tile-head-requires : tie.Need-tile-head-requires
 tile-head-requires c κs = let g = c .args in (c .pre .0, stop-on g.floor g.tile (c .pre .1))

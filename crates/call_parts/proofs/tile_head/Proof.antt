@@ -4,8 +4,6 @@ use Rattle.floor.proofs.Sized.{tiles-length}
 use borrow.Author.Needs.{needs}
 use Rattle.call_parts.proofs.tile_head.Statement.{statement}
 use Rattle.call_parts.proofs.tile_head.Tie as tie
-use Rattle.call_parts.proofs.tile_head.Reads as reads
-use Rattle.call_parts.proofs.tile_head.Lts as lts
 
 mul-result : tie.Need-mul-result
 mul-result c = search needs

@@ -11,8 +11,6 @@ use Rattle.call_parts.proofs.Loops.{Copied}
 use borrow.Author.Needs.{needs}
 use Rattle.call_parts.proofs.tile_members.Statement.{statement}
 use Rattle.call_parts.proofs.tile_members.Tie as tie
-use Rattle.call_parts.proofs.tile_members.Reads as reads
-use Rattle.call_parts.proofs.tile_members.Lts as lts
 
 abbrev Inv-loop : tie.InvT-loop
 Inv-loop tile floor t items₀ k₀ items k = Copied (floor .canisters) tile items k
@@ -30,30 +28,6 @@ loop-holds c =
       items-length = length-replicate 16 zeroCanister;
       copied = λ i h. absurd (omega arith);
     }
-
-mul-items : tie.Need-mul-items Inv-loop μ-loop
-mul-items c = search needs
-
-add-items : tie.Need-add-items Inv-loop μ-loop
-add-items c = search needs
-
-mul-items-2 : tie.Need-mul-items-2 Inv-loop μ-loop
-mul-items-2 c = search needs
-
-element-copy-out-items : tie.Need-element-copy-out-items Inv-loop μ-loop
-element-copy-out-items c = search needs
-
-mul-items-3 : tie.Need-mul-items-3 Inv-loop μ-loop
-mul-items-3 c = search needs
-
-array-set-from-items : tie.Need-array-set-from-items Inv-loop μ-loop
-array-set-from-items c = search needs
-
-add-k : tie.Need-add-k Inv-loop μ-loop
-add-k c = search needs
-
-loop-less : tie.Need-loop-less Inv-loop μ-loop
-loop-less c = search needs
 
 loop-again : tie.Need-loop-again Inv-loop μ-loop
 loop-again c =
@@ -82,13 +56,13 @@ tile-members-spec =
     Inv-loop
     μ-loop
     loop-holds
-    mul-items
-    add-items
-    mul-items-2
-    element-copy-out-items
-    mul-items-3
-    array-set-from-items
-    add-k
-    loop-less
+    (λ c. search needs)  -- mul-items
+    (λ c. search needs)  -- add-items
+    (λ c. search needs)  -- mul-items-2
+    (λ c. search needs)  -- element-copy-out-items
+    (λ c. search needs)  -- mul-items-3
+    (λ c. search needs)  -- array-set-from-items
+    (λ c. search needs)  -- add-k
+    (λ c. search needs)  -- loop-less
     loop-again
     returns)

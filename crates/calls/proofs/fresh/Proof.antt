@@ -4,11 +4,6 @@ use Rattle.calls.proofs.Answers.{fresh-refused, fresh-accepted}
 use borrow.Author.Needs.{needs}
 use Rattle.calls.proofs.fresh.Statement.{statement}
 use Rattle.calls.proofs.fresh.Tie as tie
-use Rattle.calls.proofs.fresh.Reads as reads
-use Rattle.calls.proofs.fresh.Lts as lts
-use Rattle.call_parts.proofs.fresh_floor.Reads as fresh-floor-reads
-use Rattle.floor.proofs.zero_floor.Reads as zero-floor-reads
-use Rattle.check_settings.proofs.settings_refusal.Reads as settings-refusal-reads
 
 settings-refusal-requires : tie.Need-settings-refusal-requires
 settings-refusal-requires c κs = search needs

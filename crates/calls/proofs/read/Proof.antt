@@ -9,19 +9,6 @@ use Rattle.calls.proofs.Answers.{read-refused, read-accepted}
 use borrow.Author.Needs.{needs}
 use Rattle.calls.proofs.read.Statement.{statement}
 use Rattle.calls.proofs.read.Tie as tie
-use Rattle.calls.proofs.read.Reads as reads
-use Rattle.calls.proofs.read.Lts as lts
-use Rattle.calls.proofs.unread.Reads as unread-reads
-use Rattle.call_parts.proofs.read_refusal.Reads as read-refusal-reads
-use Rattle.call_parts.proofs.tile_head.Reads as tile-head-reads
-use Rattle.call_parts.proofs.tile_members.Reads as tile-members-reads
-use Rattle.check_floor.proofs.well_formed.Reads as well-formed-reads
-
-well-formed-requires : tie.Need-well-formed-requires
-well-formed-requires c κs = search needs
-
-unread-requires : tie.Need-unread-requires
-unread-requires c κs = search needs
 
 returns : tie.Need-returns
 returns c =
@@ -34,9 +21,6 @@ well c = sym (c .before .well-formed .ensures) ∙ not-false _ (c .if1 .left)
 
 read-refusal-requires : tie.Need-read-refusal-requires
 read-refusal-requires c κs = well c
-
-unread-requires-2 : tie.Need-unread-requires-2
-unread-requires-2 c κs = search needs
 
 returns-2 : tie.Need-returns-2
 returns-2 c =
@@ -60,11 +44,11 @@ pub read-spec : {M : Type 1} → statement M
 read-spec =
     tie.close
     (tie.spec
-    well-formed-requires
-    unread-requires
+    (λ c κs. search needs)  -- well-formed-requires
+    (λ c κs. search needs)  -- unread-requires
     returns
     read-refusal-requires
-    unread-requires-2
+    (λ c κs. search needs)  -- unread-requires-2
     returns-2
     tile-head-requires
     tile-members-requires

@@ -7,14 +7,6 @@ use Rattle.floor.proofs.Answers.{answer-malformed, answer-refused, answer-accep
 use borrow.Author.Needs.{needs}
 use Rattle.calls.proofs.repair.Statement.{statement}
 use Rattle.calls.proofs.repair.Tie as tie
-use Rattle.calls.proofs.repair.Reads as reads
-use Rattle.calls.proofs.repair.Lts as lts
-use Rattle.call_parts.proofs.repair_refusal.Reads as repair-refusal-reads
-use Rattle.call_parts.proofs.repaired_floor.Reads as repaired-floor-reads
-use Rattle.check_floor.proofs.well_formed.Reads as well-formed-reads
-
-well-formed-requires : tie.Need-well-formed-requires
-well-formed-requires c κs = search needs
 
 returns : tie.Need-returns
 unfolding repairAnswer
@@ -44,7 +36,7 @@ pub repair-spec : {M : Type 1} → statement M
 repair-spec =
     tie.close
     (tie.spec
-    well-formed-requires
+    (λ c κs. search needs)  -- well-formed-requires
     returns
     repair-refusal-requires
     returns-2

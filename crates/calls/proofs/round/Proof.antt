@@ -5,13 +5,6 @@ use Rattle.calls.proofs.Answers.{round-refused}
 use borrow.Author.Needs.{needs}
 use Rattle.calls.proofs.round.Statement.{statement}
 use Rattle.calls.proofs.round.Tie as tie
-use Rattle.calls.proofs.round.Reads as reads
-use Rattle.calls.proofs.round.Lts as lts
-use Rattle.round_move.proofs.run_round.Reads as run-round-reads
-use Rattle.check_floor.proofs.well_formed.Reads as well-formed-reads
-
-well-formed-requires : tie.Need-well-formed-requires
-well-formed-requires c κs = search needs
 
 returns : tie.Need-returns
 unfolding zeroReport
@@ -28,7 +21,7 @@ pub round-spec : {M : Type 1} → statement M
 round-spec =
     tie.close
     (tie.spec
-    well-formed-requires
+    (λ c κs. search needs)  -- well-formed-requires
     returns
     run-round-requires
     returns-2)

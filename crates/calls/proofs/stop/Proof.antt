@@ -7,14 +7,6 @@ use Rattle.floor.proofs.Answers.{answer-malformed, answer-refused, answer-accep
 use borrow.Author.Needs.{needs}
 use Rattle.calls.proofs.stop.Statement.{statement}
 use Rattle.calls.proofs.stop.Tie as tie
-use Rattle.calls.proofs.stop.Reads as reads
-use Rattle.calls.proofs.stop.Lts as lts
-use Rattle.call_parts.proofs.stop_refusal.Reads as stop-refusal-reads
-use Rattle.call_parts.proofs.stopped_floor.Reads as stopped-floor-reads
-use Rattle.check_floor.proofs.well_formed.Reads as well-formed-reads
-
-well-formed-requires : tie.Need-well-formed-requires
-well-formed-requires c κs = search needs
 
 returns : tie.Need-returns
 unfolding stopAnswer
@@ -44,7 +36,7 @@ pub stop-spec : {M : Type 1} → statement M
 stop-spec =
     tie.close
     (tie.spec
-    well-formed-requires
+    (λ c κs. search needs)  -- well-formed-requires
     returns
     stop-refusal-requires
     returns-2

@@ -2,8 +2,6 @@ use mathlib.Core.Path.{refl}
 use Rattle.calls.specs.Refused.{unreadWith}
 use Rattle.calls.proofs.unread.Statement.{statement}
 use Rattle.calls.proofs.unread.Tie as tie
-use Rattle.calls.proofs.unread.Reads as reads
-use Rattle.calls.proofs.unread.Lts as lts
 
 returns : tie.Need-returns
 unfolding unreadWith

@@ -10,55 +10,6 @@ use Rattle.floor.proofs.Sized.{delivered-length}
 use borrow.Author.Needs.{needs}
 use Rattle.check_floor.proofs.counters_ok.Statement.{statement}
 use Rattle.check_floor.proofs.counters_ok.Tie as tie
-use Rattle.check_floor.proofs.counters_ok.Reads as reads
-use Rattle.check_floor.proofs.counters_ok.Lts as lts
-use Rattle.sets.proofs.size.Reads as size-reads
-use Rattle.check_floor.proofs.wide.Reads as wide-reads
-
-size-requires : tie.Need-size-requires
-size-requires c κs = search needs
-
-array-read-d0 : tie.Need-array-read-d0
-array-read-d0 c = search needs
-
-array-read-d1 : tie.Need-array-read-d1
-array-read-d1 c = search needs
-
-array-read-d2 : tie.Need-array-read-d2
-array-read-d2 c = search needs
-
-array-read-d3 : tie.Need-array-read-d3
-array-read-d3 c = search needs
-
-wide-requires : tie.Need-wide-requires
-wide-requires c κs = search needs
-
-wide-requires-2 : tie.Need-wide-requires-2
-wide-requires-2 c κs = search needs
-
-add-sum : tie.Need-add-sum
-add-sum c = search needs
-
-wide-requires-3 : tie.Need-wide-requires-3
-wide-requires-3 c κs = search needs
-
-add-sum-2 : tie.Need-add-sum-2
-add-sum-2 c = search needs
-
-wide-requires-4 : tie.Need-wide-requires-4
-wide-requires-4 c κs = search needs
-
-add-sum-3 : tie.Need-add-sum-3
-add-sum-3 c = search needs
-
-wide-requires-5 : tie.Need-wide-requires-5
-wide-requires-5 c κs = search needs
-
-add-sum-4 : tie.Need-add-sum-4
-add-sum-4 c = search needs
-
-cast-booked : tie.Need-cast-booked
-cast-booked c = search needs
 
 returns : tie.Need-returns
 unfolding hoppersOf
@@ -75,19 +26,19 @@ pub counters-ok-spec : {M : Type 1} → statement M
 counters-ok-spec =
     tie.close
     (tie.spec
-    size-requires
-    array-read-d0
-    array-read-d1
-    array-read-d2
-    array-read-d3
-    wide-requires
-    wide-requires-2
-    add-sum
-    wide-requires-3
-    add-sum-2
-    wide-requires-4
-    add-sum-3
-    wide-requires-5
-    add-sum-4
-    cast-booked
+    (λ c κs. search needs)  -- size-requires
+    (λ c. search needs)  -- array-read-d0
+    (λ c. search needs)  -- array-read-d1
+    (λ c. search needs)  -- array-read-d2
+    (λ c. search needs)  -- array-read-d3
+    (λ c κs. search needs)  -- wide-requires
+    (λ c κs. search needs)  -- wide-requires-2
+    (λ c. search needs)  -- add-sum
+    (λ c κs. search needs)  -- wide-requires-3
+    (λ c. search needs)  -- add-sum-2
+    (λ c κs. search needs)  -- wide-requires-4
+    (λ c. search needs)  -- add-sum-3
+    (λ c κs. search needs)  -- wide-requires-5
+    (λ c. search needs)  -- add-sum-4
+    (λ c. search needs)  -- cast-booked
     returns)

@@ -2,11 +2,6 @@ use Rattle.check_floor.proofs.Branches.{head-off, head-in, head-on}
 use borrow.Author.Needs.{needs}
 use Rattle.check_floor.proofs.head_test.Statement.{statement}
 use Rattle.check_floor.proofs.head_test.Tie as tie
-use Rattle.check_floor.proofs.head_test.Reads as reads
-use Rattle.check_floor.proofs.head_test.Lts as lts
-use Rattle.check_heads.proofs.head_fits.Reads as head-fits-reads
-use Rattle.check_heads.proofs.head_ok.Reads as head-ok-reads
-use Rattle.floor.proofs.Settings.tile_count.Reads as tile-count-reads
 
 head-fits-requires : tie.Need-head-fits-requires
 head-fits-requires c κs = search needs

@@ -173,9 +173,6 @@ loop-again c =
       tested = below-step (firstTest f) t (o .loop .inv .tested) (sym (not-false _ (c .before .if2 .left)) ∙ first j);
     }
 
-counters-ok-requires : tie.Need-counters-ok-requires Inv-loop2 μ-loop2 Inv-loop μ-loop Inv-loop4 μ-loop4 Inv-loop5 μ-loop5 Inv-loop6 μ-loop6 Inv-loop3 μ-loop3
-counters-ok-requires c κs = search needs
-
 returns-2 : tie.Need-returns-2 Inv-loop2 μ-loop2 Inv-loop μ-loop Inv-loop4 μ-loop4 Inv-loop5 μ-loop5 Inv-loop6 μ-loop6 Inv-loop3 μ-loop3
 returns-2 c =
     let over = c .before .before in
@@ -342,7 +339,7 @@ scan-spec =
     (λ c. search needs)  -- add-t
     (λ c. search needs)  -- loop-less
     loop-again
-    counters-ok-requires
+    (λ c κs. search needs)  -- counters-ok-requires
     returns-2
     loop3-holds
     (λ c. search needs)  -- mul-g

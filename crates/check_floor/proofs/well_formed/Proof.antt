@@ -8,17 +8,9 @@ use Rattle.check_floor.proofs.WellCode.{well-refused, state-off, layout
 use borrow.Author.Needs.{needs}
 use Rattle.check_floor.proofs.well_formed.Statement.{statement}
 use Rattle.check_floor.proofs.well_formed.Tie as tie
-use Rattle.check_floor.proofs.well_formed.Reads as reads
-use Rattle.check_floor.proofs.well_formed.Lts as lts
-use Rattle.check_layouts.proofs.layouts_ok.Reads as layouts-ok-reads
-use Rattle.check_settings.proofs.settings_refusal.Reads as settings-refusal-reads
-use Rattle.check_floor.proofs.scan.Reads as scan-reads
 
 abbrev start : tie.After-layouts-ok → tie.Start
 start c = let p = c .before .before in p .before .before .before
-
-settings-refusal-requires : tie.Need-settings-refusal-requires
-settings-refusal-requires c κs = search needs
 
 returns : tie.Need-returns
 returns c =
@@ -48,7 +40,7 @@ pub well-formed-spec : {M : Type 1} → statement M
 well-formed-spec =
     tie.close
     (tie.spec
-    settings-refusal-requires
+    (λ c κs. search needs)  -- settings-refusal-requires
     returns
     layouts-ok-requires
     returns-2

@@ -2,10 +2,6 @@ use Rattle.floor.specs.Well.{faces}
 use borrow.Author.Needs.{needs}
 use Rattle.check_heads.proofs.faces_ok.Statement.{statement}
 use Rattle.check_heads.proofs.faces_ok.Tie as tie
-use Rattle.check_heads.proofs.faces_ok.Reads as reads
-use Rattle.check_heads.proofs.faces_ok.Lts as lts
-use Rattle.floor.proofs.Side.neighbour.Reads as neighbour-reads
-use Rattle.floor.proofs.Settings.tile_count.Reads as tile-count-reads
 
 tile-count-requires : tie.Need-tile-count-requires
 tile-count-requires c κs = search needs

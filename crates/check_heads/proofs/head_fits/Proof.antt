@@ -8,10 +8,6 @@ use Rattle.floor.specs.Memory.{isZeroTile, headFits}
 use borrow.Author.Needs.{needs}
 use Rattle.check_heads.proofs.head_fits.Statement.{statement}
 use Rattle.check_heads.proofs.head_fits.Tie as tie
-use Rattle.check_heads.proofs.head_fits.Reads as reads
-use Rattle.check_heads.proofs.head_fits.Lts as lts
-use Rattle.floor.proofs.Settings.tile_count.Reads as tile-count-reads
-use Rattle.check_heads.proofs.is_zero_tile.Reads as is-zero-tile-reads
 
 tile-count-requires : tie.Need-tile-count-requires
 tile-count-requires c κs = search needs

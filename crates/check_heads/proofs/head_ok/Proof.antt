@@ -2,10 +2,6 @@ use Rattle.floor.specs.Well.{headSound}
 use borrow.Author.Needs.{needs}
 use Rattle.check_heads.proofs.head_ok.Statement.{statement}
 use Rattle.check_heads.proofs.head_ok.Tie as tie
-use Rattle.check_heads.proofs.head_ok.Reads as reads
-use Rattle.check_heads.proofs.head_ok.Lts as lts
-use Rattle.check_heads.proofs.faces_ok.Reads as faces-ok-reads
-use Rattle.check_heads.proofs.own_ok.Reads as own-ok-reads
 
 own-ok-requires : tie.Need-own-ok-requires
 own-ok-requires c κs = search needs

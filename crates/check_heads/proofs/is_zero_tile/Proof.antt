@@ -2,8 +2,6 @@ use mathlib.Core.Path.{refl}
 use Rattle.floor.specs.Memory.{isZeroTile}
 use Rattle.check_heads.proofs.is_zero_tile.Statement.{statement}
 use Rattle.check_heads.proofs.is_zero_tile.Tie as tie
-use Rattle.check_heads.proofs.is_zero_tile.Reads as reads
-use Rattle.check_heads.proofs.is_zero_tile.Lts as lts
 
 returns : tie.Need-returns
 unfolding isZeroTile

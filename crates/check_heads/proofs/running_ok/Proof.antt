@@ -2,9 +2,6 @@ use Rattle.floor.specs.Well.{runningSound}
 use borrow.Author.Needs.{needs}
 use Rattle.check_heads.proofs.running_ok.Statement.{statement}
 use Rattle.check_heads.proofs.running_ok.Tie as tie
-use Rattle.check_heads.proofs.running_ok.Reads as reads
-use Rattle.check_heads.proofs.running_ok.Lts as lts
-use Rattle.floor.proofs.Settings.tile_count.Reads as tile-count-reads
 
 tile-count-requires : tie.Need-tile-count-requires
 tile-count-requires c κs = search needs

@@ -2,8 +2,6 @@ use mathlib.Core.Path.{refl}
 use Rattle.floor.specs.Well.{stoppedSound}
 use Rattle.check_heads.proofs.stopped_ok.Statement.{statement}
 use Rattle.check_heads.proofs.stopped_ok.Tie as tie
-use Rattle.check_heads.proofs.stopped_ok.Reads as reads
-use Rattle.check_heads.proofs.stopped_ok.Lts as lts
 
 returns : tie.Need-returns
 unfolding stoppedSound

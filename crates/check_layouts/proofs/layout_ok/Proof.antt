@@ -4,12 +4,6 @@ use Rattle.check_layouts.proofs.Tests.{layout-code}
 use borrow.Author.Needs.{needs}
 use Rattle.check_layouts.proofs.layout_ok.Statement.{statement}
 use Rattle.check_layouts.proofs.layout_ok.Tie as tie
-use Rattle.check_layouts.proofs.layout_ok.Reads as reads
-use Rattle.check_layouts.proofs.layout_ok.Lts as lts
-use Rattle.check_layouts.proofs.name_ok.Reads as name-ok-reads
-use Rattle.sets.proofs.meets.Reads as meets-reads
-use Rattle.sets.proofs.minus.Reads as minus-reads
-use Rattle.sets.proofs.within.Reads as within-reads
 
 mul-all : tie.Need-mul-all
 mul-all c = omega (arith, settings-fact (c .before .args .s) .0 (c .before .pre) .few)

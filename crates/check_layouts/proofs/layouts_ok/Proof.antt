@@ -8,9 +8,6 @@ use Rattle.check_layouts.proofs.Loops.{PlacesPassed}
 use borrow.Author.Needs.{needs}
 use Rattle.check_layouts.proofs.layouts_ok.Statement.{statement}
 use Rattle.check_layouts.proofs.layouts_ok.Tie as tie
-use Rattle.check_layouts.proofs.layouts_ok.Reads as reads
-use Rattle.check_layouts.proofs.layouts_ok.Lts as lts
-use Rattle.check_layouts.proofs.place_ok.Reads as place-ok-reads
 
 abbrev Inv-loop : tie.InvT-loop
 Inv-loop s layouts above₀ j₀ above j = PlacesPassed s layouts above j
@@ -25,18 +22,6 @@ loop-holds c = record {
   passed = λ i a b. absurd (omega arith);
 }
 
-sub-k : tie.Need-sub-k Inv-loop μ-loop
-sub-k c = search needs
-
-mul-x : tie.Need-mul-x Inv-loop μ-loop
-mul-x c = search needs
-
-array-copy-out-x : tie.Need-array-copy-out-x Inv-loop μ-loop
-array-copy-out-x c = search needs
-
-place-ok-requires : tie.Need-place-ok-requires Inv-loop μ-loop
-place-ok-requires c κs = search needs
-
 returns : tie.Need-returns Inv-loop μ-loop
 returns c =
     let i = c .before .before in
@@ -46,12 +31,6 @@ returns c =
     let on : l .j < 8 = omega arith in
     let e = place-tested (S .args .s) (S .args .t2) (7 - l .j) (8 - l .j) (l .above) (omega arith) (l .inv .named) in
     one-fails (placeTest (S .args .s) (S .args .t2)) (7 - l .j) (omega arith) (sym e ∙ sym (c .before .place-ok .ensures) ∙ not-true _ (c .if1 .taken))
-
-add-j : tie.Need-add-j Inv-loop μ-loop
-add-j c = search needs
-
-loop-less : tie.Need-loop-less Inv-loop μ-loop
-loop-less c = search needs
 
 loop-again : tie.Need-loop-again Inv-loop μ-loop
 loop-again c =
@@ -82,12 +61,12 @@ layouts-ok-spec =
     Inv-loop
     μ-loop
     loop-holds
-    sub-k
-    mul-x
-    array-copy-out-x
-    place-ok-requires
+    (λ c. search needs)  -- sub-k
+    (λ c. search needs)  -- mul-x
+    (λ c. search needs)  -- array-copy-out-x
+    (λ c κs. search needs)  -- place-ok-requires
     returns
-    add-j
-    loop-less
+    (λ c. search needs)  -- add-j
+    (λ c. search needs)  -- loop-less
     loop-again
     returns-2)

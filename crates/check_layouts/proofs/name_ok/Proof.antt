@@ -3,8 +3,6 @@ use Rattle.check_layouts.proofs.Tests.{eight-bytes, name-code}
 use borrow.Author.Needs.{needs}
 use Rattle.check_layouts.proofs.name_ok.Statement.{statement}
 use Rattle.check_layouts.proofs.name_ok.Tie as tie
-use Rattle.check_layouts.proofs.name_ok.Reads as reads
-use Rattle.check_layouts.proofs.name_ok.Lts as lts
 
 returns : tie.Need-returns
 returns c =

@@ -3,9 +3,6 @@ use Rattle.floor.specs.Well.{placeOk}
 use borrow.Author.Needs.{needs}
 use Rattle.check_layouts.proofs.place_ok.Statement.{statement}
 use Rattle.check_layouts.proofs.place_ok.Tie as tie
-use Rattle.check_layouts.proofs.place_ok.Reads as reads
-use Rattle.check_layouts.proofs.place_ok.Lts as lts
-use Rattle.check_layouts.proofs.layout_ok.Reads as layout-ok-reads
 
 returns : tie.Need-returns
 unfolding placeOk

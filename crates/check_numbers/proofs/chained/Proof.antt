@@ -6,9 +6,6 @@ use Rattle.check_numbers.proofs.Chain.{at, Unlike, Unseen, Linked, Foll
 use borrow.Author.Needs.{needs}
 use Rattle.check_numbers.proofs.chained.Statement.{statement}
 use Rattle.check_numbers.proofs.chained.Tie as tie
-use Rattle.check_numbers.proofs.chained.Reads as reads
-use Rattle.check_numbers.proofs.chained.Lts as lts
-use Rattle.check_numbers.proofs.wide.Reads as wide-reads
 
 abbrev Inv-loop2 : tie.InvT-loop2
 Inv-loop2 keys heads prev left₀ i n h first p₀ left p = Following keys heads prev n p i
@@ -40,21 +37,6 @@ loop-holds c = record {
   unlike = λ j k a b. absurd (omega arith);
 }
 
-mul-n : tie.Need-mul-n Inv-loop2 μ-loop2 Inv-loop μ-loop
-mul-n c = search needs
-
-array-read-n : tie.Need-array-read-n Inv-loop2 μ-loop2 Inv-loop μ-loop
-array-read-n c = search needs
-
-mul-i : tie.Need-mul-i Inv-loop2 μ-loop2 Inv-loop μ-loop
-mul-i c = search needs
-
-add-i : tie.Need-add-i Inv-loop2 μ-loop2 Inv-loop μ-loop
-add-i c = search needs
-
-loop-less : tie.Need-loop-less Inv-loop2 μ-loop2 Inv-loop μ-loop
-loop-less c = search needs
-
 loop-again : tie.Need-loop-again Inv-loop2 μ-loop2 Inv-loop μ-loop
 loop-again c =
     let l = c .before .before .loop in
@@ -72,18 +54,6 @@ loop-again c =
       unlike = unlike-zero g.t1 (l .i) n z (v .unlike);
     }
 
-cast-h : tie.Need-cast-h Inv-loop2 μ-loop2 Inv-loop μ-loop
-cast-h c = search needs
-
-mul-first : tie.Need-mul-first Inv-loop2 μ-loop2 Inv-loop μ-loop
-mul-first c = search needs
-
-array-read-first : tie.Need-array-read-first Inv-loop2 μ-loop2 Inv-loop μ-loop
-array-read-first c = search needs
-
-wide-requires : tie.Need-wide-requires Inv-loop2 μ-loop2 Inv-loop μ-loop
-wide-requires c κs = search needs
-
 loop2-holds : tie.Need-loop2-holds Inv-loop2 μ-loop2 Inv-loop μ-loop
 loop2-holds c =
     let p = c .before .before .before in
@@ -94,15 +64,6 @@ loop2-holds c =
     let v = l .inv in
     record { here = omega arith; below = u .0; keys-length = v .keys-length; heads-length = v .heads-length; prev-length = v .prev-length; unseen = u }
 
-sub-q : tie.Need-sub-q Inv-loop2 μ-loop2 Inv-loop μ-loop
-sub-q c = search needs
-
-mul-if2 : tie.Need-mul-if2 Inv-loop2 μ-loop2 Inv-loop μ-loop
-mul-if2 c = search needs
-
-array-read-if2 : tie.Need-array-read-if2 Inv-loop2 μ-loop2 Inv-loop μ-loop
-array-read-if2 c = search needs
-
 returns : tie.Need-returns Inv-loop2 μ-loop2 Inv-loop μ-loop
 returns c =
     let z = c .before .before in
@@ -111,18 +72,6 @@ returns c =
 
 returns-2 : tie.Need-returns-2 Inv-loop2 μ-loop2 Inv-loop μ-loop
 returns-2 c = (λ e. absurd (omega (arith, e)), λ e. absurd (omega (arith, e)))
-
-sub-left : tie.Need-sub-left Inv-loop2 μ-loop2 Inv-loop μ-loop
-sub-left c = search needs
-
-mul-before : tie.Need-mul-before Inv-loop2 μ-loop2 Inv-loop μ-loop
-mul-before c = search needs
-
-array-read-before : tie.Need-array-read-before Inv-loop2 μ-loop2 Inv-loop μ-loop
-array-read-before c = search needs
-
-wide-requires-2 : tie.Need-wide-requires-2 Inv-loop2 μ-loop2 Inv-loop μ-loop
-wide-requires-2 c κs = search needs
 
 loop2-less : tie.Need-loop2-less Inv-loop2 μ-loop2 Inv-loop μ-loop
 loop2-less c =
@@ -146,30 +95,6 @@ loop2-again c =
     let u : Unseen g.t1 (at g.t1 (o .i)) (c .wide2 .result) (o .i) = subst (λ (x : ℕ). Unseen g.t1 (at g.t1 (o .i)) x (o .i)) (sym (c .wide2 .ensures)) next in
     let v = l .inv in
     record { here = v .here; below = u .0; keys-length = v .keys-length; heads-length = v .heads-length; prev-length = v .prev-length; unseen = u }
-
-mul-prev : tie.Need-mul-prev Inv-loop2 μ-loop2 Inv-loop μ-loop
-mul-prev c = search needs
-
-array-write-prev : tie.Need-array-write-prev Inv-loop2 μ-loop2 Inv-loop μ-loop
-array-write-prev c = search needs
-
-add-heads : tie.Need-add-heads Inv-loop2 μ-loop2 Inv-loop μ-loop
-add-heads c = search needs
-
-cast-heads : tie.Need-cast-heads Inv-loop2 μ-loop2 Inv-loop μ-loop
-cast-heads c = search needs
-
-mul-heads : tie.Need-mul-heads Inv-loop2 μ-loop2 Inv-loop μ-loop
-mul-heads c = search needs
-
-array-write-heads : tie.Need-array-write-heads Inv-loop2 μ-loop2 Inv-loop μ-loop
-array-write-heads c = search needs
-
-add-i-2 : tie.Need-add-i-2 Inv-loop2 μ-loop2 Inv-loop μ-loop
-add-i-2 c = search needs
-
-loop-less-2 : tie.Need-loop-less-2 Inv-loop2 μ-loop2 Inv-loop μ-loop
-loop-less-2 c = search needs
 
 loop-again-2 : tie.Need-loop-again-2 Inv-loop2 μ-loop2 Inv-loop μ-loop
 loop-again-2 c =
@@ -206,35 +131,35 @@ chained-spec =
     Inv-loop
     μ-loop
     loop-holds
-    mul-n
-    array-read-n
-    mul-i
-    add-i
-    loop-less
+    (λ c. search needs)  -- mul-n
+    (λ c. search needs)  -- array-read-n
+    (λ c. search needs)  -- mul-i
+    (λ c. search needs)  -- add-i
+    (λ c. search needs)  -- loop-less
     loop-again
-    cast-h
-    mul-first
-    array-read-first
-    wide-requires
+    (λ c. search needs)  -- cast-h
+    (λ c. search needs)  -- mul-first
+    (λ c. search needs)  -- array-read-first
+    (λ c κs. search needs)  -- wide-requires
     loop2-holds
-    sub-q
-    mul-if2
-    array-read-if2
+    (λ c. search needs)  -- sub-q
+    (λ c. search needs)  -- mul-if2
+    (λ c. search needs)  -- array-read-if2
     returns
     returns-2
-    sub-left
-    mul-before
-    array-read-before
-    wide-requires-2
+    (λ c. search needs)  -- sub-left
+    (λ c. search needs)  -- mul-before
+    (λ c. search needs)  -- array-read-before
+    (λ c κs. search needs)  -- wide-requires-2
     loop2-less
     loop2-again
-    mul-prev
-    array-write-prev
-    add-heads
-    cast-heads
-    mul-heads
-    array-write-heads
-    add-i-2
-    loop-less-2
+    (λ c. search needs)  -- mul-prev
+    (λ c. search needs)  -- array-write-prev
+    (λ c. search needs)  -- add-heads
+    (λ c. search needs)  -- cast-heads
+    (λ c. search needs)  -- mul-heads
+    (λ c. search needs)  -- array-write-heads
+    (λ c. search needs)  -- add-i-2
+    (λ c. search needs)  -- loop-less-2
     loop-again-2
     returns-3)

@@ -2,10 +2,6 @@ use mathlib.Core.Path.{sym}
 use borrow.Author.Needs.{needs}
 use Rattle.check_numbers.proofs.numbers_differ.Statement.{statement}
 use Rattle.check_numbers.proofs.numbers_differ.Tie as tie
-use Rattle.check_numbers.proofs.numbers_differ.Reads as reads
-use Rattle.check_numbers.proofs.numbers_differ.Lts as lts
-use Rattle.check_numbers.proofs.chained.Reads as chained-reads
-use Rattle.check_unique.proofs.all_differ.Reads as all-differ-reads
 
 chained-requires : tie.Need-chained-requires
 chained-requires c κs = search needs

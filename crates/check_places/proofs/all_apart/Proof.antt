@@ -6,10 +6,6 @@ use Rattle.check_places.proofs.Loops.{Doubled, Shifts}
 use borrow.Author.Needs.{needs}
 use Rattle.check_places.proofs.all_apart.Statement.{statement}
 use Rattle.check_places.proofs.all_apart.Tie as tie
-use Rattle.check_places.proofs.all_apart.Reads as reads
-use Rattle.check_places.proofs.all_apart.Lts as lts
-use Rattle.check_places.proofs.none_below.Reads as none-below-reads
-use Rattle.check_places.proofs.compare_shifted.Reads as compare-shifted-reads
 
 abbrev Inv-loop : tie.InvT-loop
 Inv-loop d n items a₀ b₀ k₀ a b k = Doubled n items a b k
@@ -34,45 +30,6 @@ loop-holds c =
       in-b = twice-none (λ c. c .b) g.n g.t2;
     }
 
-mul-c : tie.Need-mul-c Inv-loop μ-loop Inv-loop2 μ-loop2
-mul-c c = search needs
-
-array-copy-out-c : tie.Need-array-copy-out-c Inv-loop μ-loop Inv-loop2 μ-loop2
-array-copy-out-c c = search needs
-
-add-m : tie.Need-add-m Inv-loop μ-loop Inv-loop2 μ-loop2
-add-m c = search needs
-
-mul-a : tie.Need-mul-a Inv-loop μ-loop Inv-loop2 μ-loop2
-mul-a c = search needs
-
-array-write-a : tie.Need-array-write-a Inv-loop μ-loop Inv-loop2 μ-loop2
-array-write-a c = search needs
-
-mul-a-2 : tie.Need-mul-a-2 Inv-loop μ-loop Inv-loop2 μ-loop2
-mul-a-2 c = search needs
-
-array-write-a-2 : tie.Need-array-write-a-2 Inv-loop μ-loop Inv-loop2 μ-loop2
-array-write-a-2 c = search needs
-
-mul-b : tie.Need-mul-b Inv-loop μ-loop Inv-loop2 μ-loop2
-mul-b c = search needs
-
-array-write-b : tie.Need-array-write-b Inv-loop μ-loop Inv-loop2 μ-loop2
-array-write-b c = search needs
-
-mul-b-2 : tie.Need-mul-b-2 Inv-loop μ-loop Inv-loop2 μ-loop2
-mul-b-2 c = search needs
-
-array-write-b-2 : tie.Need-array-write-b-2 Inv-loop μ-loop Inv-loop2 μ-loop2
-array-write-b-2 c = search needs
-
-add-k : tie.Need-add-k Inv-loop μ-loop Inv-loop2 μ-loop2
-add-k c = search needs
-
-loop-less : tie.Need-loop-less Inv-loop μ-loop Inv-loop2 μ-loop2
-loop-less c = search needs
-
 loop-again : tie.Need-loop-again Inv-loop μ-loop Inv-loop2 μ-loop2
 loop-again c =
     let l = c .before .before .loop in
@@ -88,18 +45,6 @@ loop-again c =
 loop2-holds : tie.Need-loop2-holds Inv-loop μ-loop Inv-loop2 μ-loop2
 loop2-holds c = let l = c .before .loop in record { below = omega arith; size = refl; low = lowest-none (l .a) (l .b) }
 
-add-compare-shifted : tie.Need-add-compare-shifted Inv-loop μ-loop Inv-loop2 μ-loop2
-add-compare-shifted c = search needs
-
-compare-shifted-requires : tie.Need-compare-shifted-requires Inv-loop μ-loop Inv-loop2 μ-loop2
-compare-shifted-requires c κs = search needs
-
-add-j : tie.Need-add-j Inv-loop μ-loop Inv-loop2 μ-loop2
-add-j c = search needs
-
-loop2-less : tie.Need-loop2-less Inv-loop μ-loop Inv-loop2 μ-loop2
-loop2-less c = search needs
-
 loop2-again : tie.Need-loop2-again Inv-loop μ-loop Inv-loop2 μ-loop2
 loop2-again c =
     let o = c .before .before .before .before .before in
@@ -110,9 +55,6 @@ loop2-again c =
       size = c .compare-shifted .ensures .size;
       low = lowest-more (d .a) (d .b) (l .least) (c .compare-shifted .last .0) (l .j) (l .inv .low) (c .compare-shifted .ensures);
     }
-
-none-below-requires : tie.Need-none-below-requires Inv-loop μ-loop Inv-loop2 μ-loop2
-none-below-requires c κs = search needs
 
 returns : tie.Need-returns Inv-loop μ-loop Inv-loop2 μ-loop2
 returns c =
@@ -134,25 +76,25 @@ all-apart-spec =
     Inv-loop2
     μ-loop2
     loop-holds
-    mul-c
-    array-copy-out-c
-    add-m
-    mul-a
-    array-write-a
-    mul-a-2
-    array-write-a-2
-    mul-b
-    array-write-b
-    mul-b-2
-    array-write-b-2
-    add-k
-    loop-less
+    (λ c. search needs)  -- mul-c
+    (λ c. search needs)  -- array-copy-out-c
+    (λ c. search needs)  -- add-m
+    (λ c. search needs)  -- mul-a
+    (λ c. search needs)  -- array-write-a
+    (λ c. search needs)  -- mul-a-2
+    (λ c. search needs)  -- array-write-a-2
+    (λ c. search needs)  -- mul-b
+    (λ c. search needs)  -- array-write-b
+    (λ c. search needs)  -- mul-b-2
+    (λ c. search needs)  -- array-write-b-2
+    (λ c. search needs)  -- add-k
+    (λ c. search needs)  -- loop-less
     loop-again
     loop2-holds
-    add-compare-shifted
-    compare-shifted-requires
-    add-j
-    loop2-less
+    (λ c. search needs)  -- add-compare-shifted
+    (λ c κs. search needs)  -- compare-shifted-requires
+    (λ c. search needs)  -- add-j
+    (λ c. search needs)  -- loop2-less
     loop2-again
-    none-below-requires
+    (λ c κs. search needs)  -- none-below-requires
     returns)

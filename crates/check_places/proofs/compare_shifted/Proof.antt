@@ -8,10 +8,6 @@ use Rattle.check_places.proofs.Loops.{Comparing}
 use borrow.Author.Needs.{needs}
 use Rattle.check_places.proofs.compare_shifted.Statement.{statement}
 use Rattle.check_places.proofs.compare_shifted.Tie as tie
-use Rattle.check_places.proofs.compare_shifted.Reads as reads
-use Rattle.check_places.proofs.compare_shifted.Lts as lts
-use Rattle.check_places.proofs.distance.Reads as distance-reads
-use Rattle.check_places.proofs.lesser.Reads as lesser-reads
 
 abbrev Inv-loop : tie.InvT-loop
 Inv-loop least₀ a b k i₀ least i = Comparing least₀ a b k least i
@@ -27,57 +23,6 @@ loop-holds c = record {
   done = λ i h. absurd (omega arith);
   rest = λ i h. refl;
 }
-
-add-j : tie.Need-add-j Inv-loop μ-loop
-add-j c = search needs
-
-mul-distance : tie.Need-mul-distance Inv-loop μ-loop
-mul-distance c = search needs
-
-element-copy-out-distance : tie.Need-element-copy-out-distance Inv-loop μ-loop
-element-copy-out-distance c = search needs
-
-mul-distance-2 : tie.Need-mul-distance-2 Inv-loop μ-loop
-mul-distance-2 c = search needs
-
-element-copy-out-distance-2 : tie.Need-element-copy-out-distance-2 Inv-loop μ-loop
-element-copy-out-distance-2 c = search needs
-
-mul-distance-3 : tie.Need-mul-distance-3 Inv-loop μ-loop
-mul-distance-3 c = search needs
-
-element-copy-out-distance-3 : tie.Need-element-copy-out-distance-3 Inv-loop μ-loop
-element-copy-out-distance-3 c = search needs
-
-mul-distance-4 : tie.Need-mul-distance-4 Inv-loop μ-loop
-mul-distance-4 c = search needs
-
-element-copy-out-distance-4 : tie.Need-element-copy-out-distance-4 Inv-loop μ-loop
-element-copy-out-distance-4 c = search needs
-
-distance-requires : tie.Need-distance-requires Inv-loop μ-loop
-distance-requires c κs = search needs
-
-mul-lesser : tie.Need-mul-lesser Inv-loop μ-loop
-mul-lesser c = search needs
-
-element-copy-out-lesser : tie.Need-element-copy-out-lesser Inv-loop μ-loop
-element-copy-out-lesser c = search needs
-
-lesser-requires : tie.Need-lesser-requires Inv-loop μ-loop
-lesser-requires c κs = search needs
-
-mul-least : tie.Need-mul-least Inv-loop μ-loop
-mul-least c = search needs
-
-element-write-least : tie.Need-element-write-least Inv-loop μ-loop
-element-write-least c = search needs
-
-add-i : tie.Need-add-i Inv-loop μ-loop
-add-i c = search needs
-
-loop-less : tie.Need-loop-less Inv-loop μ-loop
-loop-less c = search needs
 
 loop-again : tie.Need-loop-again Inv-loop μ-loop
 loop-again c =
@@ -104,22 +49,22 @@ compare-shifted-spec =
     Inv-loop
     μ-loop
     loop-holds
-    add-j
-    mul-distance
-    element-copy-out-distance
-    mul-distance-2
-    element-copy-out-distance-2
-    mul-distance-3
-    element-copy-out-distance-3
-    mul-distance-4
-    element-copy-out-distance-4
-    distance-requires
-    mul-lesser
-    element-copy-out-lesser
-    lesser-requires
-    mul-least
-    element-write-least
-    add-i
-    loop-less
+    (λ c. search needs)  -- add-j
+    (λ c. search needs)  -- mul-distance
+    (λ c. search needs)  -- element-copy-out-distance
+    (λ c. search needs)  -- mul-distance-2
+    (λ c. search needs)  -- element-copy-out-distance-2
+    (λ c. search needs)  -- mul-distance-3
+    (λ c. search needs)  -- element-copy-out-distance-3
+    (λ c. search needs)  -- mul-distance-4
+    (λ c. search needs)  -- element-copy-out-distance-4
+    (λ c κs. search needs)  -- distance-requires
+    (λ c. search needs)  -- mul-lesser
+    (λ c. search needs)  -- element-copy-out-lesser
+    (λ c κs. search needs)  -- lesser-requires
+    (λ c. search needs)  -- mul-least
+    (λ c. search needs)  -- element-write-least
+    (λ c. search needs)  -- add-i
+    (λ c. search needs)  -- loop-less
     loop-again
     returns)

@@ -2,10 +2,6 @@ use Rattle.check_places.specs.Lanes.{farther}
 use borrow.Author.Needs.{needs}
 use Rattle.check_places.proofs.distance.Statement.{statement}
 use Rattle.check_places.proofs.distance.Tie as tie
-use Rattle.check_places.proofs.distance.Reads as reads
-use Rattle.check_places.proofs.distance.Lts as lts
-use Rattle.check_places.proofs.gap.Reads as gap-reads
-use Rattle.check_places.proofs.greater.Reads as greater-reads
 
 gap-requires : tie.Need-gap-requires
 gap-requires c κs = search needs

@@ -11,9 +11,6 @@ use Rattle.check_places.proofs.Loops.{Paired, PairedWith}
 use borrow.Author.Needs.{needs}
 use Rattle.check_places.proofs.few_ok.Statement.{statement}
 use Rattle.check_places.proofs.few_ok.Tie as tie
-use Rattle.check_places.proofs.few_ok.Reads as reads
-use Rattle.check_places.proofs.few_ok.Lts as lts
-use Rattle.check_places.proofs.pair_ok.Reads as pair-ok-reads
 
 abbrev Inv-loop2 : tie.InvT-loop2
 Inv-loop2 s n items ok₀ j y i₀ ok i = PairedWith s n items j y ok i
@@ -35,12 +32,6 @@ loop-holds c = record {
   ordered = sym (pairs-zero (inOrder (c .args .s)) (c .args .t2));
 }
 
-mul-y : tie.Need-mul-y Inv-loop2 μ-loop2 Inv-loop μ-loop
-mul-y c = search needs
-
-array-copy-out-y : tie.Need-array-copy-out-y Inv-loop2 μ-loop2 Inv-loop μ-loop
-array-copy-out-y c = search needs
-
 loop2-holds : tie.Need-loop2-holds Inv-loop2 μ-loop2 Inv-loop μ-loop
 loop2-holds c =
     let l = c .before .before .loop in
@@ -52,21 +43,6 @@ loop2-holds c =
       items-length = l .inv .items-length;
       ordered = with-zero (λ x. inOrder g.s x (getD g.t2 (l .j) zeroCanister)) g.t2 (l .inv .ordered);
     }
-
-mul-pair-ok : tie.Need-mul-pair-ok Inv-loop2 μ-loop2 Inv-loop μ-loop
-mul-pair-ok c = search needs
-
-array-copy-out-pair-ok : tie.Need-array-copy-out-pair-ok Inv-loop2 μ-loop2 Inv-loop μ-loop
-array-copy-out-pair-ok c = search needs
-
-pair-ok-requires : tie.Need-pair-ok-requires Inv-loop2 μ-loop2 Inv-loop μ-loop
-pair-ok-requires c κs = search needs
-
-add-i : tie.Need-add-i Inv-loop2 μ-loop2 Inv-loop μ-loop
-add-i c = search needs
-
-loop2-less : tie.Need-loop2-less Inv-loop2 μ-loop2 Inv-loop μ-loop
-loop2-less c = search needs
 
 loop2-again : tie.Need-loop2-again Inv-loop2 μ-loop2 Inv-loop μ-loop
 loop2-again c =
@@ -82,12 +58,6 @@ loop2-again c =
       items-length = l .inv .items-length;
       ordered = with-step (pairsOf (inOrder g.s) (take (o .j) g.t2)) (λ x. inOrder g.s x (getD g.t2 (o .j) zeroCanister)) g.t2 (l .i) zeroCanister (omega arith) (l .inv .ordered) (c .pair-ok .ensures);
     }
-
-add-j : tie.Need-add-j Inv-loop2 μ-loop2 Inv-loop μ-loop
-add-j c = search needs
-
-loop-less : tie.Need-loop-less Inv-loop2 μ-loop2 Inv-loop μ-loop
-loop-less c = search needs
 
 loop-again : tie.Need-loop-again Inv-loop2 μ-loop2 Inv-loop μ-loop
 loop-again c =
@@ -119,16 +89,16 @@ few-ok-spec =
     Inv-loop
     μ-loop
     loop-holds
-    mul-y
-    array-copy-out-y
+    (λ c. search needs)  -- mul-y
+    (λ c. search needs)  -- array-copy-out-y
     loop2-holds
-    mul-pair-ok
-    array-copy-out-pair-ok
-    pair-ok-requires
-    add-i
-    loop2-less
+    (λ c. search needs)  -- mul-pair-ok
+    (λ c. search needs)  -- array-copy-out-pair-ok
+    (λ c κs. search needs)  -- pair-ok-requires
+    (λ c. search needs)  -- add-i
+    (λ c. search needs)  -- loop2-less
     loop2-again
-    add-j
-    loop-less
+    (λ c. search needs)  -- add-j
+    (λ c. search needs)  -- loop-less
     loop-again
     returns)

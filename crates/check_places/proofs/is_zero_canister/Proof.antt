@@ -3,8 +3,6 @@ use Rattle.floor.specs.Memory.{isZeroCanister}
 use Rattle.check_places.proofs.Words.{word-zero}
 use Rattle.check_places.proofs.is_zero_canister.Statement.{statement}
 use Rattle.check_places.proofs.is_zero_canister.Tie as tie
-use Rattle.check_places.proofs.is_zero_canister.Reads as reads
-use Rattle.check_places.proofs.is_zero_canister.Lts as lts
 
 cast-word : tie.Need-cast-word
 cast-word c = search needs

@@ -4,8 +4,6 @@ use Rattle.floor.specs.Well.{inside}
 use Rattle.check_places.specs.Place.{memberSound}
 use Rattle.check_places.proofs.member_ok.Statement.{statement}
 use Rattle.check_places.proofs.member_ok.Tie as tie
-use Rattle.check_places.proofs.member_ok.Reads as reads
-use Rattle.check_places.proofs.member_ok.Lts as lts
 
 sub-span : tie.Need-sub-span
 sub-span c = omega (arith, c .before .pre)

@@ -9,8 +9,6 @@ use Rattle.check_places.proofs.Loops.{NoneBelow}
 use borrow.Author.Needs.{needs}
 use Rattle.check_places.proofs.none_below.Statement.{statement}
 use Rattle.check_places.proofs.none_below.Tie as tie
-use Rattle.check_places.proofs.none_below.Reads as reads
-use Rattle.check_places.proofs.none_below.Lts as lts
 
 abbrev Inv-loop : tie.InvT-loop
 Inv-loop d n least ok₀ i₀ ok i = NoneBelow d n least ok i

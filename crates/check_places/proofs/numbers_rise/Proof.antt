@@ -10,8 +10,6 @@ use Rattle.check_places.proofs.Loops.{NumbersRise}
 use borrow.Author.Needs.{needs}
 use Rattle.check_places.proofs.numbers_rise.Statement.{statement}
 use Rattle.check_places.proofs.numbers_rise.Tie as tie
-use Rattle.check_places.proofs.numbers_rise.Reads as reads
-use Rattle.check_places.proofs.numbers_rise.Lts as lts
 
 abbrev Inv-loop : tie.InvT-loop
 Inv-loop n items k₀ k = NumbersRise n items k
@@ -28,33 +26,12 @@ loop-holds c = record {
   risen = rise-one (c .args .t1);
 }
 
-sub-x : tie.Need-sub-x Inv-loop μ-loop
-sub-x c = search needs
-
-mul-x : tie.Need-mul-x Inv-loop μ-loop
-mul-x c = search needs
-
-array-copy-out-x : tie.Need-array-copy-out-x Inv-loop μ-loop
-array-copy-out-x c = search needs
-
-mul-y : tie.Need-mul-y Inv-loop μ-loop
-mul-y c = search needs
-
-array-copy-out-y : tie.Need-array-copy-out-y Inv-loop μ-loop
-array-copy-out-y c = search needs
-
 returns : tie.Need-returns Inv-loop μ-loop
 returns c =
     let o = c .before .before .before .before .before .before in
     let l = o .loop in
     let g = o .before .args in
     rise-not g.t1 (l .k) g.n (l .inv .some) (omega arith) (omega arith) (omega arith)
-
-add-k : tie.Need-add-k Inv-loop μ-loop
-add-k c = search needs
-
-loop-less : tie.Need-loop-less Inv-loop μ-loop
-loop-less c = search needs
 
 loop-again : tie.Need-loop-again Inv-loop μ-loop
 loop-again c =
@@ -82,13 +59,13 @@ numbers-rise-spec =
     Inv-loop
     μ-loop
     loop-holds
-    sub-x
-    mul-x
-    array-copy-out-x
-    mul-y
-    array-copy-out-y
+    (λ c. search needs)  -- sub-x
+    (λ c. search needs)  -- mul-x
+    (λ c. search needs)  -- array-copy-out-x
+    (λ c. search needs)  -- mul-y
+    (λ c. search needs)  -- array-copy-out-y
     returns
-    add-k
-    loop-less
+    (λ c. search needs)  -- add-k
+    (λ c. search needs)  -- loop-less
     loop-again
     returns-2)

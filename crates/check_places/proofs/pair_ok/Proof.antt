@@ -1,9 +1,6 @@
 use Rattle.floor.specs.Well.{inOrder}
 use Rattle.check_places.proofs.pair_ok.Statement.{statement}
 use Rattle.check_places.proofs.pair_ok.Tie as tie
-use Rattle.check_places.proofs.pair_ok.Reads as reads
-use Rattle.check_places.proofs.pair_ok.Lts as lts
-use Rattle.check_places.proofs.stands_apart.Reads as stands-apart-reads
 
 stands-apart-requires : tie.Need-stands-apart-requires
 stands-apart-requires c κs = tt

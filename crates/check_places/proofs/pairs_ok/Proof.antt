@@ -2,21 +2,6 @@ use Rattle.check_places.proofs.Pairs.{in-order-made, many}
 use borrow.Author.Needs.{needs}
 use Rattle.check_places.proofs.pairs_ok.Statement.{statement}
 use Rattle.check_places.proofs.pairs_ok.Tie as tie
-use Rattle.check_places.proofs.pairs_ok.Reads as reads
-use Rattle.check_places.proofs.pairs_ok.Lts as lts
-use Rattle.check_places.proofs.all_apart.Reads as all-apart-reads
-use Rattle.check_places.proofs.few_ok.Reads as few-ok-reads
-use Rattle.check_places.proofs.numbers_rise.Reads as numbers-rise-reads
-use Rattle.floor.proofs.Settings.spacing.Reads as spacing-reads
-
-spacing-requires : tie.Need-spacing-requires
-spacing-requires c κs = search needs
-
-few-ok-requires : tie.Need-few-ok-requires
-few-ok-requires c κs = search needs
-
-returns : tie.Need-returns
-returns c = search needs
 
 numbers-rise-requires : tie.Need-numbers-rise-requires
 numbers-rise-requires c κs = let m = many (c .before .before .args .n) (c .before .spacing .result) (c .if1 .left) in search needs
@@ -34,9 +19,9 @@ pub pairs-ok-spec : {M : Type 1} → statement M
 pairs-ok-spec =
     tie.close
     (tie.spec
-    spacing-requires
-    few-ok-requires
-    returns
+    (λ c κs. search needs)  -- spacing-requires
+    (λ c κs. search needs)  -- few-ok-requires
+    (λ c. search needs)  -- returns
     numbers-rise-requires
     cast-all-apart
     all-apart-requires

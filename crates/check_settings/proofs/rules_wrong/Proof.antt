@@ -2,9 +2,6 @@ use Rattle.check_settings.proofs.Groups.{rules-are}
 use borrow.Author.Needs.{needs}
 use Rattle.check_settings.proofs.rules_wrong.Statement.{statement}
 use Rattle.check_settings.proofs.rules_wrong.Tie as tie
-use Rattle.check_settings.proofs.rules_wrong.Reads as reads
-use Rattle.check_settings.proofs.rules_wrong.Lts as lts
-use Rattle.floor.proofs.Settings.spacing.Reads as spacing-reads
 
 spacing-requires : tie.Need-spacing-requires
 spacing-requires c κs = tt

@@ -3,14 +3,6 @@ use Rattle.check_settings.proofs.Groups.{settings-1, settings-2, settin
 use borrow.Author.Needs.{needs}
 use Rattle.check_settings.proofs.settings_refusal.Statement.{statement}
 use Rattle.check_settings.proofs.settings_refusal.Tie as tie
-use Rattle.check_settings.proofs.settings_refusal.Reads as reads
-use Rattle.check_settings.proofs.settings_refusal.Lts as lts
-use Rattle.check_settings.proofs.sets_wrong.Reads as sets-wrong-reads
-use Rattle.check_settings.proofs.measures_wrong.Reads as measures-wrong-reads
-use Rattle.check_settings.proofs.sizes_wrong.Reads as sizes-wrong-reads
-
-sizes-wrong-requires : tie.Need-sizes-wrong-requires
-sizes-wrong-requires c κs = search needs
 
 returns : tie.Need-returns
 returns c = search (settings-1, needs)
@@ -20,9 +12,6 @@ sets-wrong-requires c κs = sym (c .before .sizes-wrong .ensures) ∙ c .if1 .le
 
 returns-2 : tie.Need-returns-2
 returns-2 c = search (settings-2, needs)
-
-measures-wrong-requires : tie.Need-measures-wrong-requires
-measures-wrong-requires c κs = search needs
 
 returns-3 : tie.Need-returns-3
 returns-3 c = search (settings-3, needs)
@@ -34,10 +23,10 @@ pub settings-refusal-spec : {M : Type 1} → statement M
 settings-refusal-spec =
     tie.close
     (tie.spec
-    sizes-wrong-requires
+    (λ c κs. search needs)  -- sizes-wrong-requires
     returns
     sets-wrong-requires
     returns-2
-    measures-wrong-requires
+    (λ c κs. search needs)  -- measures-wrong-requires
     returns-3
     returns-4)

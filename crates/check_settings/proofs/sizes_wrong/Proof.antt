@@ -2,9 +2,6 @@ use Rattle.check_settings.proofs.Groups.{sizes-are}
 use borrow.Author.Needs.{needs}
 use Rattle.check_settings.proofs.sizes_wrong.Statement.{statement}
 use Rattle.check_settings.proofs.sizes_wrong.Tie as tie
-use Rattle.check_settings.proofs.sizes_wrong.Reads as reads
-use Rattle.check_settings.proofs.sizes_wrong.Lts as lts
-use Rattle.floor.proofs.Settings.tile_count.Reads as tile-count-reads
 
 tile-count-requires : tie.Need-tile-count-requires
 tile-count-requires c κs = search needs

@@ -3,8 +3,6 @@ use Rattle.image_bytes.proofs.PutLaws.{put-one, bytes-one}
 use borrow.Author.Needs.{needs}
 use Rattle.image_bytes.proofs.put_byte.Statement.{statement}
 use Rattle.image_bytes.proofs.put_byte.Tie as tie
-use Rattle.image_bytes.proofs.put_byte.Reads as reads
-use Rattle.image_bytes.proofs.put_byte.Lts as lts
 
 slice-write-s : tie.Need-slice-write-s
 slice-write-s c = search needs

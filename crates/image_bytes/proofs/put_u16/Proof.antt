@@ -6,27 +6,6 @@ use Rattle.image_bytes.proofs.PutLaws.{put-two, bytes-split}
 use borrow.Author.Needs.{needs}
 use Rattle.image_bytes.proofs.put_u16.Statement.{statement}
 use Rattle.image_bytes.proofs.put_u16.Tie as tie
-use Rattle.image_bytes.proofs.put_u16.Reads as reads
-use Rattle.image_bytes.proofs.put_u16.Lts as lts
-use Rattle.image_bytes.proofs.put_byte.Reads as put-byte-reads
-
-cast-put-byte : tie.Need-cast-put-byte
-cast-put-byte c = search needs
-
-put-byte-requires : tie.Need-put-byte-requires
-put-byte-requires c κs = search needs
-
-add-put-byte : tie.Need-add-put-byte
-add-put-byte c = search needs
-
-cast-put-byte-2 : tie.Need-cast-put-byte-2
-cast-put-byte-2 c = search needs
-
-put-byte-requires-2 : tie.Need-put-byte-requires-2
-put-byte-requires-2 c κs = search needs
-
-same-length : tie.Need-same-length
-same-length c = search needs
 
 returns : tie.Need-returns
 returns c =
@@ -39,10 +18,10 @@ pub put-u16-spec : {M : Type 1} → statement M
 put-u16-spec =
     tie.close
     (tie.spec
-    cast-put-byte
-    put-byte-requires
-    add-put-byte
-    cast-put-byte-2
-    put-byte-requires-2
-    same-length
+    (λ c. search needs)  -- cast-put-byte
+    (λ c κs. search needs)  -- put-byte-requires
+    (λ c. search needs)  -- add-put-byte
+    (λ c. search needs)  -- cast-put-byte-2
+    (λ c κs. search needs)  -- put-byte-requires-2
+    (λ c. search needs)  -- same-length
     returns)

@@ -6,27 +6,6 @@ use Rattle.image_bytes.proofs.PutLaws.{put-two, bytes-split}
 use borrow.Author.Needs.{needs}
 use Rattle.image_bytes.proofs.put_u32.Statement.{statement}
 use Rattle.image_bytes.proofs.put_u32.Tie as tie
-use Rattle.image_bytes.proofs.put_u32.Reads as reads
-use Rattle.image_bytes.proofs.put_u32.Lts as lts
-use Rattle.image_bytes.proofs.put_u16.Reads as put-u16-reads
-
-cast-put-u16 : tie.Need-cast-put-u16
-cast-put-u16 c = search needs
-
-put-u16-requires : tie.Need-put-u16-requires
-put-u16-requires c κs = search needs
-
-add-put-u16 : tie.Need-add-put-u16
-add-put-u16 c = search needs
-
-cast-put-u16-2 : tie.Need-cast-put-u16-2
-cast-put-u16-2 c = search needs
-
-put-u16-requires-2 : tie.Need-put-u16-requires-2
-put-u16-requires-2 c κs = search needs
-
-same-length : tie.Need-same-length
-same-length c = search needs
 
 returns : tie.Need-returns
 returns c =
@@ -39,10 +18,10 @@ pub put-u32-spec : {M : Type 1} → statement M
 put-u32-spec =
     tie.close
     (tie.spec
-    cast-put-u16
-    put-u16-requires
-    add-put-u16
-    cast-put-u16-2
-    put-u16-requires-2
-    same-length
+    (λ c. search needs)  -- cast-put-u16
+    (λ c κs. search needs)  -- put-u16-requires
+    (λ c. search needs)  -- add-put-u16
+    (λ c. search needs)  -- cast-put-u16-2
+    (λ c κs. search needs)  -- put-u16-requires-2
+    (λ c. search needs)  -- same-length
     returns)

@@ -6,27 +6,6 @@ use Rattle.image_bytes.proofs.PutLaws.{put-two, bytes-split}
 use borrow.Author.Needs.{needs}
 use Rattle.image_bytes.proofs.put_u64.Statement.{statement}
 use Rattle.image_bytes.proofs.put_u64.Tie as tie
-use Rattle.image_bytes.proofs.put_u64.Reads as reads
-use Rattle.image_bytes.proofs.put_u64.Lts as lts
-use Rattle.image_bytes.proofs.put_u32.Reads as put-u32-reads
-
-cast-put-u32 : tie.Need-cast-put-u32
-cast-put-u32 c = search needs
-
-put-u32-requires : tie.Need-put-u32-requires
-put-u32-requires c κs = search needs
-
-add-put-u32 : tie.Need-add-put-u32
-add-put-u32 c = search needs
-
-cast-put-u32-2 : tie.Need-cast-put-u32-2
-cast-put-u32-2 c = search needs
-
-put-u32-requires-2 : tie.Need-put-u32-requires-2
-put-u32-requires-2 c κs = search needs
-
-same-length : tie.Need-same-length
-same-length c = search needs
 
 returns : tie.Need-returns
 returns c =
@@ -39,10 +18,10 @@ pub put-u64-spec : {M : Type 1} → statement M
 put-u64-spec =
     tie.close
     (tie.spec
-    cast-put-u32
-    put-u32-requires
-    add-put-u32
-    cast-put-u32-2
-    put-u32-requires-2
-    same-length
+    (λ c. search needs)  -- cast-put-u32
+    (λ c κs. search needs)  -- put-u32-requires
+    (λ c. search needs)  -- add-put-u32
+    (λ c. search needs)  -- cast-put-u32-2
+    (λ c κs. search needs)  -- put-u32-requires-2
+    (λ c. search needs)  -- same-length
     returns)

@@ -3,30 +3,6 @@ use Rattle.image_bytes.proofs.FieldLaws.{le-four}
 use borrow.Author.Needs.{needs}
 use Rattle.image_bytes.proofs.u32_at.Statement.{statement}
 use Rattle.image_bytes.proofs.u32_at.Tie as tie
-use Rattle.image_bytes.proofs.u32_at.Reads as reads
-use Rattle.image_bytes.proofs.u32_at.Lts as lts
-use Rattle.image_bytes.proofs.u16_at.Reads as u16-at-reads
-
-u16-at-requires : tie.Need-u16-at-requires
-u16-at-requires c κs = search needs
-
-add-u16-at : tie.Need-add-u16-at
-add-u16-at c = search needs
-
-u16-at-requires-2 : tie.Need-u16-at-requires-2
-u16-at-requires-2 c κs = search needs
-
-cast-result : tie.Need-cast-result
-cast-result c = search needs
-
-cast-result-2 : tie.Need-cast-result-2
-cast-result-2 c = search needs
-
-mul-result : tie.Need-mul-result
-mul-result c = search needs
-
-add-result : tie.Need-add-result
-add-result c = search needs
 
 returns : tie.Need-returns
 returns c =
@@ -37,11 +13,11 @@ pub u32-at-spec : {M : Type 1} → statement M
 u32-at-spec =
     tie.close
     (tie.spec
-    u16-at-requires
-    add-u16-at
-    u16-at-requires-2
-    cast-result
-    cast-result-2
-    mul-result
-    add-result
+    (λ c κs. search needs)  -- u16-at-requires
+    (λ c. search needs)  -- add-u16-at
+    (λ c κs. search needs)  -- u16-at-requires-2
+    (λ c. search needs)  -- cast-result
+    (λ c. search needs)  -- cast-result-2
+    (λ c. search needs)  -- mul-result
+    (λ c. search needs)  -- add-result
     returns)

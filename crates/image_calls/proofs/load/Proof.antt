@@ -5,20 +5,6 @@ use Rattle.image.proofs.Promises.{load-empty, load-some}
 use borrow.Author.Needs.{needs}
 use Rattle.image_calls.proofs.load.Statement.{statement}
 use Rattle.image_calls.proofs.load.Tie as tie
-use Rattle.image_calls.proofs.load.Reads as reads
-use Rattle.image_calls.proofs.load.Lts as lts
-use Rattle.calls.proofs.fresh.Reads as fresh-reads
-use Rattle.image_calls.proofs.load_image.Reads as load-image-reads
-use Rattle.image_calls.proofs.standard_settings.Reads as standard-settings-reads
-
-load-image-requires : tie.Need-load-image-requires
-load-image-requires c κs = search needs
-
-standard-settings-requires : tie.Need-standard-settings-requires
-standard-settings-requires c κs = search needs
-
-fresh-requires : tie.Need-fresh-requires
-fresh-requires c κs = search needs
 
 returns : tie.Need-returns
 returns c =
@@ -35,8 +21,8 @@ pub load-spec : {M : Type 1} → statement M
 load-spec =
     tie.close
     (tie.spec
-    load-image-requires
-    standard-settings-requires
-    fresh-requires
+    (λ c κs. search needs)  -- load-image-requires
+    (λ c κs. search needs)  -- standard-settings-requires
+    (λ c κs. search needs)  -- fresh-requires
     returns
     returns-2)

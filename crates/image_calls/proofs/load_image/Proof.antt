@@ -3,11 +3,6 @@ use mathlib.Core.Path.{_∙_}
 use borrow.Author.Needs.{needs}
 use Rattle.image_calls.proofs.load_image.Statement.{statement}
 use Rattle.image_calls.proofs.load_image.Tie as tie
-use Rattle.image_calls.proofs.load_image.Reads as reads
-use Rattle.image_calls.proofs.load_image.Lts as lts
-use Rattle.image_read.proofs.read_image.Reads as read-image-reads
-use Rattle.image_read.proofs.refused.Reads as refused-reads
-use Rattle.check_floor.proofs.well_formed.Reads as well-formed-reads
 
 read-image-requires : tie.Need-read-image-requires
 read-image-requires c κs = search needs

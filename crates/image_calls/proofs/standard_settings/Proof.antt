@@ -2,8 +2,6 @@ use mathlib.Core.Path.{refl}
 use Rattle.image.specs.Image.{standard}
 use Rattle.image_calls.proofs.standard_settings.Statement.{statement}
 use Rattle.image_calls.proofs.standard_settings.Tie as tie
-use Rattle.image_calls.proofs.standard_settings.Reads as reads
-use Rattle.image_calls.proofs.standard_settings.Lts as lts
 
 returns : tie.Need-returns
 unfolding standard

@@ -12,11 +12,6 @@ use Rattle.image.proofs.Promises.{write-malformed, write-short, write-whole}
 use borrow.Author.Needs.{needs}
 use Rattle.image_calls.proofs.write.Statement.{statement}
 use Rattle.image_calls.proofs.write.Tie as tie
-use Rattle.image_calls.proofs.write.Reads as reads
-use Rattle.image_calls.proofs.write.Lts as lts
-use Rattle.check_floor.proofs.well_formed.Reads as well-formed-reads
-use Rattle.image_write.proofs.image_length.Reads as image-length-reads
-use Rattle.image_write.proofs.write_image.Reads as write-image-reads
 
 made : ℕ → Written
 made k = record { refusal = 0; length = k }
@@ -28,17 +23,11 @@ start c = let W = c .before .before in W .before .before
 known : (c : tie.After-image-length) → let f = start c .args .floor in (wellFormed f ≡ true) × (c .image-length .result ≡ length (encode (view f)))
 known c = (sym (c .before .before .well-formed .ensures) ∙ not-false _ (c .before .if1 .left), c .image-length .ensures)
 
-well-formed-requires : tie.Need-well-formed-requires
-well-formed-requires c κs = search needs
-
 returns : tie.Need-returns
 returns c = write-malformed (c .before .before .before .args .floor) (c .before .before .before .args .buffer .now) (sym (c .before .well-formed .ensures) ∙ not-true _ (c .if1 .taken))
 
 image-length-requires : tie.Need-image-length-requires
 image-length-requires c κs = sym (c .before .well-formed .ensures) ∙ not-false _ (c .if1 .left)
-
-cast-if2 : tie.Need-cast-if2
-cast-if2 c = search needs
 
 returns-2 : tie.Need-returns-2
 returns-2 c =
@@ -48,9 +37,6 @@ returns-2 c =
 
 write-image-requires : tie.Need-write-image-requires
 write-image-requires c κs = let k = known (c .before .before) in (k .0, omega (arith, k .1, c .before .if2 .left))
-
-same-length : tie.Need-same-length
-same-length c = search needs
 
 returns-3 : tie.Need-returns-3
 unfolding made
@@ -66,11 +52,11 @@ pub write-spec : {M : Type 1} → statement M
 write-spec =
     tie.close
     (tie.spec
-    well-formed-requires
+    (λ c κs. search needs)  -- well-formed-requires
     returns
     image-length-requires
-    cast-if2
+    (λ c. search needs)  -- cast-if2
     returns-2
     write-image-requires
-    same-length
+    (λ c. search needs)  -- same-length
     returns-3)

@@ -8,8 +8,6 @@ use Rattle.image_read.proofs.Loops.{NamesTested}
 use borrow.Author.Needs.{needs}
 use Rattle.image_read.proofs.all_named.Statement.{statement}
 use Rattle.image_read.proofs.all_named.Tie as tie
-use Rattle.image_read.proofs.all_named.Reads as reads
-use Rattle.image_read.proofs.all_named.Lts as lts
 
 abbrev Inv-loop : tie.InvT-loop
 Inv-loop n all ok₀ k₀ ok k = NamesTested n all ok k

@@ -2,10 +2,6 @@ use Rattle.image_read.proofs.Reading.{canister-code}
 use borrow.Author.Needs.{needs}
 use Rattle.image_read.proofs.canister_at.Statement.{statement}
 use Rattle.image_read.proofs.canister_at.Tie as tie
-use Rattle.image_read.proofs.canister_at.Reads as reads
-use Rattle.image_read.proofs.canister_at.Lts as lts
-use Rattle.image_bytes.proofs.u16_at.Reads as u16-at-reads
-use Rattle.image_bytes.proofs.u32_at.Reads as u32-at-reads
 
 u32-at-requires : tie.Need-u32-at-requires
 u32-at-requires c κs = search needs

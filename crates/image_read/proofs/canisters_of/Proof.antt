@@ -13,9 +13,6 @@ use Rattle.image_read.proofs.Loops.{TilesPlaced, CanistersPlaced, canis
 use borrow.Author.Needs.{needs}
 use Rattle.image_read.proofs.canisters_of.Statement.{statement}
 use Rattle.image_read.proofs.canisters_of.Tie as tie
-use Rattle.image_read.proofs.canisters_of.Reads as reads
-use Rattle.image_read.proofs.canisters_of.Lts as lts
-use Rattle.image_read.proofs.canister_at.Reads as canister-at-reads
 
 abbrev Inv-loop2 : tie.InvT-loop2
 Inv-loop2 s c starts out₀ t at n j₀ out j = CanistersPlaced s starts c t at n out j
@@ -40,12 +37,6 @@ loop-holds c = let g = c .before .args in record {
   starts-length = c .before .good .1 .0 .1 .0 .1;
   placed = filled-none 1024 (canisterFrom (g.s .now) g.t2 g.c) zeroCanister;
 }
-
-mul-at : tie.Need-mul-at Inv-loop2 μ-loop2 Inv-loop μ-loop
-mul-at c = search needs
-
-array-read-at : tie.Need-array-read-at Inv-loop2 μ-loop2 Inv-loop μ-loop
-array-read-at c = search needs
 
 add-n : tie.Need-add-n Inv-loop2 μ-loop2 Inv-loop μ-loop
 add-n c = let b = tile c in omega arith
@@ -76,44 +67,8 @@ loop2-holds c =
       placed = rw k (l .inv .placed);
     }
 
-add-canister-at : tie.Need-add-canister-at Inv-loop2 μ-loop2 Inv-loop μ-loop
-add-canister-at c = search needs
-
-mul-canister-at : tie.Need-mul-canister-at Inv-loop2 μ-loop2 Inv-loop μ-loop
-mul-canister-at c = search needs
-
-add-canister-at-2 : tie.Need-add-canister-at-2 Inv-loop2 μ-loop2 Inv-loop μ-loop
-add-canister-at-2 c = search needs
-
-canister-at-requires : tie.Need-canister-at-requires Inv-loop2 μ-loop2 Inv-loop μ-loop
-canister-at-requires c κs = search needs
-
-mul-out : tie.Need-mul-out Inv-loop2 μ-loop2 Inv-loop μ-loop
-mul-out c = search needs
-
-add-out : tie.Need-add-out Inv-loop2 μ-loop2 Inv-loop μ-loop
-add-out c = search needs
-
-mul-out-2 : tie.Need-mul-out-2 Inv-loop2 μ-loop2 Inv-loop μ-loop
-mul-out-2 c = search needs
-
-array-set-from-out : tie.Need-array-set-from-out Inv-loop2 μ-loop2 Inv-loop μ-loop
-array-set-from-out c = search needs
-
-add-j : tie.Need-add-j Inv-loop2 μ-loop2 Inv-loop μ-loop
-add-j c = search needs
-
-loop2-less : tie.Need-loop2-less Inv-loop2 μ-loop2 Inv-loop μ-loop
-loop2-less c = search needs
-
 loop2-again : tie.Need-loop2-again Inv-loop2 μ-loop2 Inv-loop μ-loop
 loop2-again c = canister-turn (c .before .before .loop2 .inv) _ (omega arith) (c .canister-at .ensures)
-
-add-t : tie.Need-add-t Inv-loop2 μ-loop2 Inv-loop μ-loop
-add-t c = search needs
-
-loop-less : tie.Need-loop-less Inv-loop2 μ-loop2 Inv-loop μ-loop
-loop-less c = search needs
 
 loop-again : tie.Need-loop-again Inv-loop2 μ-loop2 Inv-loop μ-loop
 loop-again c = tile-end (c .before .loop2 .inv) (omega arith)
@@ -133,24 +88,24 @@ canisters-of-spec =
     Inv-loop
     μ-loop
     loop-holds
-    mul-at
-    array-read-at
+    (λ c. search needs)  -- mul-at
+    (λ c. search needs)  -- array-read-at
     add-n
     shared-slice-read-n
     cast-n
     loop2-holds
-    add-canister-at
-    mul-canister-at
-    add-canister-at-2
-    canister-at-requires
-    mul-out
-    add-out
-    mul-out-2
-    array-set-from-out
-    add-j
-    loop2-less
+    (λ c. search needs)  -- add-canister-at
+    (λ c. search needs)  -- mul-canister-at
+    (λ c. search needs)  -- add-canister-at-2
+    (λ c κs. search needs)  -- canister-at-requires
+    (λ c. search needs)  -- mul-out
+    (λ c. search needs)  -- add-out
+    (λ c. search needs)  -- mul-out-2
+    (λ c. search needs)  -- array-set-from-out
+    (λ c. search needs)  -- add-j
+    (λ c. search needs)  -- loop2-less
     loop2-again
-    add-t
-    loop-less
+    (λ c. search needs)  -- add-t
+    (λ c. search needs)  -- loop-less
     loop-again
     returns)

@@ -4,13 +4,6 @@ use Rattle.image_read.proofs.Load.{FirstRead, SecondRead, first-read, s
 use borrow.Author.Needs.{needs}
 use Rattle.image_read.proofs.read_front.Statement.{statement}
 use Rattle.image_read.proofs.read_front.Tie as tie
-use Rattle.image_read.proofs.read_front.Reads as reads
-use Rattle.image_read.proofs.read_front.Lts as lts
-use Rattle.image_record_read.proofs.read_record.Reads as read-record-reads
-use Rattle.image_record_read.proofs.scan_layouts.Reads as scan-layouts-reads
-use Rattle.image_read.proofs.no_front.Reads as no-front-reads
-use Rattle.sets.proofs.size.Reads as size-reads
-use Rattle.image_bytes.proofs.u16_at.Reads as u16-at-reads
 
 -- where the first record was read, and where the hoppers had been counted
 abbrev read : tie.After-size → tie.After-read-record
@@ -28,9 +21,6 @@ second c = second-read (first (sized c)) (c .before .before .before .read-record
 read-record-requires : tie.Need-read-record-requires
 read-record-requires c κs = (omega arith, omega arith, omega arith, λ e. absurd (omega arith))
 
-no-front-requires : tie.Need-no-front-requires
-no-front-requires c κs = search needs
-
 returns : tie.Need-returns
 returns c =
     let R = c .before .before .before in
@@ -41,20 +31,8 @@ returns c =
 u16-at-requires : tie.Need-u16-at-requires
 u16-at-requires c κs = let R = c .before .before .before in first-long (R .before .before .args .s .now) _ (R .read-record .ensures .0) (c .before .if1 .left)
 
-cast-second : tie.Need-cast-second
-cast-second c = search needs
-
-add-second : tie.Need-add-second
-add-second c = search needs
-
-size-requires : tie.Need-size-requires
-size-requires c κs = search needs
-
 read-record-requires-2 : tie.Need-read-record-requires-2
 read-record-requires-2 c κs = let F = first c in (second-begins F, omega arith, omega arith, λ e. hoppers-few F)
-
-no-front-requires-2 : tie.Need-no-front-requires-2
-no-front-requires-2 c κs = search needs
 
 returns-2 : tie.Need-returns-2
 returns-2 c =
@@ -69,17 +47,8 @@ u16-at-requires-2 c κs = let m = second-long (second c) in omega arith
 add-third : tie.Need-add-third
 add-third c = let m = second-long (second (c .before)) in omega arith
 
-cast-third : tie.Need-cast-third
-cast-third c = search needs
-
-add-third-2 : tie.Need-add-third-2
-add-third-2 c = search needs
-
 scan-layouts-requires : tie.Need-scan-layouts-requires
 scan-layouts-requires c κs = third-begins (second (c .before)) _ (c .u16-at2 .ensures)
-
-no-front-requires-3 : tie.Need-no-front-requires-3
-no-front-requires-3 c κs = search needs
 
 returns-3 : tie.Need-returns-3
 returns-3 c =
@@ -107,21 +76,21 @@ read-front-spec =
     tie.close
     (tie.spec
     read-record-requires
-    no-front-requires
+    (λ c κs. search needs)  -- no-front-requires
     returns
     u16-at-requires
-    cast-second
-    add-second
-    size-requires
+    (λ c. search needs)  -- cast-second
+    (λ c. search needs)  -- add-second
+    (λ c κs. search needs)  -- size-requires
     read-record-requires-2
-    no-front-requires-2
+    (λ c κs. search needs)  -- no-front-requires-2
     returns-2
     u16-at-requires-2
     add-third
-    cast-third
-    add-third-2
+    (λ c. search needs)  -- cast-third
+    (λ c. search needs)  -- add-third-2
     scan-layouts-requires
-    no-front-requires-3
+    (λ c κs. search needs)  -- no-front-requires-3
     returns-3
     mul-t16
     add-t15

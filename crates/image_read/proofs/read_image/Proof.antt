@@ -7,14 +7,6 @@ use Rattle.image_read.proofs.Load.{FrontKept, TilesRead, answer-1, answ
 use borrow.Author.Needs.{needs}
 use Rattle.image_read.proofs.read_image.Statement.{statement}
 use Rattle.image_read.proofs.read_image.Tie as tie
-use Rattle.image_read.proofs.read_image.Reads as reads
-use Rattle.image_read.proofs.read_image.Lts as lts
-use Rattle.floor.proofs.Settings.tile_count.Reads as tile-count-reads
-use Rattle.image_record_read.proofs.scan_tiles.Reads as scan-tiles-reads
-use Rattle.image_read.proofs.all_named.Reads as all-named-reads
-use Rattle.image_read.proofs.canisters_of.Reads as canisters-of-reads
-use Rattle.image_read.proofs.read_front.Reads as read-front-reads
-use Rattle.image_read.proofs.refused.Reads as refused-reads
 
 -- behind the test of the front's refusal
 abbrev fronted : tie.After-tile-count → tie.Else1
@@ -39,25 +31,13 @@ scanned c =
     let z = c .before .if2 .left in
     record { kept = kept (T .before); sound = no-fault _ _ (e .0) z; starts = e .1 z .0; heads = e .1 z .1 }
 
-read-front-requires : tie.Need-read-front-requires
-read-front-requires c κs = search needs
-
-refused-requires : tie.Need-refused-requires
-refused-requires c κs = search needs
-
 returns : tie.Need-returns
 returns c =
     let R = c .before .before .before in
     c .refused .ensures ∙ answer-1 (R .before .before .args .s .now) _ (R .read-front .ensures .0) (c .before .if1 .taken)
 
-tile-count-requires : tie.Need-tile-count-requires
-tile-count-requires c κs = tt
-
 scan-tiles-requires : tie.Need-scan-tiles-requires
 scan-tiles-requires c κs = let K = kept c in (K .front .room, rw (K .tiles) (K .front .size))
-
-refused-requires-2 : tie.Need-refused-requires-2
-refused-requires-2 c κs = search needs
 
 returns-2 : tie.Need-returns-2
 returns-2 c =
@@ -66,9 +46,6 @@ returns-2 c =
 
 all-named-requires : tie.Need-all-named-requires
 all-named-requires c κs = kept (c .before .before .before) .front .few
-
-refused-requires-3 : tie.Need-refused-requires-3
-refused-requires-3 c κs = search needs
 
 returns-3 : tie.Need-returns-3
 returns-3 c =
@@ -90,15 +67,15 @@ pub read-image-spec : {M : Type 1} → statement M
 read-image-spec =
     tie.close
     (tie.spec
-    read-front-requires
-    refused-requires
+    (λ c κs. search needs)  -- read-front-requires
+    (λ c κs. search needs)  -- refused-requires
     returns
-    tile-count-requires
+    (λ c κs. tt)  -- tile-count-requires
     scan-tiles-requires
-    refused-requires-2
+    (λ c κs. search needs)  -- refused-requires-2
     returns-2
     all-named-requires
-    refused-requires-3
+    (λ c κs. search needs)  -- refused-requires-3
     returns-3
     canisters-of-requires
     returns-4)

@@ -1,9 +1,6 @@
 use borrow.Author.Needs.{needs}
 use Rattle.image_read.proofs.refused.Statement.{statement}
 use Rattle.image_read.proofs.refused.Tie as tie
-use Rattle.image_read.proofs.refused.Reads as reads
-use Rattle.image_read.proofs.refused.Lts as lts
-use Rattle.floor.proofs.zero_floor.Reads as zero-floor-reads
 
 zero-floor-requires : tie.Need-zero-floor-requires
 zero-floor-requires c κs = search needs

@@ -2,9 +2,6 @@ use Rattle.image.specs.Image.{lowest}
 use borrow.Author.Needs.{needs}
 use Rattle.image_record_read.proofs.byte_wrong.Statement.{statement}
 use Rattle.image_record_read.proofs.byte_wrong.Tie as tie
-use Rattle.image_record_read.proofs.byte_wrong.Reads as reads
-use Rattle.image_record_read.proofs.byte_wrong.Lts as lts
-use Rattle.sets.proofs.lowest.Reads as lowest-reads
 
 lowest-requires : tie.Need-lowest-requires
 lowest-requires c κs = search needs

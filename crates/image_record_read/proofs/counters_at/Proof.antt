@@ -9,24 +9,12 @@ use Rattle.image_record_read.proofs.Loops.{CountersRead}
 use borrow.Author.Needs.{needs}
 use Rattle.image_record_read.proofs.counters_at.Statement.{statement}
 use Rattle.image_record_read.proofs.counters_at.Tie as tie
-use Rattle.image_record_read.proofs.counters_at.Reads as reads
-use Rattle.image_record_read.proofs.counters_at.Lts as lts
-use Rattle.image_bytes.proofs.u32_at.Reads as u32-at-reads
 
 abbrev Inv-loop : tie.InvT-loop
 Inv-loop s at h last booked n delivered₀ k₀ delivered k = CountersRead s at h n delivered k
 
 abbrev μ-loop : tie.MeasureT-loop
 μ-loop s at h last booked n delivered₀ k₀ delivered k = n - k
-
-u32-at-requires : tie.Need-u32-at-requires Inv-loop μ-loop
-u32-at-requires c κs = search needs
-
-add-u32-at : tie.Need-add-u32-at Inv-loop μ-loop
-add-u32-at c = search needs
-
-u32-at-requires-2 : tie.Need-u32-at-requires-2 Inv-loop μ-loop
-u32-at-requires-2 c κs = search needs
 
 loop-holds : tie.Need-loop-holds Inv-loop μ-loop
 loop-holds c =
@@ -40,30 +28,6 @@ loop-holds c =
       read = λ i h. absurd (omega arith);
       zeros = λ i h. zeros-at 0 4 i;
     }
-
-add-u32-at-2 : tie.Need-add-u32-at-2 Inv-loop μ-loop
-add-u32-at-2 c = search needs
-
-mul-u32-at : tie.Need-mul-u32-at Inv-loop μ-loop
-mul-u32-at c = search needs
-
-add-u32-at-3 : tie.Need-add-u32-at-3 Inv-loop μ-loop
-add-u32-at-3 c = search needs
-
-u32-at-requires-3 : tie.Need-u32-at-requires-3 Inv-loop μ-loop
-u32-at-requires-3 c κs = search needs
-
-mul-delivered : tie.Need-mul-delivered Inv-loop μ-loop
-mul-delivered c = search needs
-
-array-write-delivered : tie.Need-array-write-delivered Inv-loop μ-loop
-array-write-delivered c = search needs
-
-add-k : tie.Need-add-k Inv-loop μ-loop
-add-k c = search needs
-
-loop-less : tie.Need-loop-less Inv-loop μ-loop
-loop-less c = search needs
 
 loop-again : tie.Need-loop-again Inv-loop μ-loop
 loop-again c =
@@ -95,17 +59,17 @@ counters-at-spec =
     (tie.spec
     Inv-loop
     μ-loop
-    u32-at-requires
-    add-u32-at
-    u32-at-requires-2
+    (λ c κs. search needs)  -- u32-at-requires
+    (λ c. search needs)  -- add-u32-at
+    (λ c κs. search needs)  -- u32-at-requires-2
     loop-holds
-    add-u32-at-2
-    mul-u32-at
-    add-u32-at-3
-    u32-at-requires-3
-    mul-delivered
-    array-write-delivered
-    add-k
-    loop-less
+    (λ c. search needs)  -- add-u32-at-2
+    (λ c. search needs)  -- mul-u32-at
+    (λ c. search needs)  -- add-u32-at-3
+    (λ c κs. search needs)  -- u32-at-requires-3
+    (λ c. search needs)  -- mul-delivered
+    (λ c. search needs)  -- array-write-delivered
+    (λ c. search needs)  -- add-k
+    (λ c. search needs)  -- loop-less
     loop-again
     returns)

@@ -8,10 +8,6 @@ use Rattle.image_record_read.proofs.Walk.{end-done, end-more, end-stop,
 use borrow.Author.Needs.{needs}
 use Rattle.image_record_read.proofs.end_fault.Statement.{statement}
 use Rattle.image_record_read.proofs.end_fault.Tie as tie
-use Rattle.image_record_read.proofs.end_fault.Reads as reads
-use Rattle.image_record_read.proofs.end_fault.Lts as lts
-use Rattle.image_record_read.proofs.read_record.Reads as read-record-reads
-use Rattle.image_bytes.proofs.u16_at.Reads as u16-at-reads
 
 -- the end record was read
 ended : (c : tie.Else1) → let R = c .before .before in let g = R .before .before .args in (recordFault 4 0 (drop g.at (g.s .now)) ≡ 0) × (g.at + 4 + le 2 (drop g.at (g.s .now)) ≤ length (g.s .now))
@@ -37,9 +33,6 @@ u16-at-requires c κs = let b = ended c in omega arith
 add-if2 : tie.Need-add-if2
 add-if2 c = let b = ended (c .before) in omega arith
 
-cast-if2 : tie.Need-cast-if2
-cast-if2 c = search needs
-
 add-if2-2 : tie.Need-add-if2-2
 add-if2-2 c = let b = ended (c .before) in omega (arith, c .u16-at .ensures)
 
@@ -61,7 +54,7 @@ end-fault-spec =
     returns
     u16-at-requires
     add-if2
-    cast-if2
+    (λ c. search needs)  -- cast-if2
     add-if2-2
     returns-2
     returns-3)

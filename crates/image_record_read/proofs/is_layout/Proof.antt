@@ -3,9 +3,6 @@ use Rattle.image_record_read.proofs.Walk.{layout-few, layout-kind}
 use borrow.Author.Needs.{needs}
 use Rattle.image_record_read.proofs.is_layout.Statement.{statement}
 use Rattle.image_record_read.proofs.is_layout.Tie as tie
-use Rattle.image_record_read.proofs.is_layout.Reads as reads
-use Rattle.image_record_read.proofs.is_layout.Lts as lts
-use Rattle.image_bytes.proofs.u16_at.Reads as u16-at-reads
 
 sub-if1 : tie.Need-sub-if1
 sub-if1 c = search needs

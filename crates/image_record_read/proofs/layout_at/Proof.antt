@@ -2,10 +2,6 @@ use Rattle.image_record_read.proofs.Values.{layout-code}
 use borrow.Author.Needs.{needs}
 use Rattle.image_record_read.proofs.layout_at.Statement.{statement}
 use Rattle.image_record_read.proofs.layout_at.Tie as tie
-use Rattle.image_record_read.proofs.layout_at.Reads as reads
-use Rattle.image_record_read.proofs.layout_at.Lts as lts
-use Rattle.image_record_read.proofs.name_at.Reads as name-at-reads
-use Rattle.image_bytes.proofs.u64_at.Reads as u64-at-reads
 
 name-at-requires : tie.Need-name-at-requires
 name-at-requires c κs = search needs

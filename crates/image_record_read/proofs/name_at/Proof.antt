@@ -11,8 +11,6 @@ use Rattle.image_record_read.proofs.Loops.{NameRead}
 use borrow.Author.Needs.{needs}
 use Rattle.image_record_read.proofs.name_at.Statement.{statement}
 use Rattle.image_record_read.proofs.name_at.Tie as tie
-use Rattle.image_record_read.proofs.name_at.Reads as reads
-use Rattle.image_record_read.proofs.name_at.Lts as lts
 
 -- before the eighth byte
 low : (n k : ℕ) → k < 8 → n < 2 ^ (8 * k) → n < 2 ^ 56
@@ -39,23 +37,11 @@ loop-holds c = record {
 mul-n : tie.Need-mul-n Inv-loop μ-loop
 mul-n c = let l = c .before .loop in omega (arith, low (l .n) (l .k) (omega arith) (l .inv .small))
 
-add-n : tie.Need-add-n Inv-loop μ-loop
-add-n c = search needs
-
-shared-slice-read-n : tie.Need-shared-slice-read-n Inv-loop μ-loop
-shared-slice-read-n c = search needs
-
 cast-n : tie.Need-cast-n Inv-loop μ-loop
 cast-n c = omega (arith, c .shared-slice-known .given (c .before .before .before .args .at + c .before .before .loop .k))
 
 add-n-2 : tie.Need-add-n-2 Inv-loop μ-loop
 add-n-2 c = let l = c .before .before .loop in omega (arith, low (l .n) (l .k) (omega arith) (l .inv .small), c .shared-slice-known .given (c .before .before .before .args .at + l .k))
-
-add-k : tie.Need-add-k Inv-loop μ-loop
-add-k c = search needs
-
-loop-less : tie.Need-loop-less Inv-loop μ-loop
-loop-less c = search needs
 
 loop-again : tie.Need-loop-again Inv-loop μ-loop
 loop-again c =
@@ -82,11 +68,11 @@ name-at-spec =
     μ-loop
     loop-holds
     mul-n
-    add-n
-    shared-slice-read-n
+    (λ c. search needs)  -- add-n
+    (λ c. search needs)  -- shared-slice-read-n
     cast-n
     add-n-2
-    add-k
-    loop-less
+    (λ c. search needs)  -- add-k
+    (λ c. search needs)  -- loop-less
     loop-again
     returns)

@@ -4,9 +4,6 @@ use Rattle.image_record_read.proofs.Refusals.{end-long, end-right}
 use borrow.Author.Needs.{needs}
 use Rattle.image_record_read.proofs.read_end.Statement.{statement}
 use Rattle.image_record_read.proofs.read_end.Tie as tie
-use Rattle.image_record_read.proofs.read_end.Reads as reads
-use Rattle.image_record_read.proofs.read_end.Lts as lts
-use Rattle.image_record_read.proofs.unread.Reads as unread-reads
 
 unread-requires : tie.Need-unread-requires
 unread-requires c κs = search needs

@@ -4,10 +4,6 @@ use Rattle.image_record_read.proofs.Refusals.{layout-long, layout-right
 use borrow.Author.Needs.{needs}
 use Rattle.image_record_read.proofs.read_layout.Statement.{statement}
 use Rattle.image_record_read.proofs.read_layout.Tie as tie
-use Rattle.image_record_read.proofs.read_layout.Reads as reads
-use Rattle.image_record_read.proofs.read_layout.Lts as lts
-use Rattle.image_record_read.proofs.layout_at.Reads as layout-at-reads
-use Rattle.image_record_read.proofs.unread.Reads as unread-reads
 
 unread-requires : tie.Need-unread-requires
 unread-requires c κs = search needs

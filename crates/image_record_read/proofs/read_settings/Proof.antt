@@ -7,14 +7,6 @@ use Rattle.image_record_read.proofs.Refusals.{SettingsFound, SettingsSi
 use borrow.Author.Needs.{needs}
 use Rattle.image_record_read.proofs.read_settings.Statement.{statement}
 use Rattle.image_record_read.proofs.read_settings.Tie as tie
-use Rattle.image_record_read.proofs.read_settings.Reads as reads
-use Rattle.image_record_read.proofs.read_settings.Lts as lts
-use Rattle.image_record_read.proofs.byte_wrong.Reads as byte-wrong-reads
-use Rattle.image_record_read.proofs.settings_at.Reads as settings-at-reads
-use Rattle.sets.proofs.size.Reads as size-reads
-use Rattle.check_settings.proofs.settings_refusal.Reads as settings-refusal-reads
-use Rattle.check_settings.proofs.sizes_wrong.Reads as sizes-wrong-reads
-use Rattle.image_record_read.proofs.unread.Reads as unread-reads
 
 -- after the test of the length, of the hopper byte, and of the sizes
 shaped : (c : tie.Else1) → let g = c .before .before .args in ((g.n ≡ 20) ⊎ (g.n ≡ 28)) × (g.at + 20 ≤ length (g.s .now))
@@ -39,23 +31,14 @@ before-sizes c = c .before .before .before
 sized : (c : tie.Else4) → let B = before-sizes c in let g = before-byte B .before .before .args in SettingsSized (g.s .now) g.at g.n (B .before .before .settings-at .result) (B .byte-wrong .result)
 sized c = record { found = found (before-sizes c); lowest = c .before .before .if3 .left; sizes = sym (c .before .sizes-wrong .ensures) ∙ c .if4 .left }
 
-unread-requires : tie.Need-unread-requires
-unread-requires c κs = search needs
-
 returns : tie.Need-returns
 returns c =
     let S = c .before .before .before in
     let e = lengths-out (S .args .n) (c .before .if1 .taken) in
     (c .unread .ensures ∙ settings-long (S .args .s .now) (S .args .at) (S .args .n) (e .0) (e .1), λ z. absurd (omega (arith, c .unread .ensures, z)))
 
-add-if2 : tie.Need-add-if2
-add-if2 c = search needs
-
 shared-slice-read-if2 : tie.Need-shared-slice-read-if2
 shared-slice-read-if2 c = let b = shaped (c .before) in omega arith
-
-unread-requires-2 : tie.Need-unread-requires-2
-unread-requires-2 c κs = search needs
 
 returns-2 : tie.Need-returns-2
 returns-2 c =
@@ -67,48 +50,21 @@ returns-2 c =
 settings-at-requires : tie.Need-settings-at-requires
 settings-at-requires c κs = let I = c .before .before in (I .before .before .pre, shaped I .0)
 
-add-byte-wrong : tie.Need-add-byte-wrong
-add-byte-wrong c = search needs
-
 shared-slice-read-byte-wrong : tie.Need-shared-slice-read-byte-wrong
 shared-slice-read-byte-wrong c = let E = c .before .before in let b = shaped (E .before .before) in omega arith
 
-byte-wrong-requires : tie.Need-byte-wrong-requires
-byte-wrong-requires c κs = search needs
-
-unread-requires-3 : tie.Need-unread-requires-3
-unread-requires-3 c κs = search needs
-
 returns-3 : tie.Need-returns-3
 returns-3 c = (c .unread3 .ensures ∙ settings-lowest (found (c .before .before)) (c .before .if3 .taken), λ z. absurd (omega (arith, c .unread3 .ensures, z)))
-
-sizes-wrong-requires : tie.Need-sizes-wrong-requires
-sizes-wrong-requires c κs = search needs
-
-unread-requires-4 : tie.Need-unread-requires-4
-unread-requires-4 c κs = search needs
 
 returns-4 : tie.Need-returns-4
 returns-4 c =
     let Z = c .before .before in
     (c .unread4 .ensures ∙ settings-sizes (found (Z .before .before)) (Z .before .if3 .left) (sym (Z .sizes-wrong .ensures) ∙ c .before .if4 .taken), λ z. absurd (omega (arith, c .unread4 .ensures, z)))
 
-size-requires : tie.Need-size-requires
-size-requires c κs = search needs
-
-unread-requires-5 : tie.Need-unread-requires-5
-unread-requires-5 c κs = search needs
-
 returns-5 : tie.Need-returns-5
 returns-5 c =
     let Z = c .before .before in
     (c .unread5 .ensures ∙ settings-few (sized (Z .before)) _ (Z .size .ensures) (c .before .if5 .taken), λ z. absurd (omega (arith, c .unread5 .ensures, z)))
-
-settings-refusal-requires : tie.Need-settings-refusal-requires
-settings-refusal-requires c κs = search needs
-
-unread-requires-6 : tie.Need-unread-requires-6
-unread-requires-6 c κs = search needs
 
 returns-6 : tie.Need-returns-6
 returns-6 c =
@@ -120,24 +76,24 @@ pub read-settings-spec : {M : Type 1} → statement M
 read-settings-spec =
     tie.close
     (tie.spec
-    unread-requires
+    (λ c κs. search needs)  -- unread-requires
     returns
-    add-if2
+    (λ c. search needs)  -- add-if2
     shared-slice-read-if2
-    unread-requires-2
+    (λ c κs. search needs)  -- unread-requires-2
     returns-2
     settings-at-requires
-    add-byte-wrong
+    (λ c. search needs)  -- add-byte-wrong
     shared-slice-read-byte-wrong
-    byte-wrong-requires
-    unread-requires-3
+    (λ c κs. search needs)  -- byte-wrong-requires
+    (λ c κs. search needs)  -- unread-requires-3
     returns-3
-    sizes-wrong-requires
-    unread-requires-4
+    (λ c κs. search needs)  -- sizes-wrong-requires
+    (λ c κs. search needs)  -- unread-requires-4
     returns-4
-    size-requires
-    unread-requires-5
+    (λ c κs. search needs)  -- size-requires
+    (λ c κs. search needs)  -- unread-requires-5
     returns-5
-    settings-refusal-requires
-    unread-requires-6
+    (λ c κs. search needs)  -- settings-refusal-requires
+    (λ c κs. search needs)  -- unread-requires-6
     returns-6)

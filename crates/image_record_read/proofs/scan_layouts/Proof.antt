@@ -8,10 +8,6 @@ use Rattle.image_record_read.proofs.Loops.{LayoutsScanned, layouts-off,
 use borrow.Author.Needs.{needs}
 use Rattle.image_record_read.proofs.scan_layouts.Statement.{statement}
 use Rattle.image_record_read.proofs.scan_layouts.Tie as tie
-use Rattle.image_record_read.proofs.scan_layouts.Reads as reads
-use Rattle.image_record_read.proofs.scan_layouts.Lts as lts
-use Rattle.image_record_read.proofs.is_layout.Reads as is-layout-reads
-use Rattle.image_record_read.proofs.read_record.Reads as read-record-reads
 
 abbrev Inv-loop : tie.InvT-loop
 Inv-loop s from layouts₀ at₀ n₀ layouts at n = LayoutsScanned s from layouts at n
@@ -43,12 +39,6 @@ returns-2 c =
     let I = E .before .before in
     (layout-stop (I .before .loop .inv) _ (E .before .is-layout .ensures) (E .if1 .left) (omega arith) (R .read-record .result) (R .read-record .ensures .0) (c .if2 .taken), λ z. absurd (c .if2 .taken z))
 
-mul-layouts : tie.Need-mul-layouts Inv-loop μ-loop
-mul-layouts c = search needs
-
-array-set-from-layouts : tie.Need-array-set-from-layouts Inv-loop μ-loop
-array-set-from-layouts c = search needs
-
 add-at : tie.Need-add-at Inv-loop μ-loop
 add-at c =
     let R = c .before .before .before in
@@ -56,12 +46,6 @@ add-at c =
     let I = E .before .before in
     let m = layout-room (I .before .loop .inv) _ (E .before .is-layout .ensures) (E .if1 .left) (omega arith) (R .read-record .result) (R .read-record .ensures .0) (c .before .if2 .left) in
     omega arith
-
-add-n : tie.Need-add-n Inv-loop μ-loop
-add-n c = search needs
-
-loop-less : tie.Need-loop-less Inv-loop μ-loop
-loop-less c = search needs
 
 loop-again : tie.Need-loop-again Inv-loop μ-loop
 loop-again c =
@@ -89,10 +73,10 @@ scan-layouts-spec =
     returns
     read-record-requires
     returns-2
-    mul-layouts
-    array-set-from-layouts
+    (λ c. search needs)  -- mul-layouts
+    (λ c. search needs)  -- array-set-from-layouts
     add-at
-    add-n
-    loop-less
+    (λ c. search needs)  -- add-n
+    (λ c. search needs)  -- loop-less
     loop-again
     returns-3)

@@ -10,11 +10,6 @@ use Rattle.image_record_read.proofs.Loops.{TilesScanned, tile-stop, til
 use borrow.Author.Needs.{needs}
 use Rattle.image_record_read.proofs.scan_tiles.Statement.{statement}
 use Rattle.image_record_read.proofs.scan_tiles.Tie as tie
-use Rattle.image_record_read.proofs.scan_tiles.Reads as reads
-use Rattle.image_record_read.proofs.scan_tiles.Lts as lts
-use Rattle.image_record_read.proofs.read_record.Reads as read-record-reads
-use Rattle.image_record_read.proofs.end_fault.Reads as end-fault-reads
-use Rattle.image_bytes.proofs.u16_at.Reads as u16-at-reads
 
 abbrev Inv-loop : tie.InvT-loop
 Inv-loop s from c tiles₀ starts₀ at₀ t₀ tiles starts at t = TilesScanned s from c tiles starts at t
@@ -39,9 +34,6 @@ loop-holds c =
       tiled = filled-none 64 (headOf g.c (drop g.from (g.s .now))) zeroTile;
     }
 
-cast-read-record : tie.Need-cast-read-record Inv-loop μ-loop
-cast-read-record c = search needs
-
 read-record-requires : tie.Need-read-record-requires Inv-loop μ-loop
 read-record-requires c κs = (c .before .loop .inv .inside, omega arith, omega arith, λ e. absurd (omega arith))
 
@@ -51,20 +43,8 @@ returns c =
     let I = R .before in
     (tile-stop (I .before .loop .inv) (I .loop-test .taken) _ (R .read-record .ensures .0) (c .if1 .taken), λ z. absurd (c .if1 .taken z))
 
-mul-tiles : tie.Need-mul-tiles Inv-loop μ-loop
-mul-tiles c = search needs
-
-array-set-from-tiles : tie.Need-array-set-from-tiles Inv-loop μ-loop
-array-set-from-tiles c = search needs
-
 add-starts : tie.Need-add-starts Inv-loop μ-loop
 add-starts c = let m = room (c .before) in omega arith
-
-mul-starts : tie.Need-mul-starts Inv-loop μ-loop
-mul-starts c = search needs
-
-array-write-starts : tie.Need-array-write-starts Inv-loop μ-loop
-array-write-starts c = search needs
 
 u16-at-requires : tie.Need-u16-at-requires Inv-loop μ-loop
 u16-at-requires c κs = let m = room (c .before) in omega arith
@@ -72,17 +52,8 @@ u16-at-requires c κs = let m = room (c .before) in omega arith
 add-at : tie.Need-add-at Inv-loop μ-loop
 add-at c = let m = room (c .before .before) in omega arith
 
-cast-at : tie.Need-cast-at Inv-loop μ-loop
-cast-at c = search needs
-
 add-at-2 : tie.Need-add-at-2 Inv-loop μ-loop
 add-at-2 c = let m = room (c .before .before) in omega (arith, c .u16-at .ensures)
-
-add-t : tie.Need-add-t Inv-loop μ-loop
-add-t c = search needs
-
-loop-less : tie.Need-loop-less Inv-loop μ-loop
-loop-less c = search needs
 
 loop-again : tie.Need-loop-again Inv-loop μ-loop
 loop-again c =
@@ -111,20 +82,20 @@ scan-tiles-spec =
     Inv-loop
     μ-loop
     loop-holds
-    cast-read-record
+    (λ c. search needs)  -- cast-read-record
     read-record-requires
     returns
-    mul-tiles
-    array-set-from-tiles
+    (λ c. search needs)  -- mul-tiles
+    (λ c. search needs)  -- array-set-from-tiles
     add-starts
-    mul-starts
-    array-write-starts
+    (λ c. search needs)  -- mul-starts
+    (λ c. search needs)  -- array-write-starts
     u16-at-requires
     add-at
-    cast-at
+    (λ c. search needs)  -- cast-at
     add-at-2
-    add-t
-    loop-less
+    (λ c. search needs)  -- add-t
+    (λ c. search needs)  -- loop-less
     loop-again
     end-fault-requires
     returns-2)

@@ -5,11 +5,6 @@ use Rattle.image_record_read.proofs.Refusals.{settings-made, room-20}
 use borrow.Author.Needs.{needs}
 use Rattle.image_record_read.proofs.settings_at.Statement.{statement}
 use Rattle.image_record_read.proofs.settings_at.Tie as tie
-use Rattle.image_record_read.proofs.settings_at.Reads as reads
-use Rattle.image_record_read.proofs.settings_at.Lts as lts
-use Rattle.image_record_read.proofs.hoppers_at.Reads as hoppers-at-reads
-use Rattle.image_bytes.proofs.u16_at.Reads as u16-at-reads
-use Rattle.image_bytes.proofs.u64_at.Reads as u64-at-reads
 
 room : (c : tie.After-hoppers-at) → c .before .before .args .at + 20 ≤ length (c .before .before .args .s .now)
 room c = let S = c .before .before in room-20 (S .args .at) (S .args .n) _ (S .pre .0) (S .pre .1)
@@ -17,44 +12,23 @@ room c = let S = c .before .before in room-20 (S .args .at) (S .args .n) _ (S .p
 abbrev after-hoppers : tie.After-u16-at3 → tie.After-hoppers-at
 after-hoppers c = c .before .before .before
 
-hoppers-at-requires : tie.Need-hoppers-at-requires
-hoppers-at-requires c κs = search needs
-
-add-u16-at : tie.Need-add-u16-at
-add-u16-at c = search needs
-
 u16-at-requires : tie.Need-u16-at-requires
 u16-at-requires c κs = let r = room c in omega arith
-
-add-u16-at-2 : tie.Need-add-u16-at-2
-add-u16-at-2 c = search needs
 
 u16-at-requires-2 : tie.Need-u16-at-requires-2
 u16-at-requires-2 c κs = let r = room (c .before) in omega arith
 
-add-u16-at-3 : tie.Need-add-u16-at-3
-add-u16-at-3 c = search needs
-
 u16-at-requires-3 : tie.Need-u16-at-requires-3
 u16-at-requires-3 c κs = let r = room (c .before .before) in omega arith
 
-add-u16-at-4 : tie.Need-add-u16-at-4
-add-u16-at-4 c = search needs
-
 u16-at-requires-4 : tie.Need-u16-at-requires-4
 u16-at-requires-4 c κs = let r = room (after-hoppers c) in omega arith
-
-add-u64-at : tie.Need-add-u64-at
-add-u64-at c = search needs
 
 u64-at-requires : tie.Need-u64-at-requires
 u64-at-requires c κs = let r = room (after-hoppers (c .before)) in omega arith
 
 shared-slice-read-t12 : tie.Need-shared-slice-read-t12
 shared-slice-read-t12 c = let r = room (after-hoppers (c .before .before .before)) in omega arith
-
-add-t10 : tie.Need-add-t10
-add-t10 c = search needs
 
 shared-slice-read-t14 : tie.Need-shared-slice-read-t14
 shared-slice-read-t14 c = let U = c .before .before in let r = room (after-hoppers (U .before .before)) in omega arith
@@ -71,18 +45,18 @@ pub settings-at-spec : {M : Type 1} → statement M
 settings-at-spec =
     tie.close
     (tie.spec
-    hoppers-at-requires
-    add-u16-at
+    (λ c κs. search needs)  -- hoppers-at-requires
+    (λ c. search needs)  -- add-u16-at
     u16-at-requires
-    add-u16-at-2
+    (λ c. search needs)  -- add-u16-at-2
     u16-at-requires-2
-    add-u16-at-3
+    (λ c. search needs)  -- add-u16-at-3
     u16-at-requires-3
-    add-u16-at-4
+    (λ c. search needs)  -- add-u16-at-4
     u16-at-requires-4
-    add-u64-at
+    (λ c. search needs)  -- add-u64-at
     u64-at-requires
     shared-slice-read-t12
-    add-t10
+    (λ c. search needs)  -- add-t10
     shared-slice-read-t14
     returns)

@@ -12,10 +12,6 @@ use Rattle.image_record_write.proofs.Loops.{CountsPut, counts-turn}
 use borrow.Author.Needs.{needs}
 use Rattle.image_record_write.proofs.put_counters.Statement.{statement}
 use Rattle.image_record_write.proofs.put_counters.Tie as tie
-use Rattle.image_record_write.proofs.put_counters.Reads as reads
-use Rattle.image_record_write.proofs.put_counters.Lts as lts
-use Rattle.image_record_write.proofs.put_top.Reads as put-top-reads
-use Rattle.image_bytes.proofs.put_u32.Reads as put-u32-reads
 
 abbrev Inv-loop : tie.InvT-loop
 Inv-loop s₀ at h d n k₀ s k = CountsPut s₀ at h d n s k
@@ -26,15 +22,6 @@ abbrev μ-loop : tie.MeasureT-loop
 -- where the front of the record had been written
 abbrev topped : tie.After-d Inv-loop μ-loop → tie.After-put-top Inv-loop μ-loop
 topped c = c .before .before .before
-
-mul-put-top : tie.Need-mul-put-top Inv-loop μ-loop
-mul-put-top c = search needs
-
-add-put-top : tie.Need-add-put-top Inv-loop μ-loop
-add-put-top c = search needs
-
-put-top-requires : tie.Need-put-top-requires Inv-loop μ-loop
-put-top-requires c κs = search needs
 
 loop-holds : tie.Need-loop-holds Inv-loop μ-loop
 unfolding bytesOf tab
@@ -53,38 +40,11 @@ loop-holds c =
       written = sym (put-none (p .last .0) (g.at + 12));
     }
 
-add-put-u32 : tie.Need-add-put-u32 Inv-loop μ-loop
-add-put-u32 c = search needs
-
-mul-put-u32 : tie.Need-mul-put-u32 Inv-loop μ-loop
-mul-put-u32 c = search needs
-
-add-put-u32-2 : tie.Need-add-put-u32-2 Inv-loop μ-loop
-add-put-u32-2 c = search needs
-
-mul-put-u32-2 : tie.Need-mul-put-u32-2 Inv-loop μ-loop
-mul-put-u32-2 c = search needs
-
-array-read-put-u32 : tie.Need-array-read-put-u32 Inv-loop μ-loop
-array-read-put-u32 c = search needs
-
-put-u32-requires : tie.Need-put-u32-requires Inv-loop μ-loop
-put-u32-requires c κs = search needs
-
-add-k : tie.Need-add-k Inv-loop μ-loop
-add-k c = search needs
-
-loop-less : tie.Need-loop-less Inv-loop μ-loop
-loop-less c = search needs
-
 loop-again : tie.Need-loop-again Inv-loop μ-loop
 loop-again c =
     let P = c .before .before in
     let I = P .before .before in
     counts-turn (I .before .loop .inv) (I .loop-test .taken) _ (P .put-u32 .kept .0) (P .put-u32 .ensures)
-
-same-length : tie.Need-same-length Inv-loop μ-loop
-same-length c = search needs
 
 returns : tie.Need-returns Inv-loop μ-loop
 returns c =
@@ -106,18 +66,18 @@ put-counters-spec =
     (tie.spec
     Inv-loop
     μ-loop
-    mul-put-top
-    add-put-top
-    put-top-requires
+    (λ c. search needs)  -- mul-put-top
+    (λ c. search needs)  -- add-put-top
+    (λ c κs. search needs)  -- put-top-requires
     loop-holds
-    add-put-u32
-    mul-put-u32
-    add-put-u32-2
-    mul-put-u32-2
-    array-read-put-u32
-    put-u32-requires
-    add-k
-    loop-less
+    (λ c. search needs)  -- add-put-u32
+    (λ c. search needs)  -- mul-put-u32
+    (λ c. search needs)  -- add-put-u32-2
+    (λ c. search needs)  -- mul-put-u32-2
+    (λ c. search needs)  -- array-read-put-u32
+    (λ c κs. search needs)  -- put-u32-requires
+    (λ c. search needs)  -- add-k
+    (λ c. search needs)  -- loop-less
     loop-again
-    same-length
+    (λ c. search needs)  -- same-length
     returns)

@@ -9,13 +9,6 @@ use Rattle.image_record_write.specs.Parts.{measuresBytes, headBytes}
 use borrow.Author.Needs.{needs}
 use Rattle.image_record_write.proofs.put_head.Statement.{statement}
 use Rattle.image_record_write.proofs.put_head.Tie as tie
-use Rattle.image_record_write.proofs.put_head.Reads as reads
-use Rattle.image_record_write.proofs.put_head.Lts as lts
-use Rattle.sets.proofs.lowest.Reads as lowest-reads
-use Rattle.image_bytes.proofs.put_byte.Reads as put-byte-reads
-use Rattle.image_record_write.proofs.put_pair.Reads as put-pair-reads
-use Rattle.image_record_write.proofs.put_measures.Reads as put-measures-reads
-use Rattle.image_record_write.proofs.put_three.Reads as put-three-reads
 
 -- where each part but the last had been written
 abbrev one : tie.After-put-three-arg → tie.After-put-pair
@@ -26,33 +19,6 @@ two c = c .before .before .before
 
 abbrev three : tie.After-put-measures-arg → tie.After-put-byte
 three c = c .before .before .before
-
-lowest-requires : tie.Need-lowest-requires
-lowest-requires c κs = search needs
-
-put-pair-requires : tie.Need-put-pair-requires
-put-pair-requires c κs = search needs
-
-add-put-three : tie.Need-add-put-three
-add-put-three c = search needs
-
-put-three-requires : tie.Need-put-three-requires
-put-three-requires c κs = search needs
-
-add-put-byte : tie.Need-add-put-byte
-add-put-byte c = search needs
-
-put-byte-requires : tie.Need-put-byte-requires
-put-byte-requires c κs = search needs
-
-add-put-measures : tie.Need-add-put-measures
-add-put-measures c = search needs
-
-put-measures-requires : tie.Need-put-measures-requires
-put-measures-requires c κs = search needs
-
-same-length : tie.Need-same-length
-same-length c = search needs
 
 returns : tie.Need-returns
 unfolding headBytes lowest
@@ -77,13 +43,13 @@ pub put-head-spec : {M : Type 1} → statement M
 put-head-spec =
     tie.close
     (tie.spec
-    lowest-requires
-    put-pair-requires
-    add-put-three
-    put-three-requires
-    add-put-byte
-    put-byte-requires
-    add-put-measures
-    put-measures-requires
-    same-length
+    (λ c κs. search needs)  -- lowest-requires
+    (λ c κs. search needs)  -- put-pair-requires
+    (λ c. search needs)  -- add-put-three
+    (λ c κs. search needs)  -- put-three-requires
+    (λ c. search needs)  -- add-put-byte
+    (λ c κs. search needs)  -- put-byte-requires
+    (λ c. search needs)  -- add-put-measures
+    (λ c κs. search needs)  -- put-measures-requires
+    (λ c. search needs)  -- same-length
     returns)

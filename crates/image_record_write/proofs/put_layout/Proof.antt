@@ -9,11 +9,6 @@ use Rattle.image_record_write.proofs.RecordBytes.{pair-length, layout-r
 use borrow.Author.Needs.{needs}
 use Rattle.image_record_write.proofs.put_layout.Statement.{statement}
 use Rattle.image_record_write.proofs.put_layout.Tie as tie
-use Rattle.image_record_write.proofs.put_layout.Reads as reads
-use Rattle.image_record_write.proofs.put_layout.Lts as lts
-use Rattle.image_record_write.proofs.put_name.Reads as put-name-reads
-use Rattle.image_record_write.proofs.put_pair.Reads as put-pair-reads
-use Rattle.image_bytes.proofs.put_u64.Reads as put-u64-reads
 
 -- where each part but the last had been written
 abbrev one : tie.After-put-name-arg → tie.After-put-pair
@@ -21,24 +16,6 @@ one c = c .before .before .before
 
 abbrev two : tie.After-put-u64-arg → tie.After-put-name
 two c = c .before .before .before
-
-put-pair-requires : tie.Need-put-pair-requires
-put-pair-requires c κs = search needs
-
-add-put-name : tie.Need-add-put-name
-add-put-name c = search needs
-
-put-name-requires : tie.Need-put-name-requires
-put-name-requires c κs = search needs
-
-add-put-u64 : tie.Need-add-put-u64
-add-put-u64 c = search needs
-
-put-u64-requires : tie.Need-put-u64-requires
-put-u64-requires c κs = search needs
-
-same-length : tie.Need-same-length
-same-length c = search needs
 
 returns : tie.Need-returns
 returns c =
@@ -57,10 +34,10 @@ pub put-layout-spec : {M : Type 1} → statement M
 put-layout-spec =
     tie.close
     (tie.spec
-    put-pair-requires
-    add-put-name
-    put-name-requires
-    add-put-u64
-    put-u64-requires
-    same-length
+    (λ c κs. search needs)  -- put-pair-requires
+    (λ c. search needs)  -- add-put-name
+    (λ c κs. search needs)  -- put-name-requires
+    (λ c. search needs)  -- add-put-u64
+    (λ c κs. search needs)  -- put-u64-requires
+    (λ c. search needs)  -- same-length
     returns)

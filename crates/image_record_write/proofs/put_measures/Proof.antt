@@ -7,10 +7,6 @@ use Rattle.image_bytes.proofs.PutLaws.{put-three}
 use borrow.Author.Needs.{needs}
 use Rattle.image_record_write.proofs.put_measures.Statement.{statement}
 use Rattle.image_record_write.proofs.put_measures.Tie as tie
-use Rattle.image_record_write.proofs.put_measures.Reads as reads
-use Rattle.image_record_write.proofs.put_measures.Lts as lts
-use Rattle.image_bytes.proofs.put_u64.Reads as put-u64-reads
-use Rattle.image_record_write.proofs.put_pair.Reads as put-pair-reads
 
 -- where each part but the last had been written
 abbrev one : tie.After-put-pair-arg2 → tie.After-put-pair
@@ -18,24 +14,6 @@ one c = c .before .before .before
 
 abbrev two : tie.After-put-u64-arg → tie.After-put-pair2
 two c = c .before .before .before
-
-put-pair-requires : tie.Need-put-pair-requires
-put-pair-requires c κs = search needs
-
-add-put-pair : tie.Need-add-put-pair
-add-put-pair c = search needs
-
-put-pair-requires-2 : tie.Need-put-pair-requires-2
-put-pair-requires-2 c κs = search needs
-
-add-put-u64 : tie.Need-add-put-u64
-add-put-u64 c = search needs
-
-put-u64-requires : tie.Need-put-u64-requires
-put-u64-requires c κs = search needs
-
-same-length : tie.Need-same-length
-same-length c = search needs
 
 returns : tie.Need-returns
 returns c =
@@ -53,10 +31,10 @@ pub put-measures-spec : {M : Type 1} → statement M
 put-measures-spec =
     tie.close
     (tie.spec
-    put-pair-requires
-    add-put-pair
-    put-pair-requires-2
-    add-put-u64
-    put-u64-requires
-    same-length
+    (λ c κs. search needs)  -- put-pair-requires
+    (λ c. search needs)  -- add-put-pair
+    (λ c κs. search needs)  -- put-pair-requires-2
+    (λ c. search needs)  -- add-put-u64
+    (λ c κs. search needs)  -- put-u64-requires
+    (λ c. search needs)  -- same-length
     returns)

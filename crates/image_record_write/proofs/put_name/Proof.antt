@@ -7,9 +7,6 @@ use Rattle.image_record_write.proofs.Loops.{NamePut, letters-turn}
 use borrow.Author.Needs.{needs}
 use Rattle.image_record_write.proofs.put_name.Statement.{statement}
 use Rattle.image_record_write.proofs.put_name.Tie as tie
-use Rattle.image_record_write.proofs.put_name.Reads as reads
-use Rattle.image_record_write.proofs.put_name.Lts as lts
-use Rattle.image_bytes.proofs.put_byte.Reads as put-byte-reads
 
 abbrev Inv-loop : tie.InvT-loop
 Inv-loop s₀ at x k₀ s k = NamePut s₀ at x s k
@@ -27,44 +24,11 @@ loop-holds c =
       written = sym (put-none (g.s .now) g.at);
     }
 
-mul-rest : tie.Need-mul-rest Inv-loop μ-loop
-mul-rest c = search needs
-
-sub-rest : tie.Need-sub-rest Inv-loop μ-loop
-sub-rest c = search needs
-
-cast-rest : tie.Need-cast-rest Inv-loop μ-loop
-cast-rest c = search needs
-
-shr-rest : tie.Need-shr-rest Inv-loop μ-loop
-shr-rest c = search needs
-
-cast-put-byte : tie.Need-cast-put-byte Inv-loop μ-loop
-cast-put-byte c = search needs
-
-add-put-byte : tie.Need-add-put-byte Inv-loop μ-loop
-add-put-byte c = search needs
-
-cast-put-byte-2 : tie.Need-cast-put-byte-2 Inv-loop μ-loop
-cast-put-byte-2 c = search needs
-
-put-byte-requires : tie.Need-put-byte-requires Inv-loop μ-loop
-put-byte-requires c κs = search needs
-
-add-k : tie.Need-add-k Inv-loop μ-loop
-add-k c = search needs
-
-loop-less : tie.Need-loop-less Inv-loop μ-loop
-loop-less c = search needs
-
 loop-again : tie.Need-loop-again Inv-loop μ-loop
 loop-again c =
     let P = c .before .before in
     let I = P .before .before in
     letters-turn (I .before .loop .inv) (I .loop-test .taken) _ (P .put-byte .kept .0) (P .put-byte .ensures)
-
-same-length : tie.Need-same-length Inv-loop μ-loop
-same-length c = search needs
 
 returns : tie.Need-returns Inv-loop μ-loop
 returns c =
@@ -80,16 +44,16 @@ put-name-spec =
     Inv-loop
     μ-loop
     loop-holds
-    mul-rest
-    sub-rest
-    cast-rest
-    shr-rest
-    cast-put-byte
-    add-put-byte
-    cast-put-byte-2
-    put-byte-requires
-    add-k
-    loop-less
+    (λ c. search needs)  -- mul-rest
+    (λ c. search needs)  -- sub-rest
+    (λ c. search needs)  -- cast-rest
+    (λ c. search needs)  -- shr-rest
+    (λ c. search needs)  -- cast-put-byte
+    (λ c. search needs)  -- add-put-byte
+    (λ c. search needs)  -- cast-put-byte-2
+    (λ c κs. search needs)  -- put-byte-requires
+    (λ c. search needs)  -- add-k
+    (λ c. search needs)  -- loop-less
     loop-again
-    same-length
+    (λ c. search needs)  -- same-length
     returns)

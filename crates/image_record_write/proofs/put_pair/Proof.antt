@@ -5,9 +5,6 @@ use Rattle.image_bytes.proofs.PutLaws.{put-two}
 use borrow.Author.Needs.{needs}
 use Rattle.image_record_write.proofs.put_pair.Statement.{statement}
 use Rattle.image_record_write.proofs.put_pair.Tie as tie
-use Rattle.image_record_write.proofs.put_pair.Reads as reads
-use Rattle.image_record_write.proofs.put_pair.Lts as lts
-use Rattle.image_bytes.proofs.put_u16.Reads as put-u16-reads
 
 -- where each part but the last had been written
 abbrev one : tie.After-put-u16-arg2 → tie.After-put-u16

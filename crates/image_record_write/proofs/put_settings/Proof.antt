@@ -12,10 +12,6 @@ use Rattle.image_record_write.proofs.RecordBytes.{head-length, settings
 use borrow.Author.Needs.{needs}
 use Rattle.image_record_write.proofs.put_settings.Statement.{statement}
 use Rattle.image_record_write.proofs.put_settings.Tie as tie
-use Rattle.image_record_write.proofs.put_settings.Reads as reads
-use Rattle.image_record_write.proofs.put_settings.Lts as lts
-use Rattle.image_record_write.proofs.put_head.Reads as put-head-reads
-use Rattle.image_bytes.proofs.put_u64.Reads as put-u64-reads
 
 -- how long the record is, with a set and without
 with-set : (c : tie.Then1) → let g = c .before .before .args in (several g.x ≡ true) × (length (settingsBody g.x) ≡ 28)
@@ -37,9 +33,6 @@ headed c = c .before .before .before
 put-head-requires : tie.Need-put-head-requires
 put-head-requires c κs = let z = with-set (c .before) in omega (arith, c .before .before .before .pre .0)
 
-add-put-u64 : tie.Need-add-put-u64
-add-put-u64 c = search needs
-
 put-u64-requires : tie.Need-put-u64-requires
 put-u64-requires c κs =
     let H = headed c in
@@ -49,9 +42,6 @@ put-u64-requires c κs =
 
 put-head-requires-2 : tie.Need-put-head-requires-2
 put-head-requires-2 c κs = let z = without (c .before) in omega (arith, c .before .before .before .pre .0)
-
-same-length : tie.Need-same-length
-same-length c = search needs
 
 returns : tie.Need-returns
 returns c =
@@ -66,9 +56,6 @@ returns c =
     rw (← settings-more g.x (z .0))
     (put-two (g.s .now) _ _ g.at _ (headBytes g.x 28) (bytes 8 (g.x .hoppers)) (omega (arith, S .pre .0)) (omega arith) (H .put-head .ensures) (U .put-u64 .ensures))
 
-same-length-2 : tie.Need-same-length-2
-same-length-2 c = search needs
-
 returns-2 : tie.Need-returns-2
 returns-2 c =
     let H = c .before .before in
@@ -80,10 +67,10 @@ put-settings-spec =
     tie.close
     (tie.spec
     put-head-requires
-    add-put-u64
+    (λ c. search needs)  -- add-put-u64
     put-u64-requires
     put-head-requires-2
-    same-length
+    (λ c. search needs)  -- same-length
     returns
-    same-length-2
+    (λ c. search needs)  -- same-length-2
     returns-2)

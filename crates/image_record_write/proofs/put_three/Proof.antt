@@ -5,9 +5,6 @@ use Rattle.image_bytes.proofs.PutLaws.{put-three}
 use borrow.Author.Needs.{needs}
 use Rattle.image_record_write.proofs.put_three.Statement.{statement}
 use Rattle.image_record_write.proofs.put_three.Tie as tie
-use Rattle.image_record_write.proofs.put_three.Reads as reads
-use Rattle.image_record_write.proofs.put_three.Lts as lts
-use Rattle.image_bytes.proofs.put_byte.Reads as put-byte-reads
 
 -- where each part but the last had been written
 abbrev one : tie.After-put-byte-arg2 → tie.After-put-byte
@@ -15,24 +12,6 @@ one c = c .before .before .before
 
 abbrev two : tie.After-put-byte-arg3 → tie.After-put-byte2
 two c = c .before .before .before
-
-put-byte-requires : tie.Need-put-byte-requires
-put-byte-requires c κs = search needs
-
-add-put-byte : tie.Need-add-put-byte
-add-put-byte c = search needs
-
-put-byte-requires-2 : tie.Need-put-byte-requires-2
-put-byte-requires-2 c κs = search needs
-
-add-put-byte-2 : tie.Need-add-put-byte-2
-add-put-byte-2 c = search needs
-
-put-byte-requires-3 : tie.Need-put-byte-requires-3
-put-byte-requires-3 c κs = search needs
-
-same-length : tie.Need-same-length
-same-length c = search needs
 
 returns : tie.Need-returns
 returns c =
@@ -50,10 +29,10 @@ pub put-three-spec : {M : Type 1} → statement M
 put-three-spec =
     tie.close
     (tie.spec
-    put-byte-requires
-    add-put-byte
-    put-byte-requires-2
-    add-put-byte-2
-    put-byte-requires-3
-    same-length
+    (λ c κs. search needs)  -- put-byte-requires
+    (λ c. search needs)  -- add-put-byte
+    (λ c κs. search needs)  -- put-byte-requires-2
+    (λ c. search needs)  -- add-put-byte-2
+    (λ c κs. search needs)  -- put-byte-requires-3
+    (λ c. search needs)  -- same-length
     returns)

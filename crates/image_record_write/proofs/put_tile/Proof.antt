@@ -8,10 +8,6 @@ use Rattle.image_bytes.proofs.PutLaws.{put-three}
 use borrow.Author.Needs.{needs}
 use Rattle.image_record_write.proofs.put_tile.Statement.{statement}
 use Rattle.image_record_write.proofs.put_tile.Tie as tie
-use Rattle.image_record_write.proofs.put_tile.Reads as reads
-use Rattle.image_record_write.proofs.put_tile.Lts as lts
-use Rattle.image_record_write.proofs.put_pair.Reads as put-pair-reads
-use Rattle.image_record_write.proofs.put_three.Reads as put-three-reads
 
 -- where each part but the last had been written
 abbrev one : tie.After-put-three-arg → tie.After-put-pair
@@ -19,33 +15,6 @@ one c = c .before .before .before
 
 abbrev two : tie.After-put-three-arg2 → tie.After-put-three
 two c = c .before .before .before
-
-cast-put-pair : tie.Need-cast-put-pair
-cast-put-pair c = search needs
-
-mul-put-pair : tie.Need-mul-put-pair
-mul-put-pair c = search needs
-
-add-put-pair : tie.Need-add-put-pair
-add-put-pair c = search needs
-
-put-pair-requires : tie.Need-put-pair-requires
-put-pair-requires c κs = search needs
-
-add-put-three : tie.Need-add-put-three
-add-put-three c = search needs
-
-put-three-requires : tie.Need-put-three-requires
-put-three-requires c κs = search needs
-
-add-put-three-2 : tie.Need-add-put-three-2
-add-put-three-2 c = search needs
-
-put-three-requires-2 : tie.Need-put-three-requires-2
-put-three-requires-2 c κs = search needs
-
-same-length : tie.Need-same-length
-same-length c = search needs
 
 returns : tie.Need-returns
 unfolding tileBytes
@@ -65,13 +34,13 @@ pub put-tile-spec : {M : Type 1} → statement M
 put-tile-spec =
     tie.close
     (tie.spec
-    cast-put-pair
-    mul-put-pair
-    add-put-pair
-    put-pair-requires
-    add-put-three
-    put-three-requires
-    add-put-three-2
-    put-three-requires-2
-    same-length
+    (λ c. search needs)  -- cast-put-pair
+    (λ c. search needs)  -- mul-put-pair
+    (λ c. search needs)  -- add-put-pair
+    (λ c κs. search needs)  -- put-pair-requires
+    (λ c. search needs)  -- add-put-three
+    (λ c κs. search needs)  -- put-three-requires
+    (λ c. search needs)  -- add-put-three-2
+    (λ c κs. search needs)  -- put-three-requires-2
+    (λ c. search needs)  -- same-length
     returns)

@@ -7,10 +7,6 @@ use Rattle.image_record_write.proofs.RecordBytes.{pair-length}
 use borrow.Author.Needs.{needs}
 use Rattle.image_record_write.proofs.put_top.Statement.{statement}
 use Rattle.image_record_write.proofs.put_top.Tie as tie
-use Rattle.image_record_write.proofs.put_top.Reads as reads
-use Rattle.image_record_write.proofs.put_top.Lts as lts
-use Rattle.image_record_write.proofs.put_pair.Reads as put-pair-reads
-use Rattle.image_bytes.proofs.put_u32.Reads as put-u32-reads
 
 -- where each part but the last had been written
 abbrev one : tie.After-put-u32-arg → tie.After-put-pair
@@ -18,24 +14,6 @@ one c = c .before .before .before
 
 abbrev two : tie.After-put-u32-arg2 → tie.After-put-u32
 two c = c .before .before .before
-
-put-pair-requires : tie.Need-put-pair-requires
-put-pair-requires c κs = search needs
-
-add-put-u32 : tie.Need-add-put-u32
-add-put-u32 c = search needs
-
-put-u32-requires : tie.Need-put-u32-requires
-put-u32-requires c κs = search needs
-
-add-put-u32-2 : tie.Need-add-put-u32-2
-add-put-u32-2 c = search needs
-
-put-u32-requires-2 : tie.Need-put-u32-requires-2
-put-u32-requires-2 c κs = search needs
-
-same-length : tie.Need-same-length
-same-length c = search needs
 
 returns : tie.Need-returns
 returns c =
@@ -53,10 +31,10 @@ pub put-top-spec : {M : Type 1} → statement M
 put-top-spec =
     tie.close
     (tie.spec
-    put-pair-requires
-    add-put-u32
-    put-u32-requires
-    add-put-u32-2
-    put-u32-requires-2
-    same-length
+    (λ c κs. search needs)  -- put-pair-requires
+    (λ c. search needs)  -- add-put-u32
+    (λ c κs. search needs)  -- put-u32-requires
+    (λ c. search needs)  -- add-put-u32-2
+    (λ c κs. search needs)  -- put-u32-requires-2
+    (λ c. search needs)  -- same-length
     returns)

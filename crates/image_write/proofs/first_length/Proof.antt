@@ -1,8 +1,6 @@
 use borrow.Author.Tests.{lt-ltb, le-ltb}
 use Rattle.image_write.proofs.first_length.Statement.{statement}
 use Rattle.image_write.proofs.first_length.Tie as tie
-use Rattle.image_write.proofs.first_length.Reads as reads
-use Rattle.image_write.proofs.first_length.Lts as lts
 
 returns : tie.Need-returns
 returns c = rw (lt-ltb 1 (c .before .args .h) (c .if1 .taken))

@@ -8,12 +8,6 @@ use Rattle.floor.proofs.Pack.{well-few, well-lengths}
 use borrow.Author.Needs.{needs}
 use Rattle.image_write.proofs.image_length.Statement.{statement}
 use Rattle.image_write.proofs.image_length.Tie as tie
-use Rattle.image_write.proofs.image_length.Reads as reads
-use Rattle.image_write.proofs.image_length.Lts as lts
-use Rattle.floor.proofs.Settings.tile_count.Reads as tile-count-reads
-use Rattle.sets.proofs.size.Reads as size-reads
-use Rattle.image_write.proofs.first_length.Reads as first-length-reads
-use Rattle.image_write.proofs.laid_out.Reads as laid-out-reads
 
 abbrev Inv-loop : tie.InvT-loop
 Inv-loop tiles c h first laid n₀ t₀ n t = TilesMeasured tiles c h first laid n t
@@ -33,26 +27,11 @@ parts c =
     let C = sized c .before in
     parts-of (floor c) _ _ _ _ (C .before .before .before .pre) (C .tile-count .ensures) (sized c .size .ensures) (c .before .before .first-length .ensures) (c .laid-out .ensures)
 
-tile-count-requires : tie.Need-tile-count-requires Inv-loop μ-loop
-tile-count-requires c κs = tt
-
-size-requires : tie.Need-size-requires Inv-loop μ-loop
-size-requires c κs = search needs
-
-first-length-requires : tie.Need-first-length-requires Inv-loop μ-loop
-first-length-requires c κs = search needs
-
-laid-out-requires : tie.Need-laid-out-requires Inv-loop μ-loop
-laid-out-requires c κs = search needs
-
 cast-n : tie.Need-cast-n Inv-loop μ-loop
 cast-n c = let b = parts c in record { fits = omega arith }
 
 add-n : tie.Need-add-n Inv-loop μ-loop
 add-n c = let b = parts c in omega arith
-
-cast-n-2 : tie.Need-cast-n-2 Inv-loop μ-loop
-cast-n-2 c = search needs
 
 mul-n : tie.Need-mul-n Inv-loop μ-loop
 mul-n c = let b = parts c in omega arith
@@ -80,30 +59,6 @@ loop-holds c =
       small = omega arith;
       counts-small = λ u l. counts-few _ (b .well) u (omega arith);
     }
-
-mul-head : tie.Need-mul-head Inv-loop μ-loop
-mul-head c = search needs
-
-array-copy-out-head : tie.Need-array-copy-out-head Inv-loop μ-loop
-array-copy-out-head c = search needs
-
-add-n-4 : tie.Need-add-n-4 Inv-loop μ-loop
-add-n-4 c = search needs
-
-cast-n-4 : tie.Need-cast-n-4 Inv-loop μ-loop
-cast-n-4 c = search needs
-
-mul-n-3 : tie.Need-mul-n-3 Inv-loop μ-loop
-mul-n-3 c = search needs
-
-add-n-5 : tie.Need-add-n-5 Inv-loop μ-loop
-add-n-5 c = search needs
-
-add-t : tie.Need-add-t Inv-loop μ-loop
-add-t c = search needs
-
-loop-less : tie.Need-loop-less Inv-loop μ-loop
-loop-less c = search needs
 
 loop-again : tie.Need-loop-again Inv-loop μ-loop
 loop-again c =
@@ -133,26 +88,26 @@ image-length-spec =
     (tie.spec
     Inv-loop
     μ-loop
-    tile-count-requires
-    size-requires
-    first-length-requires
-    laid-out-requires
+    (λ c κs. tt)  -- tile-count-requires
+    (λ c κs. search needs)  -- size-requires
+    (λ c κs. search needs)  -- first-length-requires
+    (λ c κs. search needs)  -- laid-out-requires
     cast-n
     add-n
-    cast-n-2
+    (λ c. search needs)  -- cast-n-2
     mul-n
     add-n-2
     cast-n-3
     mul-n-2
     add-n-3
     loop-holds
-    mul-head
-    array-copy-out-head
-    add-n-4
-    cast-n-4
-    mul-n-3
-    add-n-5
-    add-t
-    loop-less
+    (λ c. search needs)  -- mul-head
+    (λ c. search needs)  -- array-copy-out-head
+    (λ c. search needs)  -- add-n-4
+    (λ c. search needs)  -- cast-n-4
+    (λ c. search needs)  -- mul-n-3
+    (λ c. search needs)  -- add-n-5
+    (λ c. search needs)  -- add-t
+    (λ c. search needs)  -- loop-less
     loop-again
     returns)

@@ -5,8 +5,6 @@ use Rattle.image_write.proofs.Loops.{LayoutsCounted}
 use borrow.Author.Needs.{needs}
 use Rattle.image_write.proofs.laid_out.Statement.{statement}
 use Rattle.image_write.proofs.laid_out.Tie as tie
-use Rattle.image_write.proofs.laid_out.Reads as reads
-use Rattle.image_write.proofs.laid_out.Lts as lts
 
 abbrev Inv-loop : tie.InvT-loop
 Inv-loop all k₀ k = LayoutsCounted all k
@@ -21,23 +19,11 @@ loop-holds c = record {
   counted = omega arith;
 }
 
-mul-x : tie.Need-mul-x Inv-loop μ-loop
-mul-x c = search needs
-
-array-copy-out-x : tie.Need-array-copy-out-x Inv-loop μ-loop
-array-copy-out-x c = search needs
-
 returns : tie.Need-returns Inv-loop μ-loop
 returns c =
     let I = c .before .before .before in
     let l = I .before .loop in
     (used-stop _ (l .k) (omega arith) (l .inv .counted) (c .if1 .taken), l .inv .below)
-
-add-k : tie.Need-add-k Inv-loop μ-loop
-add-k c = search needs
-
-loop-less : tie.Need-loop-less Inv-loop μ-loop
-loop-less c = search needs
 
 loop-again : tie.Need-loop-again Inv-loop μ-loop
 loop-again c =
@@ -61,10 +47,10 @@ laid-out-spec =
     Inv-loop
     μ-loop
     loop-holds
-    mul-x
-    array-copy-out-x
+    (λ c. search needs)  -- mul-x
+    (λ c. search needs)  -- array-copy-out-x
     returns
-    add-k
-    loop-less
+    (λ c. search needs)  -- add-k
+    (λ c. search needs)  -- loop-less
     loop-again
     returns-2)

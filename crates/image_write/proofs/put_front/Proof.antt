@@ -3,13 +3,6 @@ use Rattle.image_write.proofs.ImageBytes.{FrontRoom, more-is, front-roo
 use borrow.Author.Needs.{needs}
 use Rattle.image_write.proofs.put_front.Statement.{statement}
 use Rattle.image_write.proofs.put_front.Tie as tie
-use Rattle.image_write.proofs.put_front.Reads as reads
-use Rattle.image_write.proofs.put_front.Lts as lts
-use Rattle.image_record_write.proofs.put_counters.Reads as put-counters-reads
-use Rattle.image_record_write.proofs.put_settings.Reads as put-settings-reads
-use Rattle.image_write.proofs.first_length.Reads as first-length-reads
-use Rattle.image_write.proofs.laid_out.Reads as laid-out-reads
-use Rattle.image_write.proofs.put_layouts.Reads as put-layouts-reads
 
 -- where records 1 and 2 had been written
 abbrev one : tie.After-put-counters-arg → tie.After-put-settings
@@ -24,9 +17,6 @@ room c = let S = c .before .before in let g = S .args in front-room g.x g.y g.al
 third : (c : tie.After-put-counters-arg) → let F = one c .before .before in let g = F .before .before .args in FrontRoom g.x g.y g.all g.h (F .first-length .result) (g.s .now)
 third c = room (one c .before .before)
 
-first-length-requires : tie.Need-first-length-requires
-first-length-requires c κs = search needs
-
 put-settings-requires : tie.Need-put-settings-requires
 put-settings-requires c κs = let r = room (c .before) in let g = c .before .before .before .args in (omega arith, more-is g.x g.h (r .hoppers))
 
@@ -36,14 +26,8 @@ put-counters-requires c κs = let r = third c in (omega (arith, one c .put-setti
 add-third : tie.Need-add-third
 add-third c = let r = third (c .before .before .before) in omega arith
 
-mul-third : tie.Need-mul-third
-mul-third c = search needs
-
 add-third-2 : tie.Need-add-third-2
 add-third-2 c = let r = third (c .before .before .before) in omega arith
-
-laid-out-requires : tie.Need-laid-out-requires
-laid-out-requires c κs = search needs
 
 put-layouts-requires : tie.Need-put-layouts-requires
 put-layouts-requires c κs =
@@ -61,9 +45,6 @@ add-result c =
     let r = third (two (A .before) .before) in
     omega (arith, A .before .laid-out .ensures .0)
 
-same-length : tie.Need-same-length
-same-length c = search needs
-
 returns : tie.Need-returns
 returns c =
     let L = c .before .before in
@@ -77,15 +58,15 @@ pub put-front-spec : {M : Type 1} → statement M
 put-front-spec =
     tie.close
     (tie.spec
-    first-length-requires
+    (λ c κs. search needs)  -- first-length-requires
     put-settings-requires
     put-counters-requires
     add-third
-    mul-third
+    (λ c. search needs)  -- mul-third
     add-third-2
-    laid-out-requires
+    (λ c κs. search needs)  -- laid-out-requires
     put-layouts-requires
     mul-result
     add-result
-    same-length
+    (λ c. search needs)  -- same-length
     returns)

@@ -7,9 +7,6 @@ use Rattle.image_write.proofs.Loops.{LayoutsPut, layout-turn}
 use borrow.Author.Needs.{needs}
 use Rattle.image_write.proofs.put_layouts.Statement.{statement}
 use Rattle.image_write.proofs.put_layouts.Tie as tie
-use Rattle.image_write.proofs.put_layouts.Reads as reads
-use Rattle.image_write.proofs.put_layouts.Lts as lts
-use Rattle.image_record_write.proofs.put_layout.Reads as put-layout-reads
 
 abbrev Inv-loop : tie.InvT-loop
 Inv-loop s₀ from n all k₀ s k = LayoutsPut s₀ from n all s k
@@ -29,35 +26,11 @@ loop-holds c =
       written = rw layouts-none (sym (put-none (g.s .now) g.from));
     }
 
-mul-x : tie.Need-mul-x Inv-loop μ-loop
-mul-x c = search needs
-
-array-copy-out-x : tie.Need-array-copy-out-x Inv-loop μ-loop
-array-copy-out-x c = search needs
-
-mul-put-layout : tie.Need-mul-put-layout Inv-loop μ-loop
-mul-put-layout c = search needs
-
-add-put-layout : tie.Need-add-put-layout Inv-loop μ-loop
-add-put-layout c = search needs
-
-put-layout-requires : tie.Need-put-layout-requires Inv-loop μ-loop
-put-layout-requires c κs = search needs
-
-add-k : tie.Need-add-k Inv-loop μ-loop
-add-k c = search needs
-
-loop-less : tie.Need-loop-less Inv-loop μ-loop
-loop-less c = search needs
-
 loop-again : tie.Need-loop-again Inv-loop μ-loop
 loop-again c =
     let P = c .before .before in
     let I = P .before .before .before in
     layout-turn (I .before .loop .inv) (I .loop-test .taken) _ (P .put-layout .kept .0) (P .put-layout .ensures)
-
-same-length : tie.Need-same-length Inv-loop μ-loop
-same-length c = search needs
 
 returns : tie.Need-returns Inv-loop μ-loop
 returns c =
@@ -73,13 +46,13 @@ put-layouts-spec =
     Inv-loop
     μ-loop
     loop-holds
-    mul-x
-    array-copy-out-x
-    mul-put-layout
-    add-put-layout
-    put-layout-requires
-    add-k
-    loop-less
+    (λ c. search needs)  -- mul-x
+    (λ c. search needs)  -- array-copy-out-x
+    (λ c. search needs)  -- mul-put-layout
+    (λ c. search needs)  -- add-put-layout
+    (λ c κs. search needs)  -- put-layout-requires
+    (λ c. search needs)  -- add-k
+    (λ c. search needs)  -- loop-less
     loop-again
-    same-length
+    (λ c. search needs)  -- same-length
     returns)

@@ -7,10 +7,6 @@ use Rattle.image_bytes.proofs.PutLaws.{put-none}
 use borrow.Author.Needs.{needs}
 use Rattle.image_write.proofs.put_tiles.Statement.{statement}
 use Rattle.image_write.proofs.put_tiles.Tie as tie
-use Rattle.image_write.proofs.put_tiles.Reads as reads
-use Rattle.image_write.proofs.put_tiles.Lts as lts
-use Rattle.image_record_write.proofs.put_canister.Reads as put-canister-reads
-use Rattle.image_record_write.proofs.put_tile.Reads as put-tile-reads
 
 abbrev Inv-loop2 : tie.InvT-loop2
 Inv-loop2 s₀ from c tiles all at t n k₀ s k = CanistersPut s₀ all at t n s k
@@ -40,20 +36,8 @@ loop-holds c =
       written = sym (put-none (g.s .now) g.from);
     }
 
-mul-h : tie.Need-mul-h Inv-loop2 μ-loop2 Inv-loop μ-loop
-mul-h c = search needs
-
-array-copy-out-h : tie.Need-array-copy-out-h Inv-loop2 μ-loop2 Inv-loop μ-loop
-array-copy-out-h c = search needs
-
-cast-put-tile : tie.Need-cast-put-tile Inv-loop2 μ-loop2 Inv-loop μ-loop
-cast-put-tile c = search needs
-
 put-tile-requires : tie.Need-put-tile-requires Inv-loop2 μ-loop2 Inv-loop μ-loop
 put-tile-requires c κs = let I = c .before .before in let b = tile-fits (I .before .loop .inv) (I .loop-test .taken) in (omega arith, b .0)
-
-cast-n : tie.Need-cast-n Inv-loop2 μ-loop2 Inv-loop μ-loop
-cast-n c = search needs
 
 loop2-holds : tie.Need-loop2-holds Inv-loop2 μ-loop2 Inv-loop μ-loop
 loop2-holds c =
@@ -61,56 +45,11 @@ loop2-holds c =
     let I = P .before .before .before in
     canisters-begin (I .before .loop .inv) (I .loop-test .taken) _ (P .put-tile .kept .0)
 
-mul-x : tie.Need-mul-x Inv-loop2 μ-loop2 Inv-loop μ-loop
-mul-x c = search needs
-
-add-x : tie.Need-add-x Inv-loop2 μ-loop2 Inv-loop μ-loop
-add-x c = search needs
-
-mul-x-2 : tie.Need-mul-x-2 Inv-loop2 μ-loop2 Inv-loop μ-loop
-mul-x-2 c = search needs
-
-array-copy-out-x : tie.Need-array-copy-out-x Inv-loop2 μ-loop2 Inv-loop μ-loop
-array-copy-out-x c = search needs
-
-add-put-canister : tie.Need-add-put-canister Inv-loop2 μ-loop2 Inv-loop μ-loop
-add-put-canister c = search needs
-
-mul-put-canister : tie.Need-mul-put-canister Inv-loop2 μ-loop2 Inv-loop μ-loop
-mul-put-canister c = search needs
-
-add-put-canister-2 : tie.Need-add-put-canister-2 Inv-loop2 μ-loop2 Inv-loop μ-loop
-add-put-canister-2 c = search needs
-
-put-canister-requires : tie.Need-put-canister-requires Inv-loop2 μ-loop2 Inv-loop μ-loop
-put-canister-requires c κs = search needs
-
-add-k : tie.Need-add-k Inv-loop2 μ-loop2 Inv-loop μ-loop
-add-k c = search needs
-
-loop2-less : tie.Need-loop2-less Inv-loop2 μ-loop2 Inv-loop μ-loop
-loop2-less c = search needs
-
 loop2-again : tie.Need-loop2-again Inv-loop2 μ-loop2 Inv-loop μ-loop
 loop2-again c =
     let P = c .before .before in
     let I = P .before .before .before in
     canister-turn (I .before .loop2 .inv) (I .loop2-test .taken) _ _ (P .put-canister .kept .0) (P .put-canister .ensures)
-
-add-at : tie.Need-add-at Inv-loop2 μ-loop2 Inv-loop μ-loop
-add-at c = search needs
-
-mul-at : tie.Need-mul-at Inv-loop2 μ-loop2 Inv-loop μ-loop
-mul-at c = search needs
-
-add-at-2 : tie.Need-add-at-2 Inv-loop2 μ-loop2 Inv-loop μ-loop
-add-at-2 c = search needs
-
-add-t : tie.Need-add-t Inv-loop2 μ-loop2 Inv-loop μ-loop
-add-t c = search needs
-
-loop-less : tie.Need-loop-less Inv-loop2 μ-loop2 Inv-loop μ-loop
-loop-less c = search needs
 
 loop-again : tie.Need-loop-again Inv-loop2 μ-loop2 Inv-loop μ-loop
 loop-again c =
@@ -118,9 +57,6 @@ loop-again c =
     let P = B .before .before in
     let I = P .before .before .before in
     tile-turn (I .before .loop .inv) (I .loop-test .taken) _ (P .put-tile .kept .0) (P .put-tile .ensures) _ _ (c .before .loop2 .inv) (omega arith)
-
-same-length : tie.Need-same-length Inv-loop2 μ-loop2 Inv-loop μ-loop
-same-length c = search needs
 
 returns : tie.Need-returns Inv-loop2 μ-loop2 Inv-loop μ-loop
 returns c =
@@ -138,28 +74,28 @@ put-tiles-spec =
     Inv-loop
     μ-loop
     loop-holds
-    mul-h
-    array-copy-out-h
-    cast-put-tile
+    (λ c. search needs)  -- mul-h
+    (λ c. search needs)  -- array-copy-out-h
+    (λ c. search needs)  -- cast-put-tile
     put-tile-requires
-    cast-n
+    (λ c. search needs)  -- cast-n
     loop2-holds
-    mul-x
-    add-x
-    mul-x-2
-    array-copy-out-x
-    add-put-canister
-    mul-put-canister
-    add-put-canister-2
-    put-canister-requires
-    add-k
-    loop2-less
+    (λ c. search needs)  -- mul-x
+    (λ c. search needs)  -- add-x
+    (λ c. search needs)  -- mul-x-2
+    (λ c. search needs)  -- array-copy-out-x
+    (λ c. search needs)  -- add-put-canister
+    (λ c. search needs)  -- mul-put-canister
+    (λ c. search needs)  -- add-put-canister-2
+    (λ c κs. search needs)  -- put-canister-requires
+    (λ c. search needs)  -- add-k
+    (λ c. search needs)  -- loop2-less
     loop2-again
-    add-at
-    mul-at
-    add-at-2
-    add-t
-    loop-less
+    (λ c. search needs)  -- add-at
+    (λ c. search needs)  -- mul-at
+    (λ c. search needs)  -- add-at-2
+    (λ c. search needs)  -- add-t
+    (λ c. search needs)  -- loop-less
     loop-again
-    same-length
+    (λ c. search needs)  -- same-length
     returns)

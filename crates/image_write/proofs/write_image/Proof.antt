@@ -4,13 +4,6 @@ use Rattle.image_write.proofs.ImageBytes.{WriteRoom, counts-few, hopper
 use borrow.Author.Needs.{needs}
 use Rattle.image_write.proofs.write_image.Statement.{statement}
 use Rattle.image_write.proofs.write_image.Tie as tie
-use Rattle.image_write.proofs.write_image.Reads as reads
-use Rattle.image_write.proofs.write_image.Lts as lts
-use Rattle.floor.proofs.Settings.tile_count.Reads as tile-count-reads
-use Rattle.image_record_write.proofs.put_pair.Reads as put-pair-reads
-use Rattle.sets.proofs.size.Reads as size-reads
-use Rattle.image_write.proofs.put_front.Reads as put-front-reads
-use Rattle.image_write.proofs.put_tiles.Reads as put-tiles-reads
 
 -- where the front and the tiles had been written
 abbrev start : tie.After-size → tie.Start
@@ -24,12 +17,6 @@ tiled c = c .before .before .before
 
 room : (c : tie.After-size) → let g = start c .args in WriteRoom g.f (c .before .tile-count .result) (c .size .result) (g.buffer .now)
 room c = let g = start c .args in write-room g.f _ _ (g.buffer .now) (start c .pre) (c .before .tile-count .ensures) (c .size .ensures)
-
-tile-count-requires : tie.Need-tile-count-requires
-tile-count-requires c κs = tt
-
-size-requires : tie.Need-size-requires
-size-requires c κs = search needs
 
 put-front-requires : tie.Need-put-front-requires
 put-front-requires c κs = let r = room (c .before) in (omega arith, r .hoppers, hoppers-four _ (r .well) _ (r .hoppers))
@@ -47,9 +34,6 @@ put-pair-requires c κs =
     let r = room (P .before .before) in
     omega (arith, P .put-front .kept .0, P .put-front .ensures .0, T .put-tiles .kept .0, T .put-tiles .ensures .0)
 
-same-length : tie.Need-same-length
-same-length c = search needs
-
 returns : tie.Need-returns
 returns c =
     let E = c .before .before in
@@ -63,10 +47,10 @@ pub write-image-spec : {M : Type 1} → statement M
 write-image-spec =
     tie.close
     (tie.spec
-    tile-count-requires
-    size-requires
+    (λ c κs. tt)  -- tile-count-requires
+    (λ c κs. search needs)  -- size-requires
     put-front-requires
     put-tiles-requires
     put-pair-requires
-    same-length
+    (λ c. search needs)  -- same-length
     returns)

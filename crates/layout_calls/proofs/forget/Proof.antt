@@ -2,24 +2,9 @@ use Rattle.layout_calls.proofs.Packed.{layouts-fit, forget-malformed, f
 use borrow.Author.Needs.{needs}
 use Rattle.layout_calls.proofs.forget.Statement.{statement}
 use Rattle.layout_calls.proofs.forget.Tie as tie
-use Rattle.layout_calls.proofs.forget.Reads as reads
-use Rattle.layout_calls.proofs.forget.Lts as lts
-use Rattle.layout_parts.proofs.forget_in.Reads as forget-in-reads
-use Rattle.layout_parts.proofs.held_refusal.Reads as held-refusal-reads
-use Rattle.layout_parts.proofs.name_number.Reads as name-number-reads
-use Rattle.check_floor.proofs.well_formed.Reads as well-formed-reads
-
-well-formed-requires : tie.Need-well-formed-requires
-well-formed-requires c κs = search needs
-
-name-number-requires : tie.Need-name-number-requires
-name-number-requires c κs = search needs
 
 held-refusal-requires : tie.Need-held-refusal-requires
 held-refusal-requires c κs = search (layouts-fit, needs)
-
-forget-in-requires : tie.Need-forget-in-requires
-forget-in-requires c κs = search needs
 
 returns : tie.Need-returns
 returns c = search (forget-accepted, needs)
@@ -34,10 +19,10 @@ pub forget-spec : {M : Type 1} → statement M
 forget-spec =
     tie.close
     (tie.spec
-    well-formed-requires
-    name-number-requires
+    (λ c κs. search needs)  -- well-formed-requires
+    (λ c κs. search needs)  -- name-number-requires
     held-refusal-requires
-    forget-in-requires
+    (λ c κs. search needs)  -- forget-in-requires
     returns
     returns-2
     returns-3)

@@ -8,8 +8,6 @@ use Rattle.page.proofs.Loops.{BytesPut}
 use borrow.Author.Needs.{needs}
 use Rattle.page.proofs.put_front.Statement.{statement}
 use Rattle.page.proofs.put_front.Tie as tie
-use Rattle.page.proofs.put_front.Reads as reads
-use Rattle.page.proofs.put_front.Lts as lts
 
 abbrev Inv-loop : tie.InvT-loop
 Inv-loop text₀ n line k₀ text k = BytesPut text₀ line n text k
@@ -26,18 +24,6 @@ loop-holds c = record {
   text-length = refl;
   written = sym (put-none _ 0);
 }
-
-array-read-text : tie.Need-array-read-text Inv-loop μ-loop
-array-read-text c = search needs
-
-slice-write-text : tie.Need-slice-write-text Inv-loop μ-loop
-slice-write-text c = search needs
-
-add-k : tie.Need-add-k Inv-loop μ-loop
-add-k c = search needs
-
-loop-less : tie.Need-loop-less Inv-loop μ-loop
-loop-less c = search needs
 
 loop-again : tie.Need-loop-again Inv-loop μ-loop
 loop-again c =
@@ -65,10 +51,10 @@ put-front-spec =
     Inv-loop
     μ-loop
     loop-holds
-    array-read-text
-    slice-write-text
-    add-k
-    loop-less
+    (λ c. search needs)  -- array-read-text
+    (λ c. search needs)  -- slice-write-text
+    (λ c. search needs)  -- add-k
+    (λ c. search needs)  -- loop-less
     loop-again
     same-length
     returns)

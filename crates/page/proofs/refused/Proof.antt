@@ -3,8 +3,6 @@ use Rattle.page.proofs.Told.{one-digit, two-digits}
 use borrow.Author.Needs.{needs}
 use Rattle.page.proofs.refused.Statement.{statement}
 use Rattle.page.proofs.refused.Tie as tie
-use Rattle.page.proofs.refused.Reads as reads
-use Rattle.page.proofs.refused.Lts as lts
 
 add-t3 : tie.Need-add-t3
 add-t3 c = search needs

@@ -6,24 +6,6 @@ use Rattle.page.proofs.Told.{tell-refused, tell-page}
 use borrow.Author.Needs.{needs}
 use Rattle.page.proofs.tell.Statement.{statement}
 use Rattle.page.proofs.tell.Tie as tie
-use Rattle.page.proofs.tell.Reads as reads
-use Rattle.page.proofs.tell.Lts as lts
-use Rattle.image_calls.proofs.load.Reads as load-reads
-use Rattle.page.proofs.put_front.Reads as put-front-reads
-use Rattle.page.proofs.refused.Reads as refused-reads
-use Rattle.page_call.proofs.page.Reads as page-reads
-
-load-requires : tie.Need-load-requires
-load-requires c κs = search needs
-
-refused-requires : tie.Need-refused-requires
-refused-requires c κs = search needs
-
-put-front-requires : tie.Need-put-front-requires
-put-front-requires c κs = search needs
-
-same-length : tie.Need-same-length
-same-length c = search needs
 
 line-length : (c : tie.After-refused) → length (c .refused .result .bytes) ≡ 11
 line-length c = sym (length-map (c .refused .result .bytes) (u8-field .into)) ∙ c .refused .ok .1 .1 .0 .1 .0 .1
@@ -37,15 +19,6 @@ returns c =
     let g = r .before .before .before in
     tell-refused (g .args .bytes .now) (g .args .text .now) (p .put-front .last .0) (r .load .result) (r .load .ensures) (g .pre) (omega (arith, p .put-front .kept .0)) _ _ (t .if1 .taken) (line-length b) (b .refused .ensures) (p .put-front .ensures)
 
-page-requires : tie.Need-page-requires
-page-requires c κs = search needs
-
-cast-result : tie.Need-cast-result
-cast-result c = search needs
-
-same-length-2 : tie.Need-same-length-2
-same-length-2 c = search needs
-
 returns-2 : tie.Need-returns-2
 returns-2 c =
     let w = c .before .before .before in
@@ -58,12 +31,12 @@ pub tell-spec : {M : Type 1} → statement M
 tell-spec =
     tie.close
     (tie.spec
-    load-requires
-    refused-requires
-    put-front-requires
-    same-length
+    (λ c κs. search needs)  -- load-requires
+    (λ c κs. search needs)  -- refused-requires
+    (λ c κs. search needs)  -- put-front-requires
+    (λ c. search needs)  -- same-length
     returns
-    page-requires
-    cast-result
-    same-length-2
+    (λ c κs. search needs)  -- page-requires
+    (λ c. search needs)  -- cast-result
+    (λ c. search needs)  -- same-length-2
     returns-2)

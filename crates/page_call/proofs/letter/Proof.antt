@@ -3,8 +3,6 @@ use borrow.Author.Needs.{needs}
 use Rattle.page_call.specs.Page.{letter}
 use Rattle.page_call.proofs.letter.Statement.{statement}
 use Rattle.page_call.proofs.letter.Tie as tie
-use Rattle.page_call.proofs.letter.Reads as reads
-use Rattle.page_call.proofs.letter.Lts as lts
 
 returns : tie.Need-returns
 unfolding letter

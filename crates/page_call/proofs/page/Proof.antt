@@ -13,13 +13,6 @@ use Rattle.page_call.proofs.Writing.{made, page-is, page-size, page-sma
 use borrow.Author.Needs.{needs}
 use Rattle.page_call.proofs.page.Statement.{statement}
 use Rattle.page_call.proofs.page.Tie as tie
-use Rattle.page_call.proofs.page.Reads as reads
-use Rattle.page_call.proofs.page.Lts as lts
-use Rattle.page_call.proofs.put_lines.Reads as put-lines-reads
-use Rattle.check_floor.proofs.well_formed.Reads as well-formed-reads
-
-well-formed-requires : tie.Need-well-formed-requires
-well-formed-requires c κs = search needs
 
 returns : tie.Need-returns
 returns c = page-malformed _ _ (sym (c .before .well-formed .ensures) ∙ not-true _ (c .if1 .taken))
@@ -27,18 +20,6 @@ returns c = page-malformed _ _ (sym (c .before .well-formed .ensures) ∙ not-tr
 -- behind the first test the floor is well formed
 well : (c : tie.Else1) → wellFormed (c .before .before .before .args .floor) ≡ true
 well c = sym (c .before .well-formed .ensures) ∙ not-false _ (c .if1 .left)
-
-cast-w : tie.Need-cast-w
-cast-w c = search needs
-
-cast-h : tie.Need-cast-h
-cast-h c = search needs
-
-mul-n : tie.Need-mul-n
-mul-n c = search needs
-
-add-n : tie.Need-add-n
-add-n c = search needs
 
 mul-n-2 : tie.Need-mul-n-2
 mul-n-2 c = record { fits = omega (arith, page-small _ (well (c .before .before))) }
@@ -60,9 +41,6 @@ cast-t14 c =
     let e = p .before .before .before in
     record { fits = omega (arith, page-small _ (well (e .before .before .before))) }
 
-same-length : tie.Need-same-length
-same-length c = search needs
-
 returns-3 : tie.Need-returns-3
 returns-3 c =
     let p = c .before .before in
@@ -78,15 +56,15 @@ pub page-spec : {M : Type 1} → statement M
 page-spec =
     tie.close
     (tie.spec
-    well-formed-requires
+    (λ c κs. search needs)  -- well-formed-requires
     returns
-    cast-w
-    cast-h
-    mul-n
-    add-n
+    (λ c. search needs)  -- cast-w
+    (λ c. search needs)  -- cast-h
+    (λ c. search needs)  -- mul-n
+    (λ c. search needs)  -- add-n
     mul-n-2
     returns-2
     put-lines-requires
     cast-t14
-    same-length
+    (λ c. search needs)  -- same-length
     returns-3)

@@ -11,9 +11,6 @@ use Rattle.page_call.proofs.Loops.{cellAt, CellsPut}
 use borrow.Author.Needs.{needs}
 use Rattle.page_call.proofs.put_cells.Statement.{statement}
 use Rattle.page_call.proofs.put_cells.Tie as tie
-use Rattle.page_call.proofs.put_cells.Reads as reads
-use Rattle.page_call.proofs.put_cells.Lts as lts
-use Rattle.page_call.proofs.put_cell.Reads as put-cell-reads
 
 abbrev Inv-loop : tie.InvT-loop
 Inv-loop s₀ at w h r tiles k₀ s k = CellsPut s₀ at w h r tiles s k
@@ -49,21 +46,6 @@ mul-tile-2 c = record { fits = omega (arith, on-floor (c .before .loop .inv) (c 
 
 array-copy-out-tile : tie.Need-array-copy-out-tile Inv-loop μ-loop
 array-copy-out-tile c = on-floor (c .before .loop .inv) (c .loop-test .taken)
-
-mul-put-cell : tie.Need-mul-put-cell Inv-loop μ-loop
-mul-put-cell c = search needs
-
-add-put-cell : tie.Need-add-put-cell Inv-loop μ-loop
-add-put-cell c = search needs
-
-put-cell-requires : tie.Need-put-cell-requires Inv-loop μ-loop
-put-cell-requires c κs = omega arith
-
-add-k : tie.Need-add-k Inv-loop μ-loop
-add-k c = search needs
-
-loop-less : tie.Need-loop-less Inv-loop μ-loop
-loop-less c = search needs
 
 loop-again : tie.Need-loop-again Inv-loop μ-loop
 loop-again c =
@@ -101,11 +83,11 @@ put-cells-spec =
     add-tile
     mul-tile-2
     array-copy-out-tile
-    mul-put-cell
-    add-put-cell
-    put-cell-requires
-    add-k
-    loop-less
+    (λ c. search needs)  -- mul-put-cell
+    (λ c. search needs)  -- add-put-cell
+    (λ c κs. omega arith)  -- put-cell-requires
+    (λ c. search needs)  -- add-k
+    (λ c. search needs)  -- loop-less
     loop-again
     same-length
     returns)

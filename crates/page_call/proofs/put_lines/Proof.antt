@@ -9,9 +9,6 @@ use Rattle.page_call.proofs.Pieces.{upTo-none, line-length, turn, row-r
 use Rattle.page_call.proofs.Loops.{lineAt, LinesPut}
 use Rattle.page_call.proofs.put_lines.Statement.{statement}
 use Rattle.page_call.proofs.put_lines.Tie as tie
-use Rattle.page_call.proofs.put_lines.Reads as reads
-use Rattle.page_call.proofs.put_lines.Lts as lts
-use Rattle.page_call.proofs.put_line.Reads as put-line-reads
 
 abbrev Inv-loop : tie.InvT-loop
 Inv-loop s₀ tiles w h k₀ s k = LinesPut s₀ tiles w h s k
@@ -31,20 +28,8 @@ loop-holds c =
       written = sym (ap (put _ _) (upTo-none _) ∙ put-none _ _);
     }
 
-mul-put-line : tie.Need-mul-put-line Inv-loop μ-loop
-mul-put-line c = search needs
-
-add-put-line : tie.Need-add-put-line Inv-loop μ-loop
-add-put-line c = search needs
-
 mul-put-line-2 : tie.Need-mul-put-line-2 Inv-loop μ-loop
 mul-put-line-2 c = let l = c .before .before .loop in record { fits = omega (arith, row-small (l .k) _ _ (c .before .loop-test .taken) (l .inv .rows-few) (l .inv .columns-few)) }
-
-sub-put-line : tie.Need-sub-put-line Inv-loop μ-loop
-sub-put-line c = search needs
-
-sub-put-line-2 : tie.Need-sub-put-line-2 Inv-loop μ-loop
-sub-put-line-2 c = search needs
 
 put-line-requires : tie.Need-put-line-requires Inv-loop μ-loop
 put-line-requires c κs =
@@ -52,12 +37,6 @@ put-line-requires c κs =
     let l = h .loop in
     let g = h .before .before .args in
     (l .inv .columns-few, l .inv .rows-few, omega arith, omega (arith, row-room (l .k) g.h (8 * g.w + 2) (c .before .loop-test .taken)))
-
-add-k : tie.Need-add-k Inv-loop μ-loop
-add-k c = search needs
-
-loop-less : tie.Need-loop-less Inv-loop μ-loop
-loop-less c = search needs
 
 loop-again : tie.Need-loop-again Inv-loop μ-loop
 loop-again c =
@@ -91,14 +70,14 @@ put-lines-spec =
     Inv-loop
     μ-loop
     loop-holds
-    mul-put-line
-    add-put-line
+    (λ c. search needs)  -- mul-put-line
+    (λ c. search needs)  -- add-put-line
     mul-put-line-2
-    sub-put-line
-    sub-put-line-2
+    (λ c. search needs)  -- sub-put-line
+    (λ c. search needs)  -- sub-put-line-2
     put-line-requires
-    add-k
-    loop-less
+    (λ c. search needs)  -- add-k
+    (λ c. search needs)  -- loop-less
     loop-again
     same-length
     returns)

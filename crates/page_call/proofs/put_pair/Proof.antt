@@ -4,8 +4,6 @@ use Rattle.page_call.proofs.Pieces.{put-pair-is}
 use borrow.Author.Needs.{needs}
 use Rattle.page_call.proofs.put_pair.Statement.{statement}
 use Rattle.page_call.proofs.put_pair.Tie as tie
-use Rattle.page_call.proofs.put_pair.Reads as reads
-use Rattle.page_call.proofs.put_pair.Lts as lts
 
 slice-write-s : tie.Need-slice-write-s
 slice-write-s c = search needs

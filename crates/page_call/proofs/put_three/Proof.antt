@@ -4,8 +4,6 @@ use Rattle.page_call.proofs.Pieces.{put-three-is}
 use borrow.Author.Needs.{needs}
 use Rattle.page_call.proofs.put_three.Statement.{statement}
 use Rattle.page_call.proofs.put_three.Tie as tie
-use Rattle.page_call.proofs.put_three.Reads as reads
-use Rattle.page_call.proofs.put_three.Lts as lts
 
 slice-write-s : tie.Need-slice-write-s
 slice-write-s c = search needs

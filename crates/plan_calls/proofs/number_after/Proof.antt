@@ -2,8 +2,6 @@ use Rattle.plan_calls.proofs.Answers.{number-after-last, number-after-n
 use borrow.Author.Needs.{needs}
 use Rattle.plan_calls.proofs.number_after.Statement.{statement}
 use Rattle.plan_calls.proofs.number_after.Tie as tie
-use Rattle.plan_calls.proofs.number_after.Reads as reads
-use Rattle.plan_calls.proofs.number_after.Lts as lts
 
 returns : tie.Need-returns
 returns c = number-after-last (c .before .before .args .floor) (c .if1 .taken)

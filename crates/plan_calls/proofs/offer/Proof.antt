@@ -2,11 +2,6 @@ use Rattle.plan_calls.proofs.Answers.{few-sound, fits-yes, offer-unsoun
 use borrow.Author.Needs.{needs}
 use Rattle.plan_calls.proofs.offer.Statement.{statement}
 use Rattle.plan_calls.proofs.offer.Tie as tie
-use Rattle.plan_calls.proofs.offer.Reads as reads
-use Rattle.plan_calls.proofs.offer.Lts as lts
-use Rattle.plan_check.proofs.fits.Reads as fits-reads
-use Rattle.plan_check.proofs.sound.Reads as sound-reads
-use Rattle.plan_parts.proofs.lowest_ready.Reads as lowest-ready-reads
 
 sound-requires : tie.Need-sound-requires
 sound-requires c κs = search needs

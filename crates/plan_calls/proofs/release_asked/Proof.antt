@@ -2,32 +2,15 @@ use Rattle.plan_calls.proofs.Answers.{few-sound, release-unsound, relea
 use borrow.Author.Needs.{needs}
 use Rattle.plan_calls.proofs.release_asked.Statement.{statement}
 use Rattle.plan_calls.proofs.release_asked.Tie as tie
-use Rattle.plan_calls.proofs.release_asked.Reads as reads
-use Rattle.plan_calls.proofs.release_asked.Lts as lts
-use Rattle.check_floor.proofs.well_formed.Reads as well-formed-reads
-use Rattle.plan_check.proofs.booked_numbers.Reads as booked-numbers-reads
-use Rattle.plan_check.proofs.fits.Reads as fits-reads
-use Rattle.plan_check.proofs.sound.Reads as sound-reads
-use Rattle.plan_parts.proofs.all_upto.Reads as all-upto-reads
-use Rattle.plan_parts.proofs.asked_for.Reads as asked-for-reads
-
-sound-requires : tie.Need-sound-requires
-sound-requires c κs = search needs
 
 returns : tie.Need-returns
 returns c = search (release-unsound, needs)
-
-well-formed-requires : tie.Need-well-formed-requires
-well-formed-requires c κs = search needs
 
 returns-2 : tie.Need-returns-2
 returns-2 c = search (release-malformed, needs)
 
 booked-numbers-requires : tie.Need-booked-numbers-requires
 booked-numbers-requires c κs = search (few-sound, needs)
-
-all-upto-requires : tie.Need-all-upto-requires
-all-upto-requires c κs = search needs
 
 returns-3 : tie.Need-returns-3
 returns-3 c = search (release-unknown, needs) fits 200
@@ -51,12 +34,12 @@ pub release-asked-spec : {M : Type 1} → statement M
 release-asked-spec =
     tie.close
     (tie.spec
-    sound-requires
+    (λ c κs. search needs)  -- sound-requires
     returns
-    well-formed-requires
+    (λ c κs. search needs)  -- well-formed-requires
     returns-2
     booked-numbers-requires
-    all-upto-requires
+    (λ c κs. search needs)  -- all-upto-requires
     returns-3
     fits-requires
     returns-4

@@ -2,14 +2,6 @@ use Rattle.plan_calls.proofs.Answers.{report-refused, report-entries, r
 use borrow.Author.Needs.{needs}
 use Rattle.plan_calls.proofs.report.Statement.{statement}
 use Rattle.plan_calls.proofs.report.Tie as tie
-use Rattle.plan_calls.proofs.report.Reads as reads
-use Rattle.plan_calls.proofs.report.Lts as lts
-use Rattle.plan_calls.proofs.report_refusal.Reads as report-refusal-reads
-use Rattle.plan_parts.proofs.listed_numbers.Reads as listed-numbers-reads
-use Rattle.plan_parts.proofs.plan_reported.Reads as plan-reported-reads
-
-report-refusal-requires : tie.Need-report-refusal-requires
-report-refusal-requires c κs = search needs
 
 returns : tie.Need-returns
 returns c = search (report-refused, needs)
@@ -27,7 +19,7 @@ pub report-spec : {M : Type 1} → statement M
 report-spec =
     tie.close
     (tie.spec
-    report-refusal-requires
+    (λ c κs. search needs)  -- report-refusal-requires
     returns
     listed-numbers-requires
     plan-reported-requires

@@ -2,11 +2,6 @@ use Rattle.plan_calls.proofs.Answers.{report-unsound, report-count, rep
 use borrow.Author.Needs.{needs}
 use Rattle.plan_calls.proofs.report_refusal.Statement.{statement}
 use Rattle.plan_calls.proofs.report_refusal.Tie as tie
-use Rattle.plan_calls.proofs.report_refusal.Reads as reads
-use Rattle.plan_calls.proofs.report_refusal.Lts as lts
-use Rattle.plan_check.proofs.fits.Reads as fits-reads
-use Rattle.plan_check.proofs.sound.Reads as sound-reads
-use Rattle.plan_parts.proofs.over_four.Reads as over-four-reads
 
 sound-requires : tie.Need-sound-requires
 sound-requires c κs = search needs

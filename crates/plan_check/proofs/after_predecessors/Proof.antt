@@ -12,23 +12,12 @@ use Rattle.plan_check.proofs.Loops.{Tested}
 use borrow.Author.Needs.{needs}
 use Rattle.plan_check.proofs.after_predecessors.Statement.{statement}
 use Rattle.plan_check.proofs.after_predecessors.Tie as tie
-use Rattle.plan_check.proofs.after_predecessors.Reads as reads
-use Rattle.plan_check.proofs.after_predecessors.Lts as lts
-use Rattle.plan_check.proofs.both.Reads as both-reads
-use Rattle.plan_check.proofs.done_table.Reads as done-table-reads
-use Rattle.plan_check.proofs.waits.Reads as waits-reads
 
 abbrev Inv-loop : tie.InvT-loop
 Inv-loop plan table n ok₀ k₀ ok k = Tested plan (done (used plan)) (afterPredecessors (used plan)) table n ok k
 
 abbrev μ-loop : tie.MeasureT-loop
 μ-loop plan table n ok₀ k₀ ok k = n - k
-
-done-table-requires : tie.Need-done-table-requires Inv-loop μ-loop
-done-table-requires c κs = search needs
-
-cast-n : tie.Need-cast-n Inv-loop μ-loop
-cast-n c = search needs
 
 loop-holds : tie.Need-loop-holds Inv-loop μ-loop
 loop-holds c =
@@ -42,36 +31,6 @@ loop-holds c =
       tabled = T .ensures;
       tested = sym (all-zero (afterPredecessors (used (S .args .t1))) (S .args .t1 .entries));
     }
-
-mul-e : tie.Need-mul-e Inv-loop μ-loop
-mul-e c = search needs
-
-element-copy-out-e : tie.Need-element-copy-out-e Inv-loop μ-loop
-element-copy-out-e c = search needs
-
-cast-first : tie.Need-cast-first Inv-loop μ-loop
-cast-first c = search needs
-
-array-read-first : tie.Need-array-read-first Inv-loop μ-loop
-array-read-first c = search needs
-
-cast-second : tie.Need-cast-second Inv-loop μ-loop
-cast-second c = search needs
-
-array-read-second : tie.Need-array-read-second Inv-loop μ-loop
-array-read-second c = search needs
-
-both-requires : tie.Need-both-requires Inv-loop μ-loop
-both-requires c κs = search needs
-
-waits-requires : tie.Need-waits-requires Inv-loop μ-loop
-waits-requires c κs = search needs
-
-add-k : tie.Need-add-k Inv-loop μ-loop
-add-k c = search needs
-
-loop-less : tie.Need-loop-less Inv-loop μ-loop
-loop-less c = search needs
 
 loop-again : tie.Need-loop-again Inv-loop μ-loop
 loop-again c =
@@ -103,18 +62,18 @@ after-predecessors-spec =
     (tie.spec
     Inv-loop
     μ-loop
-    done-table-requires
-    cast-n
+    (λ c κs. search needs)  -- done-table-requires
+    (λ c. search needs)  -- cast-n
     loop-holds
-    mul-e
-    element-copy-out-e
-    cast-first
-    array-read-first
-    cast-second
-    array-read-second
-    both-requires
-    waits-requires
-    add-k
-    loop-less
+    (λ c. search needs)  -- mul-e
+    (λ c. search needs)  -- element-copy-out-e
+    (λ c. search needs)  -- cast-first
+    (λ c. search needs)  -- array-read-first
+    (λ c. search needs)  -- cast-second
+    (λ c. search needs)  -- array-read-second
+    (λ c κs. search needs)  -- both-requires
+    (λ c κs. search needs)  -- waits-requires
+    (λ c. search needs)  -- add-k
+    (λ c. search needs)  -- loop-less
     loop-again
     returns)

@@ -10,8 +10,6 @@ use Rattle.plan_check.proofs.Loops.{Apart, ApartFrom}
 use borrow.Author.Needs.{needs}
 use Rattle.plan_check.proofs.all_differ.Statement.{statement}
 use Rattle.plan_check.proofs.all_differ.Tie as tie
-use Rattle.plan_check.proofs.all_differ.Reads as reads
-use Rattle.plan_check.proofs.all_differ.Lts as lts
 
 abbrev Inv-loop2 : tie.InvT-loop2
 Inv-loop2 n items ok₀ j y i₀ ok i = ApartFrom n items j y ok i
@@ -33,12 +31,6 @@ loop-holds c = record {
   apart = sym (pairs-zero (λ x y. not (eqb x y)) (c .args .t1));
 }
 
-mul-y : tie.Need-mul-y Inv-loop2 μ-loop2 Inv-loop μ-loop
-mul-y c = search needs
-
-array-read-y : tie.Need-array-read-y Inv-loop2 μ-loop2 Inv-loop μ-loop
-array-read-y c = search needs
-
 loop2-holds : tie.Need-loop2-holds Inv-loop2 μ-loop2 Inv-loop μ-loop
 loop2-holds c =
     let l = c .before .loop in
@@ -50,18 +42,6 @@ loop2-holds c =
       items-length = l .inv .items-length;
       apart = with-zero (λ x. not (eqb x (getD g.t1 (l .j) 0))) g.t1 (l .inv .apart);
     }
-
-mul-x : tie.Need-mul-x Inv-loop2 μ-loop2 Inv-loop μ-loop
-mul-x c = search needs
-
-array-read-x : tie.Need-array-read-x Inv-loop2 μ-loop2 Inv-loop μ-loop
-array-read-x c = search needs
-
-add-i : tie.Need-add-i Inv-loop2 μ-loop2 Inv-loop μ-loop
-add-i c = search needs
-
-loop2-less : tie.Need-loop2-less Inv-loop2 μ-loop2 Inv-loop μ-loop
-loop2-less c = search needs
 
 loop2-again : tie.Need-loop2-again Inv-loop2 μ-loop2 Inv-loop μ-loop
 loop2-again c =
@@ -76,12 +56,6 @@ loop2-again c =
       items-length = l .inv .items-length;
       apart = with-step (pairsOf (λ x y. not (eqb x y)) (take (o .j) g.t1)) (λ x. not (eqb x (getD g.t1 (o .j) 0))) g.t1 (l .i) 0 (omega arith) (l .inv .apart) refl;
     }
-
-add-j : tie.Need-add-j Inv-loop2 μ-loop2 Inv-loop μ-loop
-add-j c = search needs
-
-loop-less : tie.Need-loop-less Inv-loop2 μ-loop2 Inv-loop μ-loop
-loop-less c = search needs
 
 loop-again : tie.Need-loop-again Inv-loop2 μ-loop2 Inv-loop μ-loop
 loop-again c =
@@ -112,15 +86,15 @@ all-differ-spec =
     Inv-loop
     μ-loop
     loop-holds
-    mul-y
-    array-read-y
+    (λ c. search needs)  -- mul-y
+    (λ c. search needs)  -- array-read-y
     loop2-holds
-    mul-x
-    array-read-x
-    add-i
-    loop2-less
+    (λ c. search needs)  -- mul-x
+    (λ c. search needs)  -- array-read-x
+    (λ c. search needs)  -- add-i
+    (λ c. search needs)  -- loop2-less
     loop2-again
-    add-j
-    loop-less
+    (λ c. search needs)  -- add-j
+    (λ c. search needs)  -- loop-less
     loop-again
     returns)

@@ -9,18 +9,12 @@ use Rattle.plan_check.proofs.Loops.{Gathered}
 use borrow.Author.Needs.{needs}
 use Rattle.plan_check.proofs.booked_numbers.Statement.{statement}
 use Rattle.plan_check.proofs.booked_numbers.Tie as tie
-use Rattle.plan_check.proofs.booked_numbers.Reads as reads
-use Rattle.plan_check.proofs.booked_numbers.Lts as lts
-use Rattle.plan_check.proofs.counted.Reads as counted-reads
 
 abbrev Inv-loop : tie.InvT-loop
 Inv-loop plan n items₀ m₀ k₀ items m k = Gathered plan n items m k
 
 abbrev μ-loop : tie.MeasureT-loop
 μ-loop plan n items₀ m₀ k₀ items m k = n - k
-
-cast-n : tie.Need-cast-n Inv-loop μ-loop
-cast-n c = search needs
 
 loop-holds : tie.Need-loop-holds Inv-loop μ-loop
 loop-holds c =
@@ -32,27 +26,6 @@ loop-holds c =
       no-more = omega arith;
       gathered = held-none (c .args .t1 .entries) (replicate 64 zero);
     }
-
-mul-e : tie.Need-mul-e Inv-loop μ-loop
-mul-e c = search needs
-
-element-copy-out-e : tie.Need-element-copy-out-e Inv-loop μ-loop
-element-copy-out-e c = search needs
-
-mul-items : tie.Need-mul-items Inv-loop μ-loop
-mul-items c = search needs
-
-array-write-items : tie.Need-array-write-items Inv-loop μ-loop
-array-write-items c = search needs
-
-counted-requires : tie.Need-counted-requires Inv-loop μ-loop
-counted-requires c κs = search needs
-
-add-k : tie.Need-add-k Inv-loop μ-loop
-add-k c = search needs
-
-loop-less : tie.Need-loop-less Inv-loop μ-loop
-loop-less c = search needs
 
 loop-again : tie.Need-loop-again Inv-loop μ-loop
 loop-again c =
@@ -79,14 +52,14 @@ booked-numbers-spec =
     (tie.spec
     Inv-loop
     μ-loop
-    cast-n
+    (λ c. search needs)  -- cast-n
     loop-holds
-    mul-e
-    element-copy-out-e
-    mul-items
-    array-write-items
-    counted-requires
-    add-k
-    loop-less
+    (λ c. search needs)  -- mul-e
+    (λ c. search needs)  -- element-copy-out-e
+    (λ c. search needs)  -- mul-items
+    (λ c. search needs)  -- array-write-items
+    (λ c κs. search needs)  -- counted-requires
+    (λ c. search needs)  -- add-k
+    (λ c. search needs)  -- loop-less
     loop-again
     returns)

@@ -3,9 +3,6 @@ use native.Mathlib.Omega.{arith}
 use borrow.Author.Needs.{needs}
 use Rattle.plan_check.proofs.counted.Statement.{statement}
 use Rattle.plan_check.proofs.counted.Tie as tie
-use Rattle.plan_check.proofs.counted.Reads as reads
-use Rattle.plan_check.proofs.counted.Lts as lts
-use Rattle.plan_check.proofs.holds.Reads as holds-reads
 
 holds-requires : tie.Need-holds-requires
 holds-requires c κs = search needs

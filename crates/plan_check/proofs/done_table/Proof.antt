@@ -9,18 +9,12 @@ use Rattle.plan_check.proofs.Loops.{DoneTabled}
 use borrow.Author.Needs.{needs}
 use Rattle.plan_check.proofs.done_table.Statement.{statement}
 use Rattle.plan_check.proofs.done_table.Tie as tie
-use Rattle.plan_check.proofs.done_table.Reads as reads
-use Rattle.plan_check.proofs.done_table.Lts as lts
-use Rattle.plan_check.proofs.was_delivered.Reads as was-delivered-reads
 
 abbrev Inv-loop : tie.InvT-loop
 Inv-loop plan n table₀ k₀ table k = DoneTabled plan n table k
 
 abbrev μ-loop : tie.MeasureT-loop
 μ-loop plan n table₀ k₀ table k = n - k
-
-cast-n : tie.Need-cast-n Inv-loop μ-loop
-cast-n c = search needs
 
 loop-holds : tie.Need-loop-holds Inv-loop μ-loop
 loop-holds c =
@@ -31,30 +25,6 @@ loop-holds c =
       table-length = length-replicate 256 true;
       tabled = done-none (c .args .t1 .entries) 256;
     }
-
-mul-e : tie.Need-mul-e Inv-loop μ-loop
-mul-e c = search needs
-
-element-copy-out-e : tie.Need-element-copy-out-e Inv-loop μ-loop
-element-copy-out-e c = search needs
-
-cast-label : tie.Need-cast-label Inv-loop μ-loop
-cast-label c = search needs
-
-array-read-before : tie.Need-array-read-before Inv-loop μ-loop
-array-read-before c = search needs
-
-was-delivered-requires : tie.Need-was-delivered-requires Inv-loop μ-loop
-was-delivered-requires c κs = search needs
-
-array-write-table : tie.Need-array-write-table Inv-loop μ-loop
-array-write-table c = search needs
-
-add-k : tie.Need-add-k Inv-loop μ-loop
-add-k c = search needs
-
-loop-less : tie.Need-loop-less Inv-loop μ-loop
-loop-less c = search needs
 
 loop-again : tie.Need-loop-again Inv-loop μ-loop
 loop-again c =
@@ -81,15 +51,15 @@ done-table-spec =
     (tie.spec
     Inv-loop
     μ-loop
-    cast-n
+    (λ c. search needs)  -- cast-n
     loop-holds
-    mul-e
-    element-copy-out-e
-    cast-label
-    array-read-before
-    was-delivered-requires
-    array-write-table
-    add-k
-    loop-less
+    (λ c. search needs)  -- mul-e
+    (λ c. search needs)  -- element-copy-out-e
+    (λ c. search needs)  -- cast-label
+    (λ c. search needs)  -- array-read-before
+    (λ c κs. search needs)  -- was-delivered-requires
+    (λ c. search needs)  -- array-write-table
+    (λ c. search needs)  -- add-k
+    (λ c. search needs)  -- loop-less
     loop-again
     returns)

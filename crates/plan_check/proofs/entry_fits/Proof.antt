@@ -1,9 +1,6 @@
 use borrow.Author.Needs.{needs}
 use Rattle.plan_check.proofs.entry_fits.Statement.{statement}
 use Rattle.plan_check.proofs.entry_fits.Tie as tie
-use Rattle.plan_check.proofs.entry_fits.Reads as reads
-use Rattle.plan_check.proofs.entry_fits.Lts as lts
-use Rattle.plan_check.proofs.both.Reads as both-reads
 
 both-requires : tie.Need-both-requires
 both-requires c κs = search needs

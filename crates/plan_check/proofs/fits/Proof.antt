@@ -12,22 +12,12 @@ use Rattle.plan_check.proofs.Loops.{Tested}
 use borrow.Author.Needs.{needs}
 use Rattle.plan_check.proofs.fits.Statement.{statement}
 use Rattle.plan_check.proofs.fits.Tie as tie
-use Rattle.plan_check.proofs.fits.Reads as reads
-use Rattle.plan_check.proofs.fits.Lts as lts
-use Rattle.plan_check.proofs.entry_fits.Reads as entry-fits-reads
-use Rattle.plan_check.proofs.labels_in.Reads as labels-in-reads
 
 abbrev Inv-loop : tie.InvT-loop
 Inv-loop plan labels table n ok₀ k₀ ok k = Tested plan (present (used plan)) (entryFits (used plan)) table n ok k
 
 abbrev μ-loop : tie.MeasureT-loop
 μ-loop plan labels table n ok₀ k₀ ok k = n - k
-
-labels-in-requires : tie.Need-labels-in-requires Inv-loop μ-loop
-labels-in-requires c κs = search needs
-
-cast-n : tie.Need-cast-n Inv-loop μ-loop
-cast-n c = search needs
 
 loop-holds : tie.Need-loop-holds Inv-loop μ-loop
 loop-holds c =
@@ -41,33 +31,6 @@ loop-holds c =
       tabled = T .ensures .0;
       tested = sym (all-zero (entryFits (used (S .args .t1))) (S .args .t1 .entries));
     }
-
-mul-e : tie.Need-mul-e Inv-loop μ-loop
-mul-e c = search needs
-
-element-copy-out-e : tie.Need-element-copy-out-e Inv-loop μ-loop
-element-copy-out-e c = search needs
-
-cast-first : tie.Need-cast-first Inv-loop μ-loop
-cast-first c = search needs
-
-array-read-first : tie.Need-array-read-first Inv-loop μ-loop
-array-read-first c = search needs
-
-cast-second : tie.Need-cast-second Inv-loop μ-loop
-cast-second c = search needs
-
-array-read-second : tie.Need-array-read-second Inv-loop μ-loop
-array-read-second c = search needs
-
-entry-fits-requires : tie.Need-entry-fits-requires Inv-loop μ-loop
-entry-fits-requires c κs = search needs
-
-add-k : tie.Need-add-k Inv-loop μ-loop
-add-k c = search needs
-
-loop-less : tie.Need-loop-less Inv-loop μ-loop
-loop-less c = search needs
 
 loop-again : tie.Need-loop-again Inv-loop μ-loop
 loop-again c =
@@ -102,17 +65,17 @@ fits-spec =
     (tie.spec
     Inv-loop
     μ-loop
-    labels-in-requires
-    cast-n
+    (λ c κs. search needs)  -- labels-in-requires
+    (λ c. search needs)  -- cast-n
     loop-holds
-    mul-e
-    element-copy-out-e
-    cast-first
-    array-read-first
-    cast-second
-    array-read-second
-    entry-fits-requires
-    add-k
-    loop-less
+    (λ c. search needs)  -- mul-e
+    (λ c. search needs)  -- element-copy-out-e
+    (λ c. search needs)  -- cast-first
+    (λ c. search needs)  -- array-read-first
+    (λ c. search needs)  -- cast-second
+    (λ c. search needs)  -- array-read-second
+    (λ c κs. search needs)  -- entry-fits-requires
+    (λ c. search needs)  -- add-k
+    (λ c. search needs)  -- loop-less
     loop-again
     returns)

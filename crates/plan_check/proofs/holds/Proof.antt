@@ -1,8 +1,6 @@
 use Rattle.plan_check.proofs.Entries.{held-code}
 use Rattle.plan_check.proofs.holds.Statement.{statement}
 use Rattle.plan_check.proofs.holds.Tie as tie
-use Rattle.plan_check.proofs.holds.Reads as reads
-use Rattle.plan_check.proofs.holds.Lts as lts
 
 returns : tie.Need-returns
 returns c = held-code (c .before .before .args .e)

@@ -11,17 +11,12 @@ use Rattle.plan_check.proofs.Loops.{LabelsTabled}
 use borrow.Author.Needs.{needs}
 use Rattle.plan_check.proofs.labels_in.Statement.{statement}
 use Rattle.plan_check.proofs.labels_in.Tie as tie
-use Rattle.plan_check.proofs.labels_in.Reads as reads
-use Rattle.plan_check.proofs.labels_in.Lts as lts
 
 abbrev Inv-loop : tie.InvT-loop
 Inv-loop plan n table₀ ok₀ k₀ table ok k = LabelsTabled plan n table ok k
 
 abbrev μ-loop : tie.MeasureT-loop
 μ-loop plan n table₀ ok₀ k₀ table ok k = n - k
-
-cast-n : tie.Need-cast-n Inv-loop μ-loop
-cast-n c = search needs
 
 loop-holds : tie.Need-loop-holds Inv-loop μ-loop
 loop-holds c =
@@ -33,27 +28,6 @@ loop-holds c =
       tabled = present-none (c .args .t1 .entries) 256;
       differ = unlike-none (c .args .t1 .entries);
     }
-
-mul-e : tie.Need-mul-e Inv-loop μ-loop
-mul-e c = search needs
-
-element-copy-out-e : tie.Need-element-copy-out-e Inv-loop μ-loop
-element-copy-out-e c = search needs
-
-cast-label : tie.Need-cast-label Inv-loop μ-loop
-cast-label c = search needs
-
-array-read-again : tie.Need-array-read-again Inv-loop μ-loop
-array-read-again c = search needs
-
-array-write-table : tie.Need-array-write-table Inv-loop μ-loop
-array-write-table c = search needs
-
-add-k : tie.Need-add-k Inv-loop μ-loop
-add-k c = search needs
-
-loop-less : tie.Need-loop-less Inv-loop μ-loop
-loop-less c = search needs
 
 loop-again : tie.Need-loop-again Inv-loop μ-loop
 loop-again c =
@@ -80,14 +54,14 @@ labels-in-spec =
     (tie.spec
     Inv-loop
     μ-loop
-    cast-n
+    (λ c. search needs)  -- cast-n
     loop-holds
-    mul-e
-    element-copy-out-e
-    cast-label
-    array-read-again
-    array-write-table
-    add-k
-    loop-less
+    (λ c. search needs)  -- mul-e
+    (λ c. search needs)  -- element-copy-out-e
+    (λ c. search needs)  -- cast-label
+    (λ c. search needs)  -- array-read-again
+    (λ c. search needs)  -- array-write-table
+    (λ c. search needs)  -- add-k
+    (λ c. search needs)  -- loop-less
     loop-again
     returns)

@@ -3,11 +3,6 @@ use Rattle.plan.specs.Entries.{planSound}
 use borrow.Author.Needs.{needs}
 use Rattle.plan_check.proofs.sound.Statement.{statement}
 use Rattle.plan_check.proofs.sound.Tie as tie
-use Rattle.plan_check.proofs.sound.Reads as reads
-use Rattle.plan_check.proofs.sound.Lts as lts
-use Rattle.plan_check.proofs.all_differ.Reads as all-differ-reads
-use Rattle.plan_check.proofs.booked_numbers.Reads as booked-numbers-reads
-use Rattle.plan_check.proofs.after_predecessors.Reads as after-predecessors-reads
 
 returns : tie.Need-returns
 unfolding planSound

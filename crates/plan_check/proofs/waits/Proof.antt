@@ -2,8 +2,6 @@ use mathlib.Core.Path.{sym}
 use Rattle.plan.proofs.Stages.{waits-byte}
 use Rattle.plan_check.proofs.waits.Statement.{statement}
 use Rattle.plan_check.proofs.waits.Tie as tie
-use Rattle.plan_check.proofs.waits.Reads as reads
-use Rattle.plan_check.proofs.waits.Lts as lts
 
 returns : tie.Need-returns
 returns c = sym (waits-byte (c .before .args .e))

@@ -2,8 +2,6 @@ use mathlib.Core.Path.{sym}
 use Rattle.plan.proofs.Stages.{delivered-byte}
 use Rattle.plan_check.proofs.was_delivered.Statement.{statement}
 use Rattle.plan_check.proofs.was_delivered.Tie as tie
-use Rattle.plan_check.proofs.was_delivered.Reads as reads
-use Rattle.plan_check.proofs.was_delivered.Lts as lts
 
 returns : tie.Need-returns
 returns c = sym (delivered-byte (c .before .args .e))

@@ -10,8 +10,6 @@ use Rattle.plan_parts.proofs.Loops.{NumbersTested}
 use borrow.Author.Needs.{needs}
 use Rattle.plan_parts.proofs.all_upto.Statement.{statement}
 use Rattle.plan_parts.proofs.all_upto.Tie as tie
-use Rattle.plan_parts.proofs.all_upto.Reads as reads
-use Rattle.plan_parts.proofs.all_upto.Lts as lts
 
 abbrev Inv-loop : tie.InvT-loop
 Inv-loop n last items ok₀ k₀ ok k = NumbersTested n last items ok k

@@ -12,24 +12,12 @@ use Rattle.plan_parts.proofs.Loops.{LabelSought}
 use borrow.Author.Needs.{needs}
 use Rattle.plan_parts.proofs.asked_for.Statement.{statement}
 use Rattle.plan_parts.proofs.asked_for.Tie as tie
-use Rattle.plan_parts.proofs.asked_for.Reads as reads
-use Rattle.plan_parts.proofs.asked_for.Lts as lts
-use Rattle.plan_check.proofs.both.Reads as both-reads
-use Rattle.plan_check.proofs.done_table.Reads as done-table-reads
-use Rattle.plan_check.proofs.waits.Reads as waits-reads
-use Rattle.plan_parts.proofs.tile_if.Reads as tile-if-reads
 
 abbrev Inv-loop : tie.InvT-loop
 Inv-loop label plan table n tile₀ ready₀ j₀ tile ready j = LabelSought label plan table n tile ready j
 
 abbrev μ-loop : tie.MeasureT-loop
 μ-loop label plan table n tile₀ ready₀ j₀ tile ready j = n - j
-
-done-table-requires : tie.Need-done-table-requires Inv-loop μ-loop
-done-table-requires c κs = search needs
-
-cast-n : tie.Need-cast-n Inv-loop μ-loop
-cast-n c = search needs
 
 loop-holds : tie.Need-loop-holds Inv-loop μ-loop
 loop-holds c =
@@ -46,48 +34,6 @@ loop-holds c =
       tabled = T .ensures;
       found = found-none (used p) (S .args .label) (p .count - 0) (omega arith);
     }
-
-sub-k : tie.Need-sub-k Inv-loop μ-loop
-sub-k c = search needs
-
-sub-k-2 : tie.Need-sub-k-2 Inv-loop μ-loop
-sub-k-2 c = search needs
-
-mul-e : tie.Need-mul-e Inv-loop μ-loop
-mul-e c = search needs
-
-element-copy-out-e : tie.Need-element-copy-out-e Inv-loop μ-loop
-element-copy-out-e c = search needs
-
-cast-first : tie.Need-cast-first Inv-loop μ-loop
-cast-first c = search needs
-
-array-read-first : tie.Need-array-read-first Inv-loop μ-loop
-array-read-first c = search needs
-
-cast-second : tie.Need-cast-second Inv-loop μ-loop
-cast-second c = search needs
-
-array-read-second : tie.Need-array-read-second Inv-loop μ-loop
-array-read-second c = search needs
-
-both-requires : tie.Need-both-requires Inv-loop μ-loop
-both-requires c κs = search needs
-
-waits-requires : tie.Need-waits-requires Inv-loop μ-loop
-waits-requires c κs = search needs
-
-cast-ready : tie.Need-cast-ready Inv-loop μ-loop
-cast-ready c = search needs
-
-tile-if-requires : tie.Need-tile-if-requires Inv-loop μ-loop
-tile-if-requires c κs = search needs
-
-add-j : tie.Need-add-j Inv-loop μ-loop
-add-j c = search needs
-
-loop-less : tie.Need-loop-less Inv-loop μ-loop
-loop-less c = search needs
 
 loop-again : tie.Need-loop-again Inv-loop μ-loop
 loop-again c =
@@ -125,22 +71,22 @@ asked-for-spec =
     (tie.spec
     Inv-loop
     μ-loop
-    done-table-requires
-    cast-n
+    (λ c κs. search needs)  -- done-table-requires
+    (λ c. search needs)  -- cast-n
     loop-holds
-    sub-k
-    sub-k-2
-    mul-e
-    element-copy-out-e
-    cast-first
-    array-read-first
-    cast-second
-    array-read-second
-    both-requires
-    waits-requires
-    cast-ready
-    tile-if-requires
-    add-j
-    loop-less
+    (λ c. search needs)  -- sub-k
+    (λ c. search needs)  -- sub-k-2
+    (λ c. search needs)  -- mul-e
+    (λ c. search needs)  -- element-copy-out-e
+    (λ c. search needs)  -- cast-first
+    (λ c. search needs)  -- array-read-first
+    (λ c. search needs)  -- cast-second
+    (λ c. search needs)  -- array-read-second
+    (λ c κs. search needs)  -- both-requires
+    (λ c κs. search needs)  -- waits-requires
+    (λ c. search needs)  -- cast-ready
+    (λ c κs. search needs)  -- tile-if-requires
+    (λ c. search needs)  -- add-j
+    (λ c. search needs)  -- loop-less
     loop-again
     returns)

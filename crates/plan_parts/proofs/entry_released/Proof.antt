@@ -3,8 +3,6 @@ use Rattle.plan.specs.Entries.{released}
 use borrow.Author.Needs.{needs}
 use Rattle.plan_parts.proofs.entry_released.Statement.{statement}
 use Rattle.plan_parts.proofs.entry_released.Tie as tie
-use Rattle.plan_parts.proofs.entry_released.Reads as reads
-use Rattle.plan_parts.proofs.entry_released.Lts as lts
 
 -- src/lib.rt:109:8
 cast-if1 : tie.Need-cast-if1

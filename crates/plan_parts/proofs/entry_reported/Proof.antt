@@ -2,9 +2,6 @@ use Rattle.plan_parts.proofs.Changed.{listed-yes, listed-no}
 use borrow.Author.Needs.{needs}
 use Rattle.plan_parts.proofs.entry_reported.Statement.{statement}
 use Rattle.plan_parts.proofs.entry_reported.Tie as tie
-use Rattle.plan_parts.proofs.entry_reported.Reads as reads
-use Rattle.plan_parts.proofs.entry_reported.Lts as lts
-use Rattle.plan_check.proofs.holds.Reads as holds-reads
 
 -- src/lib.rt:182:9
 holds-requires : tie.Need-holds-requires

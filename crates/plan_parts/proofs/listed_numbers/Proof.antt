@@ -9,9 +9,6 @@ use Rattle.plan_parts.proofs.Loops.{NumbersListed}
 use borrow.Author.Needs.{needs}
 use Rattle.plan_parts.proofs.listed_numbers.Statement.{statement}
 use Rattle.plan_parts.proofs.listed_numbers.Tie as tie
-use Rattle.plan_parts.proofs.listed_numbers.Reads as reads
-use Rattle.plan_parts.proofs.listed_numbers.Lts as lts
-use Rattle.plan_parts.proofs.with_listed.Reads as with-listed-reads
 
 abbrev Inv-loop : tie.InvT-loop
 Inv-loop given items₀ m₀ h₀ items m h = NumbersListed given items m h
@@ -31,31 +28,16 @@ loop-holds c =
       four = four-each (r .deliveries) (c .pre);
     }
 
-mul-d : tie.Need-mul-d Inv-loop μ-loop
-mul-d c = search needs
-
-element-copy-out-d : tie.Need-element-copy-out-d Inv-loop μ-loop
-element-copy-out-d c = search needs
-
 with-listed-requires : tie.Need-with-listed-requires Inv-loop μ-loop
 with-listed-requires c κs =
     let l = c .before .before .loop in
     (omega arith, l .inv .four (l .h))
-
-cast-m : tie.Need-cast-m Inv-loop μ-loop
-cast-m c = search needs
 
 add-m : tie.Need-add-m Inv-loop μ-loop
 add-m c =
     let l = c .before .before .before .before .loop in
     let few = l .inv .four (l .h) in
     record { fits = omega arith }
-
-add-h : tie.Need-add-h Inv-loop μ-loop
-add-h c = search needs
-
-loop-less : tie.Need-loop-less Inv-loop μ-loop
-loop-less c = search needs
 
 loop-again : tie.Need-loop-again Inv-loop μ-loop
 loop-again c =
@@ -85,12 +67,12 @@ listed-numbers-spec =
     Inv-loop
     μ-loop
     loop-holds
-    mul-d
-    element-copy-out-d
+    (λ c. search needs)  -- mul-d
+    (λ c. search needs)  -- element-copy-out-d
     with-listed-requires
-    cast-m
+    (λ c. search needs)  -- cast-m
     add-m
-    add-h
-    loop-less
+    (λ c. search needs)  -- add-h
+    (λ c. search needs)  -- loop-less
     loop-again
     returns)

@@ -1,8 +1,6 @@
 use Rattle.laws.proofs.Tests.{pick-yes, pick-no}
 use Rattle.plan_parts.proofs.lower.Statement.{statement}
 use Rattle.plan_parts.proofs.lower.Tie as tie
-use Rattle.plan_parts.proofs.lower.Reads as reads
-use Rattle.plan_parts.proofs.lower.Lts as lts
 
 returns : tie.Need-returns
 returns c = pick-yes (c .before .args .label) (c .before .args .best) (c .if1 .taken)

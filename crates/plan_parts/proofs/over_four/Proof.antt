@@ -13,8 +13,6 @@ use Rattle.plan_parts.proofs.Loops.{DeliveriesTested}
 use borrow.Author.Needs.{needs}
 use Rattle.plan_parts.proofs.over_four.Statement.{statement}
 use Rattle.plan_parts.proofs.over_four.Tie as tie
-use Rattle.plan_parts.proofs.over_four.Reads as reads
-use Rattle.plan_parts.proofs.over_four.Lts as lts
 
 abbrev Inv-loop : tie.InvT-loop
 Inv-loop given found₀ h₀ found h = DeliveriesTested given found h
@@ -28,18 +26,6 @@ loop-holds c = record {
   deliveries-length = deliveries-length (c .args .t1) _ (c .good .0);
   tested = any-none (λ d. ltb 4 (d .count)) (c .args .t1 .deliveries);
 }
-
-mul-d : tie.Need-mul-d Inv-loop μ-loop
-mul-d c = search needs
-
-element-copy-out-d : tie.Need-element-copy-out-d Inv-loop μ-loop
-element-copy-out-d c = search needs
-
-add-h : tie.Need-add-h Inv-loop μ-loop
-add-h c = search needs
-
-loop-less : tie.Need-loop-less Inv-loop μ-loop
-loop-less c = search needs
 
 loop-again : tie.Need-loop-again Inv-loop μ-loop
 loop-again c =
@@ -64,9 +50,9 @@ over-four-spec =
     Inv-loop
     μ-loop
     loop-holds
-    mul-d
-    element-copy-out-d
-    add-h
-    loop-less
+    (λ c. search needs)  -- mul-d
+    (λ c. search needs)  -- element-copy-out-d
+    (λ c. search needs)  -- add-h
+    (λ c. search needs)  -- loop-less
     loop-again
     returns)

@@ -13,18 +13,12 @@ use Rattle.plan_parts.proofs.Loops.{EntriesChanged}
 use borrow.Author.Needs.{needs}
 use Rattle.plan_parts.proofs.plan_released.Statement.{statement}
 use Rattle.plan_parts.proofs.plan_released.Tie as tie
-use Rattle.plan_parts.proofs.plan_released.Reads as reads
-use Rattle.plan_parts.proofs.plan_released.Lts as lts
-use Rattle.plan_parts.proofs.entry_released.Reads as entry-released-reads
 
 abbrev Inv-loop : tie.InvT-loop
 Inv-loop plan label number n entries₀ k₀ entries k = EntriesChanged plan (released label number) n entries k
 
 abbrev μ-loop : tie.MeasureT-loop
 μ-loop plan label number n entries₀ k₀ entries k = n - k
-
-cast-n : tie.Need-cast-n Inv-loop μ-loop
-cast-n c = search needs
 
 loop-holds : tie.Need-loop-holds Inv-loop μ-loop
 loop-holds c =
@@ -37,27 +31,6 @@ loop-holds c =
       now-length = few;
       changed = refl;
     }
-
-mul-e : tie.Need-mul-e Inv-loop μ-loop
-mul-e c = search needs
-
-array-copy-out-e : tie.Need-array-copy-out-e Inv-loop μ-loop
-array-copy-out-e c = search needs
-
-entry-released-requires : tie.Need-entry-released-requires Inv-loop μ-loop
-entry-released-requires c κs = search needs
-
-mul-entries : tie.Need-mul-entries Inv-loop μ-loop
-mul-entries c = search needs
-
-array-set-from-entries : tie.Need-array-set-from-entries Inv-loop μ-loop
-array-set-from-entries c = search needs
-
-add-k : tie.Need-add-k Inv-loop μ-loop
-add-k c = search needs
-
-loop-less : tie.Need-loop-less Inv-loop μ-loop
-loop-less c = search needs
 
 loop-again : tie.Need-loop-again Inv-loop μ-loop
 loop-again c =
@@ -84,14 +57,14 @@ plan-released-spec =
     (tie.spec
     Inv-loop
     μ-loop
-    cast-n
+    (λ c. search needs)  -- cast-n
     loop-holds
-    mul-e
-    array-copy-out-e
-    entry-released-requires
-    mul-entries
-    array-set-from-entries
-    add-k
-    loop-less
+    (λ c. search needs)  -- mul-e
+    (λ c. search needs)  -- array-copy-out-e
+    (λ c κs. search needs)  -- entry-released-requires
+    (λ c. search needs)  -- mul-entries
+    (λ c. search needs)  -- array-set-from-entries
+    (λ c. search needs)  -- add-k
+    (λ c. search needs)  -- loop-less
     loop-again
     returns)

@@ -16,9 +16,6 @@ use Rattle.plan_parts.proofs.Loops.{EntriesChanged, NumberSought}
 use borrow.Author.Needs.{needs}
 use Rattle.plan_parts.proofs.plan_reported.Statement.{statement}
 use Rattle.plan_parts.proofs.plan_reported.Tie as tie
-use Rattle.plan_parts.proofs.plan_reported.Reads as reads
-use Rattle.plan_parts.proofs.plan_reported.Lts as lts
-use Rattle.plan_parts.proofs.entry_reported.Reads as entry-reported-reads
 
 abbrev Inv-loop2 : tie.InvT-loop2
 Inv-loop2 plan m items n entries k e number found₀ i₀ found i = NumberSought m items n k number found i
@@ -32,9 +29,6 @@ Inv-loop plan m items n entries₀ k₀ entries k = EntriesChanged plan (reporte
 abbrev μ-loop : tie.MeasureT-loop
 μ-loop plan m items n entries₀ k₀ entries k = n - k
 
-cast-n : tie.Need-cast-n Inv-loop2 μ-loop2 Inv-loop μ-loop
-cast-n c = search needs
-
 loop-holds : tie.Need-loop-holds Inv-loop2 μ-loop2 Inv-loop μ-loop
 loop-holds c =
     let S = c .before .before in
@@ -46,12 +40,6 @@ loop-holds c =
       now-length = few;
       changed = refl;
     }
-
-mul-e : tie.Need-mul-e Inv-loop2 μ-loop2 Inv-loop μ-loop
-mul-e c = search needs
-
-array-copy-out-e : tie.Need-array-copy-out-e Inv-loop2 μ-loop2 Inv-loop μ-loop
-array-copy-out-e c = search needs
 
 loop2-holds : tie.Need-loop2-holds Inv-loop2 μ-loop2 Inv-loop μ-loop
 loop2-holds c =
@@ -65,18 +53,6 @@ loop2-holds c =
       sought = any-none (eqb (getD (l .entries) (l .k) zeroEntry .number)) (S .args .t2);
     }
 
-mul-x : tie.Need-mul-x Inv-loop2 μ-loop2 Inv-loop μ-loop
-mul-x c = search needs
-
-array-read-x : tie.Need-array-read-x Inv-loop2 μ-loop2 Inv-loop μ-loop
-array-read-x c = search needs
-
-add-i : tie.Need-add-i Inv-loop2 μ-loop2 Inv-loop μ-loop
-add-i c = search needs
-
-loop2-less : tie.Need-loop2-less Inv-loop2 μ-loop2 Inv-loop μ-loop
-loop2-less c = search needs
-
 loop2-again : tie.Need-loop2-again Inv-loop2 μ-loop2 Inv-loop μ-loop
 loop2-again c =
     let i = c .before .loop2 in
@@ -89,21 +65,6 @@ loop2-again c =
       here = i .inv .here;
       sought = rw (i .inv .sought) (sym (any-more (eqb (getD (l .entries) (l .k) zeroEntry .number)) g.t2 (i .i) 0 (omega arith)));
     }
-
-entry-reported-requires : tie.Need-entry-reported-requires Inv-loop2 μ-loop2 Inv-loop μ-loop
-entry-reported-requires c κs = search needs
-
-mul-entries : tie.Need-mul-entries Inv-loop2 μ-loop2 Inv-loop μ-loop
-mul-entries c = search needs
-
-array-set-from-entries : tie.Need-array-set-from-entries Inv-loop2 μ-loop2 Inv-loop μ-loop
-array-set-from-entries c = search needs
-
-add-k : tie.Need-add-k Inv-loop2 μ-loop2 Inv-loop μ-loop
-add-k c = search needs
-
-loop-less : tie.Need-loop-less Inv-loop2 μ-loop2 Inv-loop μ-loop
-loop-less c = search needs
 
 loop-again : tie.Need-loop-again Inv-loop2 μ-loop2 Inv-loop μ-loop
 loop-again c =
@@ -135,20 +96,20 @@ plan-reported-spec =
     μ-loop2
     Inv-loop
     μ-loop
-    cast-n
+    (λ c. search needs)  -- cast-n
     loop-holds
-    mul-e
-    array-copy-out-e
+    (λ c. search needs)  -- mul-e
+    (λ c. search needs)  -- array-copy-out-e
     loop2-holds
-    mul-x
-    array-read-x
-    add-i
-    loop2-less
+    (λ c. search needs)  -- mul-x
+    (λ c. search needs)  -- array-read-x
+    (λ c. search needs)  -- add-i
+    (λ c. search needs)  -- loop2-less
     loop2-again
-    entry-reported-requires
-    mul-entries
-    array-set-from-entries
-    add-k
-    loop-less
+    (λ c κs. search needs)  -- entry-reported-requires
+    (λ c. search needs)  -- mul-entries
+    (λ c. search needs)  -- array-set-from-entries
+    (λ c. search needs)  -- add-k
+    (λ c. search needs)  -- loop-less
     loop-again
     returns)

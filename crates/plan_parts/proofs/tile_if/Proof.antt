@@ -2,8 +2,6 @@ use borrow.Author.Tests.{eq-eqb, ne-eqb}
 use borrow.Author.Needs.{needs}
 use Rattle.plan_parts.proofs.tile_if.Statement.{statement}
 use Rattle.plan_parts.proofs.tile_if.Tie as tie
-use Rattle.plan_parts.proofs.tile_if.Reads as reads
-use Rattle.plan_parts.proofs.tile_if.Lts as lts
 
 -- src/lib.rt:62:8
 cast-if1 : tie.Need-cast-if1

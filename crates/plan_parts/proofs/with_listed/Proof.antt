@@ -8,17 +8,12 @@ use Rattle.plan_parts.proofs.Loops.{NumbersAdded}
 use borrow.Author.Needs.{needs}
 use Rattle.plan_parts.proofs.with_listed.Statement.{statement}
 use Rattle.plan_parts.proofs.with_listed.Tie as tie
-use Rattle.plan_parts.proofs.with_listed.Reads as reads
-use Rattle.plan_parts.proofs.with_listed.Lts as lts
 
 abbrev Inv-loop : tie.InvT-loop
 Inv-loop m own n out₀ i₀ out i = NumbersAdded m own n out₀ out i
 
 abbrev μ-loop : tie.MeasureT-loop
 μ-loop m own n out₀ i₀ out i = n - i
-
-cast-n : tie.Need-cast-n Inv-loop μ-loop
-cast-n c = search needs
 
 loop-holds : tie.Need-loop-holds Inv-loop μ-loop
 loop-holds c =
@@ -31,27 +26,6 @@ loop-holds c =
       out-length = S .good .0 .1 .0 .1;
       added = put-none (S .args .items) (S .args .d .numbers) (S .args .m);
     }
-
-mul-out : tie.Need-mul-out Inv-loop μ-loop
-mul-out c = search needs
-
-array-read-out : tie.Need-array-read-out Inv-loop μ-loop
-array-read-out c = search needs
-
-add-out : tie.Need-add-out Inv-loop μ-loop
-add-out c = search needs
-
-mul-out-2 : tie.Need-mul-out-2 Inv-loop μ-loop
-mul-out-2 c = search needs
-
-array-write-out : tie.Need-array-write-out Inv-loop μ-loop
-array-write-out c = search needs
-
-add-i : tie.Need-add-i Inv-loop μ-loop
-add-i c = search needs
-
-loop-less : tie.Need-loop-less Inv-loop μ-loop
-loop-less c = search needs
 
 loop-again : tie.Need-loop-again Inv-loop μ-loop
 loop-again c =
@@ -79,14 +53,14 @@ with-listed-spec =
     (tie.spec
     Inv-loop
     μ-loop
-    cast-n
+    (λ c. search needs)  -- cast-n
     loop-holds
-    mul-out
-    array-read-out
-    add-out
-    mul-out-2
-    array-write-out
-    add-i
-    loop-less
+    (λ c. search needs)  -- mul-out
+    (λ c. search needs)  -- array-read-out
+    (λ c. search needs)  -- add-out
+    (λ c. search needs)  -- mul-out-2
+    (λ c. search needs)  -- array-write-out
+    (λ c. search needs)  -- add-i
+    (λ c. search needs)  -- loop-less
     loop-again
     returns)

@@ -4,10 +4,6 @@ use Rattle.round_grants.proofs.SignalLaws.{chosen-none, chosen-kept, ch
 use borrow.Author.Needs.{needs}
 use Rattle.round_grants.proofs.chosen.Statement.{statement}
 use Rattle.round_grants.proofs.chosen.Tie as tie
-use Rattle.round_grants.proofs.chosen.Reads as reads
-use Rattle.round_grants.proofs.chosen.Lts as lts
-use Rattle.floor.proofs.Side.among.Reads as among-reads
-use Rattle.floor.proofs.Side.following.Reads as following-reads
 
 returns : tie.Need-returns
 returns c = let s = c .before in chosen-none (s .args .set) (s .args .token .code) (c .if1 .taken) (s .pre .0)

@@ -2,49 +2,6 @@ use Rattle.round_grants.proofs.SignalLaws.{lack-west, lack-south, lack-
 use borrow.Author.Needs.{needs}
 use Rattle.round_grants.proofs.lack.Statement.{statement}
 use Rattle.round_grants.proofs.lack.Tie as tie
-use Rattle.round_grants.proofs.lack.Reads as reads
-use Rattle.round_grants.proofs.lack.Lts as lts
-use Rattle.floor.proofs.Settings.spacing.Reads as spacing-reads
-use Rattle.round_grants.proofs.less.Reads as less-reads
-
-cast-length : tie.Need-cast-length
-cast-length c = search needs
-
-spacing-requires : tie.Need-spacing-requires
-spacing-requires c κs = tt
-
-cast-width : tie.Need-cast-width
-cast-width c = search needs
-
-cast-a : tie.Need-cast-a
-cast-a c = search needs
-
-cast-b : tie.Need-cast-b
-cast-b c = search needs
-
-less-requires : tie.Need-less-requires
-less-requires c κs = search needs
-
-less-requires-2 : tie.Need-less-requires-2
-less-requires-2 c κs = search needs
-
-add-less : tie.Need-add-less
-add-less c = search needs
-
-add-less-2 : tie.Need-add-less-2
-add-less-2 c = search needs
-
-less-requires-3 : tie.Need-less-requires-3
-less-requires-3 c κs = search needs
-
-add-less-3 : tie.Need-add-less-3
-add-less-3 c = search needs
-
-add-less-4 : tie.Need-add-less-4
-add-less-4 c = search needs
-
-less-requires-4 : tie.Need-less-requires-4
-less-requires-4 c κs = search needs
 
 returns : tie.Need-returns
 returns c = search (lack-west, needs)
@@ -65,19 +22,19 @@ pub lack-spec : {M : Type 1} → statement M
 lack-spec =
     tie.close
     (tie.spec
-    cast-length
-    spacing-requires
-    cast-width
-    cast-a
-    cast-b
-    less-requires
-    less-requires-2
-    add-less
-    add-less-2
-    less-requires-3
-    add-less-3
-    add-less-4
-    less-requires-4
+    (λ c. search needs)  -- cast-length
+    (λ c κs. tt)  -- spacing-requires
+    (λ c. search needs)  -- cast-width
+    (λ c. search needs)  -- cast-a
+    (λ c. search needs)  -- cast-b
+    (λ c κs. search needs)  -- less-requires
+    (λ c κs. search needs)  -- less-requires-2
+    (λ c. search needs)  -- add-less
+    (λ c. search needs)  -- add-less-2
+    (λ c κs. search needs)  -- less-requires-3
+    (λ c. search needs)  -- add-less-3
+    (λ c. search needs)  -- add-less-4
+    (λ c κs. search needs)  -- less-requires-4
     returns
     returns-2
     returns-3

@@ -3,9 +3,6 @@ use Rattle.round_grants.proofs.SignalLaws.{requests-of}
 use borrow.Author.Needs.{needs}
 use Rattle.round_grants.proofs.requesting.Statement.{statement}
 use Rattle.round_grants.proofs.requesting.Tie as tie
-use Rattle.round_grants.proofs.requesting.Reads as reads
-use Rattle.round_grants.proofs.requesting.Lts as lts
-use Rattle.round_grants.proofs.wanting.Reads as wanting-reads
 
 wanting-requires : tie.Need-wanting-requires
 wanting-requires c κs = search needs

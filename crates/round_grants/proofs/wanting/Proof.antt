@@ -2,9 +2,6 @@ use Rattle.round_grants.proofs.SignalLaws.{wants-bit, wants-none}
 use borrow.Author.Needs.{needs}
 use Rattle.round_grants.proofs.wanting.Statement.{statement}
 use Rattle.round_grants.proofs.wanting.Tie as tie
-use Rattle.round_grants.proofs.wanting.Reads as reads
-use Rattle.round_grants.proofs.wanting.Lts as lts
-use Rattle.floor.proofs.Side.opposite.Reads as opposite-reads
 
 opposite-requires : tie.Need-opposite-requires
 opposite-requires c κs = tt

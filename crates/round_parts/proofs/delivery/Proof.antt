@@ -4,9 +4,6 @@ use Prim.Native.Nat.{ℕ}
 use borrow.Author.Needs.{needs}
 use Rattle.round_parts.proofs.delivery.Statement.{statement}
 use Rattle.round_parts.proofs.delivery.Tie as tie
-use Rattle.round_parts.proofs.delivery.Reads as reads
-use Rattle.round_parts.proofs.delivery.Lts as lts
-use Rattle.round_parts.proofs.first_numbers.Reads as first-numbers-reads
 
 first-numbers-requires : tie.Need-first-numbers-requires
 first-numbers-requires c κs = search needs

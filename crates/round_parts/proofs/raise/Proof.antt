@@ -13,8 +13,6 @@ use Rattle.floor.proofs.Sized.{delivered-length}
 use borrow.Author.Needs.{needs}
 use Rattle.round_parts.proofs.raise.Statement.{statement}
 use Rattle.round_parts.proofs.raise.Tie as tie
-use Rattle.round_parts.proofs.raise.Reads as reads
-use Rattle.round_parts.proofs.raise.Lts as lts
 
 abbrev Inv-loop : tie.InvT-loop
 Inv-loop c d old sums₀ k₀ sums k = Raised c d old sums k
@@ -34,39 +32,12 @@ loop-holds c =
       raised = λ i h. absurd (omega arith);
     }
 
-mul-one : tie.Need-mul-one Inv-loop μ-loop
-mul-one c = search needs
-
-array-copy-out-one : tie.Need-array-copy-out-one Inv-loop μ-loop
-array-copy-out-one c = search needs
-
-mul-sums : tie.Need-mul-sums Inv-loop μ-loop
-mul-sums c = search needs
-
-array-read-sums : tie.Need-array-read-sums Inv-loop μ-loop
-array-read-sums c = search needs
-
-cast-sums : tie.Need-cast-sums Inv-loop μ-loop
-cast-sums c = search needs
-
 add-sums : tie.Need-add-sums Inv-loop μ-loop
 add-sums c =
     let o = c .before .before .before in
     let l = o .loop in
     let S = o .before .before in
     record { fits = rw (ap (λ (x : Delivery). x .count) (get-same (S .args .t2) (l .k) noDelivery beyond (omega arith))) at (S .pre (l .k) (omega arith)) }
-
-mul-sums-2 : tie.Need-mul-sums-2 Inv-loop μ-loop
-mul-sums-2 c = search needs
-
-array-write-sums : tie.Need-array-write-sums Inv-loop μ-loop
-array-write-sums c = search needs
-
-add-k : tie.Need-add-k Inv-loop μ-loop
-add-k c = search needs
-
-loop-less : tie.Need-loop-less Inv-loop μ-loop
-loop-less c = search needs
 
 loop-again : tie.Need-loop-again Inv-loop μ-loop
 loop-again c =
@@ -96,15 +67,15 @@ raise-spec =
     Inv-loop
     μ-loop
     loop-holds
-    mul-one
-    array-copy-out-one
-    mul-sums
-    array-read-sums
-    cast-sums
+    (λ c. search needs)  -- mul-one
+    (λ c. search needs)  -- array-copy-out-one
+    (λ c. search needs)  -- mul-sums
+    (λ c. search needs)  -- array-read-sums
+    (λ c. search needs)  -- cast-sums
     add-sums
-    mul-sums-2
-    array-write-sums
-    add-k
-    loop-less
+    (λ c. search needs)  -- mul-sums-2
+    (λ c. search needs)  -- array-write-sums
+    (λ c. search needs)  -- add-k
+    (λ c. search needs)  -- loop-less
     loop-again
     returns)

@@ -2,9 +2,6 @@ use Rattle.round_parts.proofs.Ways.{goes, stays}
 use borrow.Author.Needs.{needs}
 use Rattle.round_parts.proofs.way_of.Statement.{statement}
 use Rattle.round_parts.proofs.way_of.Tie as tie
-use Rattle.round_parts.proofs.way_of.Reads as reads
-use Rattle.round_parts.proofs.way_of.Lts as lts
-use Rattle.floor.proofs.Side.opposite.Reads as opposite-reads
 
 opposite-requires : tie.Need-opposite-requires
 opposite-requires c κs = tt

@@ -4,9 +4,6 @@ use Rattle.floor.specs.Memory.{refilled}
 use borrow.Author.Needs.{needs}
 use Rattle.round_parts.proofs.with_deliveries.Statement.{statement}
 use Rattle.round_parts.proofs.with_deliveries.Tie as tie
-use Rattle.round_parts.proofs.with_deliveries.Reads as reads
-use Rattle.round_parts.proofs.with_deliveries.Lts as lts
-use Rattle.round_parts.proofs.raise.Reads as raise-reads
 
 raise-requires : tie.Need-raise-requires
 raise-requires c κs = search needs

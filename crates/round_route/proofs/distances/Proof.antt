@@ -9,18 +9,12 @@ use Rattle.round_route.proofs.Loops.{DistancesFilled}
 use borrow.Author.Needs.{needs}
 use Rattle.round_route.proofs.distances.Statement.{statement}
 use Rattle.round_route.proofs.distances.Tie as tie
-use Rattle.round_route.proofs.distances.Reads as reads
-use Rattle.round_route.proofs.distances.Lts as lts
-use Rattle.floor.proofs.Settings.tile_count.Reads as tile-count-reads
 
 abbrev Inv-loop : tie.InvT-loop
 Inv-loop tiles all d₀ t₀ d t = DistancesFilled tiles all d t
 
 abbrev μ-loop : tie.MeasureT-loop
 μ-loop tiles all d₀ t₀ d t = all - t
-
-tile-count-requires : tie.Need-tile-count-requires Inv-loop μ-loop
-tile-count-requires c κs = tt
 
 loop-holds : tie.Need-loop-holds Inv-loop μ-loop
 loop-holds c =
@@ -32,21 +26,6 @@ loop-holds c =
       distances-length = refl;
       filled = within-none (λ n. n) 0 (distanceIn (s .args .t2)) 255 65;
     }
-
-mul-tile : tie.Need-mul-tile Inv-loop μ-loop
-mul-tile c = search needs
-
-array-copy-out-tile : tie.Need-array-copy-out-tile Inv-loop μ-loop
-array-copy-out-tile c = search needs
-
-array-write-d : tie.Need-array-write-d Inv-loop μ-loop
-array-write-d c = search needs
-
-add-t : tie.Need-add-t Inv-loop μ-loop
-add-t c = search needs
-
-loop-less : tie.Need-loop-less Inv-loop μ-loop
-loop-less c = search needs
 
 loop-again : tie.Need-loop-again Inv-loop μ-loop
 loop-again c =
@@ -72,12 +51,12 @@ distances-spec =
     (tie.spec
     Inv-loop
     μ-loop
-    tile-count-requires
+    (λ c κs. tt)  -- tile-count-requires
     loop-holds
-    mul-tile
-    array-copy-out-tile
-    array-write-d
-    add-t
-    loop-less
+    (λ c. search needs)  -- mul-tile
+    (λ c. search needs)  -- array-copy-out-tile
+    (λ c. search needs)  -- array-write-d
+    (λ c. search needs)  -- add-t
+    (λ c. search needs)  -- loop-less
     loop-again
     returns)

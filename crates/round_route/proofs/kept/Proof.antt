@@ -2,10 +2,6 @@ use Rattle.round_route.proofs.RouteLaws.{kept-yes, kept-no}
 use borrow.Author.Needs.{needs}
 use Rattle.round_route.proofs.kept.Statement.{statement}
 use Rattle.round_route.proofs.kept.Tie as tie
-use Rattle.round_route.proofs.kept.Reads as reads
-use Rattle.round_route.proofs.kept.Lts as lts
-use Rattle.round_route.proofs.lies_at.Reads as lies-at-reads
-use Rattle.round_route.proofs.nearest.Reads as nearest-reads
 
 nearest-requires : tie.Need-nearest-requires
 nearest-requires c κs = search needs

@@ -1,8 +1,6 @@
 use Rattle.round_route.proofs.RouteLaws.{lies-west, lies-south, lies-north, lies-east, lies-none}
 use Rattle.round_route.proofs.lies_at.Statement.{statement}
 use Rattle.round_route.proofs.lies_at.Tie as tie
-use Rattle.round_route.proofs.lies_at.Reads as reads
-use Rattle.round_route.proofs.lies_at.Lts as lts
 
 returns : tie.Need-returns
 returns c = let g = c .before .args in lies-west g.west g.south g.north g.east g.distance (g.side .code) (c .match .keys1)

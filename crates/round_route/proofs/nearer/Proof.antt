@@ -4,8 +4,6 @@ use Rattle.floor.specs.Route as R
 use Rattle.round_route.specs.Routed.{heading}
 use Rattle.round_route.proofs.nearer.Statement.{statement}
 use Rattle.round_route.proofs.nearer.Tie as tie
-use Rattle.round_route.proofs.nearer.Reads as reads
-use Rattle.round_route.proofs.nearer.Lts as lts
 
 returns : tie.Need-returns
 unfolding R.nearer

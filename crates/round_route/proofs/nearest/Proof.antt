@@ -2,9 +2,6 @@ use Rattle.floor.specs.Route as R
 use borrow.Author.Needs.{needs}
 use Rattle.round_route.proofs.nearest.Statement.{statement}
 use Rattle.round_route.proofs.nearest.Tie as tie
-use Rattle.round_route.proofs.nearest.Reads as reads
-use Rattle.round_route.proofs.nearest.Lts as lts
-use Rattle.round_route.proofs.nearer.Reads as nearer-reads
 
 nearer-requires : tie.Need-nearer-requires
 nearer-requires c κs = search needs

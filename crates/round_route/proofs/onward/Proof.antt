@@ -6,8 +6,6 @@ use Rattle.floor.specs.Route as R
 use borrow.Author.Needs.{needs}
 use Rattle.round_route.proofs.onward.Statement.{statement}
 use Rattle.round_route.proofs.onward.Tie as tie
-use Rattle.round_route.proofs.onward.Reads as reads
-use Rattle.round_route.proofs.onward.Lts as lts
 
 add-next : tie.Need-add-next
 add-next c = search needs

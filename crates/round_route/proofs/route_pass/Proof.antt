@@ -7,21 +7,12 @@ use Rattle.round_route.proofs.Loops.{TilesRouted}
 use borrow.Author.Needs.{needs}
 use Rattle.round_route.proofs.route_pass.Statement.{statement}
 use Rattle.round_route.proofs.route_pass.Tie as tie
-use Rattle.round_route.proofs.route_pass.Reads as reads
-use Rattle.round_route.proofs.route_pass.Lts as lts
-use Rattle.floor.proofs.Settings.tile_count.Reads as tile-count-reads
-use Rattle.floor.proofs.Side.neighbour.Reads as neighbour-reads
-use Rattle.round_route.proofs.distances.Reads as distances-reads
-use Rattle.round_route.proofs.route_tile.Reads as route-tile-reads
 
 abbrev Inv-loop : tie.InvT-loop
 Inv-loop s tiles all d out₀ t₀ out t = TilesRouted s tiles all out t
 
 abbrev μ-loop : tie.MeasureT-loop
 μ-loop s tiles all d out₀ t₀ out t = all - t
-
-tile-count-requires : tie.Need-tile-count-requires Inv-loop μ-loop
-tile-count-requires c κs = tt
 
 distances-requires : tie.Need-distances-requires Inv-loop μ-loop
 distances-requires c κs = c .before .pre .2
@@ -61,27 +52,6 @@ neighbour-requires-4 c κs = search (tile-in, needs)
 array-read-east : tie.Need-array-read-east Inv-loop μ-loop
 array-read-east c = search (near-in, needs)
 
-mul-route-tile : tie.Need-mul-route-tile Inv-loop μ-loop
-mul-route-tile c = search needs
-
-array-copy-out-route-tile : tie.Need-array-copy-out-route-tile Inv-loop μ-loop
-array-copy-out-route-tile c = search needs
-
-route-tile-requires : tie.Need-route-tile-requires Inv-loop μ-loop
-route-tile-requires c κs = search needs
-
-mul-out : tie.Need-mul-out Inv-loop μ-loop
-mul-out c = search needs
-
-array-set-from-out : tie.Need-array-set-from-out Inv-loop μ-loop
-array-set-from-out c = search needs
-
-add-t : tie.Need-add-t Inv-loop μ-loop
-add-t c = search needs
-
-loop-less : tie.Need-loop-less Inv-loop μ-loop
-loop-less c = search needs
-
 loop-again : tie.Need-loop-again Inv-loop μ-loop
 loop-again c =
     let north = c .before .before .before in
@@ -103,7 +73,7 @@ route-pass-spec =
     (tie.spec
     Inv-loop
     μ-loop
-    tile-count-requires
+    (λ c κs. tt)  -- tile-count-requires
     distances-requires
     loop-holds
     neighbour-requires
@@ -114,12 +84,12 @@ route-pass-spec =
     array-read-north
     neighbour-requires-4
     array-read-east
-    mul-route-tile
-    array-copy-out-route-tile
-    route-tile-requires
-    mul-out
-    array-set-from-out
-    add-t
-    loop-less
+    (λ c. search needs)  -- mul-route-tile
+    (λ c. search needs)  -- array-copy-out-route-tile
+    (λ c κs. search needs)  -- route-tile-requires
+    (λ c. search needs)  -- mul-out
+    (λ c. search needs)  -- array-set-from-out
+    (λ c. search needs)  -- add-t
+    (λ c. search needs)  -- loop-less
     loop-again
     returns)

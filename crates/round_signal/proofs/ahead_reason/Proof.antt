@@ -2,9 +2,6 @@ use Rattle.round_signal.proofs.ReasonLaws.{why-turn, why-gap, why-moved
 use borrow.Author.Needs.{needs}
 use Rattle.round_signal.proofs.ahead_reason.Statement.{statement}
 use Rattle.round_signal.proofs.ahead_reason.Tie as tie
-use Rattle.round_signal.proofs.ahead_reason.Reads as reads
-use Rattle.round_signal.proofs.ahead_reason.Lts as lts
-use Rattle.floor.proofs.Side.opposite.Reads as opposite-reads
 
 opposite-requires : tie.Need-opposite-requires
 opposite-requires c κs = tt

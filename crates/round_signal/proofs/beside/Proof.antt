@@ -3,8 +3,6 @@ use borrow.Author.Tests.{eq-eqb, ne-eqb}
 use Rattle.laws.proofs.Tests.{pick-yes, pick-no}
 use Rattle.round_signal.proofs.beside.Statement.{statement}
 use Rattle.round_signal.proofs.beside.Tie as tie
-use Rattle.round_signal.proofs.beside.Reads as reads
-use Rattle.round_signal.proofs.beside.Lts as lts
 
 cast-result : tie.Need-cast-result
 cast-result c = search needs

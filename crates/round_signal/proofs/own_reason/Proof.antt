@@ -2,8 +2,6 @@ use Rattle.round_signal.proofs.ReasonLaws.{why-stopped, why-empty, why-
 use borrow.Author.Needs.{needs}
 use Rattle.round_signal.proofs.own_reason.Statement.{statement}
 use Rattle.round_signal.proofs.own_reason.Tie as tie
-use Rattle.round_signal.proofs.own_reason.Reads as reads
-use Rattle.round_signal.proofs.own_reason.Lts as lts
 
 returns : tie.Need-returns
 returns c = search (why-stopped, needs)

@@ -12,13 +12,6 @@ use Rattle.round_signal.proofs.ReasonLaws.{own-read, own-lack, reason-r
 use borrow.Author.Needs.{needs}
 use Rattle.round_signal.proofs.reason_pass.Statement.{statement}
 use Rattle.round_signal.proofs.reason_pass.Tie as tie
-use Rattle.round_signal.proofs.reason_pass.Reads as reads
-use Rattle.round_signal.proofs.reason_pass.Lts as lts
-use Rattle.floor.proofs.Settings.tile_count.Reads as tile-count-reads
-use Rattle.floor.proofs.Side.neighbour.Reads as neighbour-reads
-use Rattle.round_signal.proofs.ahead_reason.Reads as ahead-reason-reads
-use Rattle.round_signal.proofs.beside.Reads as beside-reads
-use Rattle.round_signal.proofs.own_reason.Reads as own-reason-reads
 
 abbrev Inv-loop : tie.InvT-loop
 Inv-loop s tiles turns lacks all reasons₀ missing₀ i₀ reasons missing i = Reasoned s tiles all turns lacks reasons missing i
@@ -41,9 +34,6 @@ ahead c =
     let g = o .before .before .args in
     near-read g.s (getD g.t2 (l .i) zeroTile .next .code) (l .i) (omega (arith, l .inv .whole)) (l .inv .ranged .2) (c .neighbour .ensures)
 
-tile-count-requires : tie.Need-tile-count-requires Inv-loop μ-loop
-tile-count-requires c κs = tt
-
 loop-holds : tie.Need-loop-holds Inv-loop μ-loop
 loop-holds c =
     let s = c .before in
@@ -60,9 +50,6 @@ loop-holds c =
       lacking = filled-none 64 (M.lackBy g.s g.t2 (M.sideIn g.t3) (λ u. getD g.t4 u 0)) 0;
     }
 
-mul-tile : tie.Need-mul-tile Inv-loop μ-loop
-mul-tile c = search needs
-
 array-copy-out-tile :
     tie.Need-array-copy-out-tile Inv-loop μ-loop
 array-copy-out-tile c = search needs
@@ -74,12 +61,6 @@ own-reason-requires c κs = search needs
 array-write-reasons :
     tie.Need-array-write-reasons Inv-loop μ-loop
 array-write-reasons c = search needs
-
-add-i : tie.Need-add-i Inv-loop μ-loop
-add-i c = search needs
-
-loop-less : tie.Need-loop-less Inv-loop μ-loop
-loop-less c = search needs
 
 loop-again : tie.Need-loop-again Inv-loop μ-loop
 loop-again c =
@@ -126,18 +107,9 @@ array-write-reasons-2 c = search needs
 beside-requires : tie.Need-beside-requires Inv-loop μ-loop
 beside-requires c κs = let n = c .before .before in at-tile (goes-on n) .loop .inv .slight (n .neighbour .result)
 
-mul-missing : tie.Need-mul-missing Inv-loop μ-loop
-mul-missing c = search needs
-
 array-write-missing :
     tie.Need-array-write-missing Inv-loop μ-loop
 array-write-missing c = search needs
-
-add-i-2 : tie.Need-add-i-2 Inv-loop μ-loop
-add-i-2 c = search needs
-
-loop-less-2 : tie.Need-loop-less-2 Inv-loop μ-loop
-loop-less-2 c = search needs
 
 loop-again-2 : tie.Need-loop-again-2 Inv-loop μ-loop
 loop-again-2 c =
@@ -180,14 +152,14 @@ reason-pass-spec =
     (tie.spec
     Inv-loop
     μ-loop
-    tile-count-requires
+    (λ c κs. tt)  -- tile-count-requires
     loop-holds
-    mul-tile
+    (λ c. search needs)  -- mul-tile
     array-copy-out-tile
     own-reason-requires
     array-write-reasons
-    add-i
-    loop-less
+    (λ c. search needs)  -- add-i
+    (λ c. search needs)  -- loop-less
     loop-again
     neighbour-requires
     mul-lack
@@ -196,9 +168,9 @@ reason-pass-spec =
     ahead-reason-requires
     array-write-reasons-2
     beside-requires
-    mul-missing
+    (λ c. search needs)  -- mul-missing
     array-write-missing
-    add-i-2
-    loop-less-2
+    (λ c. search needs)  -- add-i-2
+    (λ c. search needs)  -- loop-less-2
     loop-again-2
     returns)

@@ -10,19 +10,12 @@ use Rattle.round_signal.proofs.Loops.{Shown}
 use borrow.Author.Needs.{needs}
 use Rattle.round_signal.proofs.shown.Statement.{statement}
 use Rattle.round_signal.proofs.shown.Tie as tie
-use Rattle.round_signal.proofs.shown.Reads as reads
-use Rattle.round_signal.proofs.shown.Lts as lts
-use Rattle.floor.proofs.Settings.tile_count.Reads as tile-count-reads
-use Rattle.round_signal.proofs.shown_next.Reads as shown-next-reads
 
 abbrev Inv-loop : tie.InvT-loop
 Inv-loop tiles all d₀ t₀ d t = Shown tiles all d t
 
 abbrev μ-loop : tie.MeasureT-loop
 μ-loop tiles all d₀ t₀ d t = all - t
-
-tile-count-requires : tie.Need-tile-count-requires Inv-loop μ-loop
-tile-count-requires c κs = tt
 
 loop-holds : tie.Need-loop-holds Inv-loop μ-loop
 loop-holds c =
@@ -34,24 +27,6 @@ loop-holds c =
       shows-length = refl;
       shown = within-none (λ x. x .code) noSide (shownIn (s .args .t2)) noSide 65;
     }
-
-mul-tile : tie.Need-mul-tile Inv-loop μ-loop
-mul-tile c = search needs
-
-array-copy-out-tile : tie.Need-array-copy-out-tile Inv-loop μ-loop
-array-copy-out-tile c = search needs
-
-shown-next-requires : tie.Need-shown-next-requires Inv-loop μ-loop
-shown-next-requires c κs = search needs
-
-array-set-from-d : tie.Need-array-set-from-d Inv-loop μ-loop
-array-set-from-d c = search needs
-
-add-t : tie.Need-add-t Inv-loop μ-loop
-add-t c = search needs
-
-loop-less : tie.Need-loop-less Inv-loop μ-loop
-loop-less c = search needs
 
 loop-again : tie.Need-loop-again Inv-loop μ-loop
 loop-again c =
@@ -79,13 +54,13 @@ shown-spec =
     (tie.spec
     Inv-loop
     μ-loop
-    tile-count-requires
+    (λ c κs. tt)  -- tile-count-requires
     loop-holds
-    mul-tile
-    array-copy-out-tile
-    shown-next-requires
-    array-set-from-d
-    add-t
-    loop-less
+    (λ c. search needs)  -- mul-tile
+    (λ c. search needs)  -- array-copy-out-tile
+    (λ c κs. search needs)  -- shown-next-requires
+    (λ c. search needs)  -- array-set-from-d
+    (λ c. search needs)  -- add-t
+    (λ c. search needs)  -- loop-less
     loop-again
     returns)

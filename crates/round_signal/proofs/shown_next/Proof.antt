@@ -2,8 +2,6 @@ use borrow.Author.Tests.{lt-ltb, le-ltb}
 use Rattle.laws.proofs.Tests.{pick-yes, pick-no}
 use Rattle.round_signal.proofs.shown_next.Statement.{statement}
 use Rattle.round_signal.proofs.shown_next.Tie as tie
-use Rattle.round_signal.proofs.shown_next.Reads as reads
-use Rattle.round_signal.proofs.shown_next.Lts as lts
 
 returns : tie.Need-returns
 returns c = let g = c .before .args in pick-yes (g.next .code) 0 (lt-ltb 0 g.count (c .if1 .taken))

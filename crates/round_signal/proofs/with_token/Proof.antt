@@ -2,8 +2,6 @@ use mathlib.Core.Path.{refl}
 use Rattle.round_signal.specs.Signalling.{tokened}
 use Rattle.round_signal.proofs.with_token.Statement.{statement}
 use Rattle.round_signal.proofs.with_token.Tie as tie
-use Rattle.round_signal.proofs.with_token.Reads as reads
-use Rattle.round_signal.proofs.with_token.Lts as lts
 
 returns : tie.Need-returns
 unfolding tokened

@@ -6,8 +6,6 @@ use Rattle.laws.proofs.Bits.{one-shl}
 use borrow.Author.Needs.{needs}
 use Rattle.sets.proofs.full.Statement.{statement}
 use Rattle.sets.proofs.full.Tie as tie
-use Rattle.sets.proofs.full.Reads as reads
-use Rattle.sets.proofs.full.Lts as lts
 
 returns : tie.Need-returns
 returns c = ap (λ (x : ℕ). 2 ^ x - 1) (sym (c .if1 .taken))

@@ -2,8 +2,6 @@ use Rattle.laws.proofs.Bits.{test-bit}
 use borrow.Author.Needs.{needs}
 use Rattle.sets.proofs.has.Statement.{statement}
 use Rattle.sets.proofs.has.Tie as tie
-use Rattle.sets.proofs.has.Reads as reads
-use Rattle.sets.proofs.has.Lts as lts
 
 shr-result : tie.Need-shr-result
 shr-result c = search needs

@@ -4,9 +4,6 @@ use Rattle.laws.proofs.SetBits.{bit-off}
 use borrow.Author.Needs.{needs}
 use Rattle.sets.proofs.holds.Statement.{statement}
 use Rattle.sets.proofs.holds.Tie as tie
-use Rattle.sets.proofs.holds.Reads as reads
-use Rattle.sets.proofs.holds.Lts as lts
-use Rattle.sets.proofs.has.Reads as has-reads
 
 returns : tie.Need-returns
 returns c =

@@ -4,8 +4,6 @@ use lib.Count.{trailing-le}
 use Rattle.sets.proofs.TrailingZeros.{trailing-first}
 use Rattle.sets.proofs.lowest.Statement.{statement}
 use Rattle.sets.proofs.lowest.Tie as tie
-use Rattle.sets.proofs.lowest.Reads as reads
-use Rattle.sets.proofs.lowest.Lts as lts
 
 cast-result : tie.Need-cast-result
 cast-result c = record { fits = lt-of-le-of-lt (trailing-le 64 (c .args .s)) (lit< tt) }

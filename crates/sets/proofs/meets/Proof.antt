@@ -3,8 +3,6 @@ use Rattle.laws.proofs.SetBits.{meets-any}
 use borrow.Author.Needs.{needs}
 use Rattle.sets.proofs.meets.Statement.{statement}
 use Rattle.sets.proofs.meets.Tie as tie
-use Rattle.sets.proofs.meets.Reads as reads
-use Rattle.sets.proofs.meets.Lts as lts
 
 returns : tie.Need-returns
 returns c =

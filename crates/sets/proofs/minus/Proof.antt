@@ -1,8 +1,6 @@
 use Rattle.laws.proofs.SetBits.{minus-bit}
 use Rattle.sets.proofs.minus.Statement.{statement}
 use Rattle.sets.proofs.minus.Tie as tie
-use Rattle.sets.proofs.minus.Reads as reads
-use Rattle.sets.proofs.minus.Lts as lts
 
 returns : tie.Need-returns
 returns c = λ k. minus-bit (c .args .s) (c .args .other) k

@@ -4,8 +4,6 @@ use Rattle.laws.proofs.Bits.{one-shl}
 use borrow.Author.Needs.{needs}
 use Rattle.sets.proofs.single.Statement.{statement}
 use Rattle.sets.proofs.single.Tie as tie
-use Rattle.sets.proofs.single.Reads as reads
-use Rattle.sets.proofs.single.Lts as lts
 
 shl-result : tie.Need-shl-result
 shl-result c = search needs

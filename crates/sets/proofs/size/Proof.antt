@@ -7,8 +7,6 @@ use Rattle.laws.proofs.SetBits.{bits-ones}
 use borrow.Author.Needs.{needs}
 use Rattle.sets.proofs.size.Statement.{statement}
 use Rattle.sets.proofs.size.Tie as tie
-use Rattle.sets.proofs.size.Reads as reads
-use Rattle.sets.proofs.size.Lts as lts
 
 cast-result : tie.Need-cast-result
 cast-result c =

@@ -2,8 +2,6 @@ use Rattle.laws.proofs.Bits.{one-shl, with-bit}
 use borrow.Author.Needs.{needs}
 use Rattle.sets.proofs.with.Statement.{statement}
 use Rattle.sets.proofs.with.Tie as tie
-use Rattle.sets.proofs.with.Reads as reads
-use Rattle.sets.proofs.with.Lts as lts
 
 shl-result : tie.Need-shl-result
 shl-result c = search needs

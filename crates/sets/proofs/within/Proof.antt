@@ -5,8 +5,6 @@ use Rattle.laws.proofs.Bits.{shr-none}
 use borrow.Author.Needs.{needs}
 use Rattle.sets.proofs.within.Statement.{statement}
 use Rattle.sets.proofs.within.Tie as tie
-use Rattle.sets.proofs.within.Reads as reads
-use Rattle.sets.proofs.within.Lts as lts
 
 returns : tie.Need-returns
 returns c =

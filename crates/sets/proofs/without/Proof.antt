@@ -3,9 +3,6 @@ use Rattle.laws.proofs.Bits.{one-shl, without-bit, without-none}
 use borrow.Author.Needs.{needs}
 use Rattle.sets.proofs.without.Statement.{statement}
 use Rattle.sets.proofs.without.Tie as tie
-use Rattle.sets.proofs.without.Reads as reads
-use Rattle.sets.proofs.without.Lts as lts
-use Rattle.sets.proofs.has.Reads as has-reads
 
 has-requires : tie.Need-has-requires
 has-requires c κs = search needs

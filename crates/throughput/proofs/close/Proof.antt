@@ -4,10 +4,6 @@ use Rattle.throughput.specs.Window.{closedBy}
 use borrow.Author.Needs.{needs}
 use Rattle.throughput.proofs.close.Statement.{statement}
 use Rattle.throughput.proofs.close.Tie as tie
-use Rattle.throughput.proofs.close.Reads as reads
-use Rattle.throughput.proofs.close.Lts as lts
-use Rattle.throughput.proofs.greater.Reads as greater-reads
-use Rattle.throughput.proofs.lesser.Reads as lesser-reads
 
 returns : tie.Need-returns
 unfolding closedBy

@@ -8,10 +8,6 @@ use Rattle.throughput.proofs.Exact.{far-below, step-above, step-below, 
 use borrow.Author.Needs.{needs}
 use Rattle.throughput.proofs.deliveries_of.Statement.{statement}
 use Rattle.throughput.proofs.deliveries_of.Tie as tie
-use Rattle.throughput.proofs.deliveries_of.Reads as reads
-use Rattle.throughput.proofs.deliveries_of.Lts as lts
-use Rattle.throughput.proofs.rate_sound.Reads as rate-sound-reads
-use Rattle.std.proofs.num.truncating_f64_to_u64.Reads as truncating-f64-to-u64-reads
 
 rate-sound-requires : tie.Need-rate-sound-requires
 rate-sound-requires c κs = search needs

@@ -3,8 +3,6 @@ use Rattle.throughput.specs.Lists.{zeroThroughput}
 use borrow.Author.Needs.{needs}
 use Rattle.throughput.proofs.empty.Statement.{statement}
 use Rattle.throughput.proofs.empty.Tie as tie
-use Rattle.throughput.proofs.empty.Reads as reads
-use Rattle.throughput.proofs.empty.Lts as lts
 
 returns : tie.Need-returns
 unfolding ofBits zeroThroughput

@@ -6,14 +6,6 @@ use Rattle.throughput.proofs.Answers.{sound-window, feed-unsound, feed-
 use borrow.Author.Needs.{needs}
 use Rattle.throughput.proofs.feed.Statement.{statement}
 use Rattle.throughput.proofs.feed.Tie as tie
-use Rattle.throughput.proofs.feed.Reads as reads
-use Rattle.throughput.proofs.feed.Lts as lts
-use Rattle.throughput.proofs.close.Reads as close-reads
-use Rattle.throughput.proofs.rate.Reads as rate-reads
-use Rattle.throughput.proofs.sound.Reads as sound-reads
-
-sound-requires : tie.Need-sound-requires
-sound-requires c κs = search needs
 
 returns : tie.Need-returns
 returns c = feed-unsound _ _ (sym (c .before .sound .ensures) ∙ not-true _ (c .if1 .taken))
@@ -21,14 +13,8 @@ returns c = feed-unsound _ _ (sym (c .before .sound .ensures) ∙ not-true _ (c 
 returns-2 : tie.Need-returns-2
 returns-2 c = feed-many _ _ (sym (c .before .before .sound .ensures) ∙ not-false _ (c .before .if1 .left)) (c .if2 .taken)
 
-cast-deliveries : tie.Need-cast-deliveries
-cast-deliveries c = search needs
-
 add-deliveries : tie.Need-add-deliveries
 add-deliveries c = let w = sound-window _ (sym (c .before .before .before .sound .ensures) ∙ not-false _ (c .before .before .if1 .left)) in record { fits = omega (arith, w .0, w .1) }
-
-add-rounds : tie.Need-add-rounds
-add-rounds c = search needs
 
 returns-3 : tie.Need-returns-3
 unfolding opened
@@ -37,9 +23,6 @@ returns-3 c = feed-open _ _ (sym (c .before .before .before .before .sound .ensu
 rate-requires : tie.Need-rate-requires
 rate-requires c κs = let w = sound-window _ (sym (c .before .before .before .before .sound .ensures) ∙ not-false _ (c .before .before .before .if1 .left)) in omega (arith, w .0, w .1, c .before .before .if2 .left)
 
-close-requires : tie.Need-close-requires
-close-requires c κs = search needs
-
 returns-4 : tie.Need-returns-4
 returns-4 c = rw (c .close .ensures, c .before .rate .ensures) (feed-close _ _ (sym (c .before .before .before .before .before .before .sound .ensures) ∙ not-false _ (c .before .before .before .before .before .if1 .left)) (c .before .before .before .before .if2 .left) (c .before .before .if3 .left))
 
@@ -47,13 +30,13 @@ pub feed-spec : {M : Type 1} → statement M
 feed-spec =
     tie.close
     (tie.spec
-    sound-requires
+    (λ c κs. search needs)  -- sound-requires
     returns
     returns-2
-    cast-deliveries
+    (λ c. search needs)  -- cast-deliveries
     add-deliveries
-    add-rounds
+    (λ c. search needs)  -- add-rounds
     returns-3
     rate-requires
-    close-requires
+    (λ c κs. search needs)  -- close-requires
     returns-4)

@@ -3,10 +3,6 @@ use Rattle.throughput.specs.Window.{toldOf, feedTold}
 use borrow.Author.Needs.{needs}
 use Rattle.throughput.proofs.feed_told.Statement.{statement}
 use Rattle.throughput.proofs.feed_told.Tie as tie
-use Rattle.throughput.proofs.feed_told.Reads as reads
-use Rattle.throughput.proofs.feed_told.Lts as lts
-use Rattle.throughput.proofs.feed.Reads as feed-reads
-use Rattle.throughput.proofs.tell.Reads as tell-reads
 
 feed-requires : tie.Need-feed-requires
 feed-requires c κs = search needs

@@ -2,8 +2,6 @@ use Rattle.laws.proofs.Tests.{pick-yes, pick-no}
 use Rattle.throughput.specs.Window.{higher}
 use Rattle.throughput.proofs.greater.Statement.{statement}
 use Rattle.throughput.proofs.greater.Tie as tie
-use Rattle.throughput.proofs.greater.Reads as reads
-use Rattle.throughput.proofs.greater.Lts as lts
 
 returns : tie.Need-returns
 unfolding higher

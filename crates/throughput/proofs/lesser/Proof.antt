@@ -2,8 +2,6 @@ use Rattle.laws.proofs.Tests.{pick-yes, pick-no}
 use Rattle.throughput.specs.Window.{lower}
 use Rattle.throughput.proofs.lesser.Statement.{statement}
 use Rattle.throughput.proofs.lesser.Tie as tie
-use Rattle.throughput.proofs.lesser.Reads as reads
-use Rattle.throughput.proofs.lesser.Lts as lts
 
 returns : tie.Need-returns
 unfolding lower

@@ -3,8 +3,6 @@ use Rattle.throughput.specs.Rate.{rateOf}
 use borrow.Author.Needs.{needs}
 use Rattle.throughput.proofs.rate.Statement.{statement}
 use Rattle.throughput.proofs.rate.Tie as tie
-use Rattle.throughput.proofs.rate.Reads as reads
-use Rattle.throughput.proofs.rate.Lts as lts
 
 int-to-float-result : tie.Need-int-to-float-result
 int-to-float-result c = search needs

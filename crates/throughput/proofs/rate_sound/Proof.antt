@@ -10,10 +10,6 @@ use Rattle.throughput.proofs.Exact.{rate-exact, value-no-nan, far-below
 use borrow.Author.Needs.{needs}
 use Rattle.throughput.proofs.rate_sound.Statement.{statement}
 use Rattle.throughput.proofs.rate_sound.Tie as tie
-use Rattle.throughput.proofs.rate_sound.Reads as reads
-use Rattle.throughput.proofs.rate_sound.Lts as lts
-use Rattle.throughput.proofs.rate.Reads as rate-reads
-use Rattle.std.proofs.num.truncating_f64_to_u64.Reads as truncating-f64-to-u64-reads
 
 unsound : (x : Float) → (rateSound x ≡ true → ⊥) → false ≡ rateSound x
 unsound x f = same-test false (rateSound x) (λ h. absurd (false≢true h)) (λ h. absurd (f h))
@@ -21,12 +17,6 @@ unsound x f = same-test false (rateSound x) (λ h. absurd (false≢true h)) (λ 
 truncating-f64-to-u64-requires : tie.Need-truncating-f64-to-u64-requires
 unfolding ofBits neg
 truncating-f64-to-u64-requires c κs = (subst T (sym (c .before .if1 .taken)) tt, subst T (sym (far-below _ (c .if2 .taken))) tt)
-
-cast-rate : tie.Need-cast-rate
-cast-rate c = search needs
-
-rate-requires : tie.Need-rate-requires
-rate-requires c κs = search needs
 
 float-to-bits-result : tie.Need-float-to-bits-result
 float-to-bits-result c = no-nan _ _ _ (c .before .before .before .before .if1 .taken)
@@ -70,8 +60,8 @@ rate-sound-spec =
     tie.close
     (tie.spec
     truncating-f64-to-u64-requires
-    cast-rate
-    rate-requires
+    (λ c. search needs)  -- cast-rate
+    (λ c κs. search needs)  -- rate-requires
     float-to-bits-result
     float-to-bits-result-2
     returns

@@ -4,8 +4,6 @@ use lib.Ieee.{ofBits}
 use Rattle.throughput.specs.Window.{ratesInOrder}
 use Rattle.throughput.proofs.rates_in_order.Statement.{statement}
 use Rattle.throughput.proofs.rates_in_order.Tie as tie
-use Rattle.throughput.proofs.rates_in_order.Reads as reads
-use Rattle.throughput.proofs.rates_in_order.Lts as lts
 
 returns : tie.Need-returns
 unfolding ratesInOrder ofBits

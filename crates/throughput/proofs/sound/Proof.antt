@@ -4,10 +4,6 @@ use Rattle.throughput.specs.Window.{recordSound}
 use borrow.Author.Needs.{needs}
 use Rattle.throughput.proofs.sound.Statement.{statement}
 use Rattle.throughput.proofs.sound.Tie as tie
-use Rattle.throughput.proofs.sound.Reads as reads
-use Rattle.throughput.proofs.sound.Lts as lts
-use Rattle.throughput.proofs.rates_in_order.Reads as rates-in-order-reads
-use Rattle.throughput.proofs.rates_sound.Reads as rates-sound-reads
 
 returns : tie.Need-returns
 unfolding recordSound

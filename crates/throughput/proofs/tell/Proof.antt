@@ -4,8 +4,6 @@ use Rattle.throughput.specs.Window.{toldBy, toldOf}
 use borrow.Author.Needs.{needs}
 use Rattle.throughput.proofs.tell.Statement.{statement}
 use Rattle.throughput.proofs.tell.Tie as tie
-use Rattle.throughput.proofs.tell.Reads as reads
-use Rattle.throughput.proofs.tell.Lts as lts
 
 enum-known-fed : tie.Need-enum-known-fed
 enum-known-fed c = search needs

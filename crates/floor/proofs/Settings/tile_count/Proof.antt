@@ -5,8 +5,6 @@ use native.Mathlib.Omega.{arith}
 use borrow.Author.Needs.{needs}
 use Rattle.floor.proofs.Settings.tile_count.Statement.{statement}
 use Rattle.floor.proofs.Settings.tile_count.Tie as tie
-use Rattle.floor.proofs.Settings.tile_count.Reads as reads
-use Rattle.floor.proofs.Settings.tile_count.Lts as lts
 
 cast-result : tie.Need-cast-result
 cast-result c = search needs

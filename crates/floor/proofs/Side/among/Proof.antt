@@ -2,8 +2,6 @@ use Rattle.floor.proofs.SideTables.{in-set}
 use borrow.Author.Needs.{needs}
 use Rattle.floor.proofs.Side.among.Statement.{statement}
 use Rattle.floor.proofs.Side.among.Tie as tie
-use Rattle.floor.proofs.Side.among.Reads as reads
-use Rattle.floor.proofs.Side.among.Lts as lts
 
 shr-result : tie.Need-shr-result
 shr-result c = search needs

@@ -9,8 +9,6 @@ use Rattle.floor.proofs.SideTables.{next-none, next-round, next-on}
 use borrow.Author.Needs.{needs}
 use Rattle.floor.proofs.Side.following.Statement.{statement}
 use Rattle.floor.proofs.Side.following.Tie as tie
-use Rattle.floor.proofs.Side.following.Reads as reads
-use Rattle.floor.proofs.Side.following.Lts as lts
 
 fits-next : {x : ℕ} → x ≤ 8 → Fits w8 (x + 1)
 fits-next h = omega arith

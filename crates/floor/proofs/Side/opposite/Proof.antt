@@ -3,8 +3,6 @@ use Rattle.floor.proofs.GridBranches.{opposite-of, no-opposite}
 use borrow.Author.Needs.{needs}
 use Rattle.floor.proofs.Side.opposite.Statement.{statement}
 use Rattle.floor.proofs.Side.opposite.Tie as tie
-use Rattle.floor.proofs.Side.opposite.Reads as reads
-use Rattle.floor.proofs.Side.opposite.Lts as lts
 
 sub-t5 : tie.Need-sub-t5
 sub-t5 c = search needs
