@@ -5,13 +5,13 @@ use Prim.Native.Nat.{ℕ}
 use native.Mathlib.Omega.{arith}
 use Rattle.laws.specs.Define.{allOf, sum}
 use Rattle.floor.specs.declared.Canister.{Canister}
-use Rattle.floor.proofs.Made.{Made, floorOf, made}
+use Rattle.floor.proofs.TablesByValue.{Made, floorOf, made}
 use Rattle.barge.specs.declared.Barge.{Barge}
 use Rattle.barge.specs.Barges.{floorAt, aboard, allowanceSound, bargeSound, bargeBook, bargeBookAnywhere, bargeStop, bargeRepair, bargeRound}
 use Rattle.barge.specs.Alike.{Agree, AgreeInAll}
 use Rattle.barge.proofs.Samples.{four}
 use Rattle.barge.proofs.Alike.{round-alike, stop-alike, repair-alike, book-alike, anywhere-alike}
-use Rattle.barge.proofs.AloneInstances.{laden, bare, single, laden-shows, bare-shows, single-shows, counts-test, on-shown, loaded, loaded-sound, loaded-four, sizes}
+use Rattle.barge.proofs.StandaloneInstances.{laden, bare, single, laden-shows, bare-shows, single-shows, counts-test, on-shown, loaded, loaded-sound, loaded-four, sizes}
 
 -- floor 1 is laden, as floor 3 of `loaded`; the first floor and the allowance vary
 unfoldable moved : Made → ℕ → Barge

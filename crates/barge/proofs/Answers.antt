@@ -19,11 +19,11 @@ use Rattle.floor.specs.Well.{wellFormed}
 use Rattle.floor.specs.Calls.{zeroReport, roundAnswer}
 use Rattle.floor.specs.Reports.{listedAt}
 use Rattle.floor.specs.Demand3.{isRound}
-use Rattle.floor.specs.Demand3 as Lone
+use Rattle.floor.specs.Demand3 as OneFloor
 use Rattle.floor.proofs.Lists.{call-keeps, round-accepted}
 use Rattle.barge.specs.declared.Barge.{Barge}
 use Rattle.barge.specs.Barges.{floorAt, withFloor, allowanceSound, bargeSound, bargeRefusal, allowed, bargeWith, bargeBook, bargeBookAnywhere, bargeStop, bargeRepair, bargeRound}
-use Rattle.barge.specs.Lists.{BargeCall, book, anywhere, stop, repair, round, named, lone, alone, Typed, outcome, Others}
+use Rattle.barge.specs.Lists.{BargeCall, book, anywhere, stop, repair, round, named, standalone, standaloneOutcome, InRange, outcome, Others}
 
 -- ---- a sound barge
 pub record Sound (b : Barge) : Type 0 where
@@ -68,8 +68,8 @@ extra b (stop k t) = []
 extra b (repair k t) = []
 extra b (round k) = []
 
-pub refusal-is : (b : Barge) (c : BargeCall) → outcome b c .refusal ≡ bargeRefusal b (named c) (alone b c .refusal) (extra b c)
-unfolding outcome bargeBook bargeBookAnywhere bargeStop bargeRepair bargeRound Lone.outcome
+pub refusal-is : (b : Barge) (c : BargeCall) → outcome b c .refusal ≡ bargeRefusal b (named c) (standaloneOutcome b c .refusal) (extra b c)
+unfolding outcome bargeBook bargeBookAnywhere bargeStop bargeRepair bargeRound OneFloor.outcome
 refusal-is b (book k t c) = refl
 refusal-is b (anywhere k t number) = refl
 refusal-is b (stop k t) = refl
@@ -78,11 +78,11 @@ refusal-is b (round k) = refl
 
 pub record Done (b : Barge) (c : BargeCall) : Type 0 where
   pub on : named c < 4
-  pub own : alone b c .refusal ≡ 0
+  pub own : standaloneOutcome b c .refusal ≡ 0
   pub last : refusal (extra b c) ≡ 0
-  pub barge : outcome b c .barge ≡ withFloor b (named c) (alone b c .floor)
-  pub booked : outcome b c .booked ≡ alone b c .booked
-  pub reported : outcome b c .reported ≡ alone b c .reported
+  pub barge : outcome b c .barge ≡ withFloor b (named c) (standaloneOutcome b c .floor)
+  pub booked : outcome b c .booked ≡ standaloneOutcome b c .booked
+  pub reported : outcome b c .reported ≡ standaloneOutcome b c .reported
 
 -- a call's own refusal as a test
 own-none : (own : ℕ) (last : List (Bool × ℕ)) → refusal ((not (eqb own 0), own) ∷ last) ≡ 0 → (own ≡ 0) × (refusal last ≡ 0)
@@ -103,10 +103,10 @@ passed b k own last h =
     (y .0, z .0, z .1)
 
 pub done : (b : Barge) (c : BargeCall) → outcome b c .refusal ≡ 0 → Done b c
-unfolding outcome bargeBook bargeBookAnywhere bargeStop bargeRepair bargeRound bargeWith Lone.outcome
-done b c h = go c (passed b (named c) (alone b c .refusal) (extra b c) (sym (refusal-is b c) ∙ h)) h
+unfolding outcome bargeBook bargeBookAnywhere bargeStop bargeRepair bargeRound bargeWith OneFloor.outcome
+done b c h = go c (passed b (named c) (standaloneOutcome b c .refusal) (extra b c) (sym (refusal-is b c) ∙ h)) h
   where
-    go : (c : BargeCall) → (leb 4 (named c) ≡ false) × (alone b c .refusal ≡ 0) × (refusal (extra b c) ≡ 0) → outcome b c .refusal ≡ 0 → Done b c
+    go : (c : BargeCall) → (leb 4 (named c) ≡ false) × (standaloneOutcome b c .refusal ≡ 0) × (refusal (extra b c) ≡ 0) → outcome b c .refusal ≡ 0 → Done b c
     go (book k t c) p h = record { on = leb-false 4 k (p .0); own = p .1; last = p .2; barge = rw h; booked = rw (h, p .1); reported = refl }
     go (anywhere k t number) p h = record { on = leb-false 4 k (p .0); own = p .1; last = p .2; barge = rw h; booked = rw (h, p .1); reported = refl }
     go (stop k t) p h = record { on = leb-false 4 k (p .0); own = p .1; last = p .2; barge = rw h; booked = refl; reported = refl }
@@ -143,7 +143,7 @@ pub others : Others
 others b c j n = go (ℕ-discrete (outcome b c .refusal) 0)
   where
     go : Dec (outcome b c .refusal ≡ 0) → floorAt (outcome b c .barge) j ≡ floorAt b j
-    go (yes z) = ap (λ (x : Barge). floorAt x j) (done b c z .barge) ∙ getD-set-other (b .floors) (named c) j (alone b c .floor) zeroFloor n
+    go (yes z) = ap (λ (x : Barge). floorAt x j) (done b c z .barge) ∙ getD-set-other (b .floors) (named c) j (standaloneOutcome b c .floor) zeroFloor n
     go (no z) = ap (λ (x : Barge). floorAt x j) (undone b c z .barge)
 
 -- ---- on a sound barge
@@ -166,7 +166,7 @@ only-50 b (repair k t) = inl refl
 only-50 b (round k) = inl refl
 
 -- a call that names a floor of it and is refused, but not by 50, is refused on that floor
-pub own-refused : (b : Barge) (c : BargeCall) → bargeSound b ≡ true → named c < 4 → outcome b c .refusal ≢ 0 → outcome b c .refusal ≢ 50 → alone b c .refusal ≢ 0
+pub own-refused : (b : Barge) (c : BargeCall) → bargeSound b ≡ true → named c < 4 → outcome b c .refusal ≢ 0 → outcome b c .refusal ≢ 50 → standaloneOutcome b c .refusal ≢ 0
 unfolding bargeRefusal refusal
 own-refused b c s l h n z = go (only-50 b c) (refusal-is b c ∙ rw (s, lt-leb 4 (named c) l, z))
   where
@@ -179,8 +179,8 @@ pub round-passes : (f : Floor) → wellFormed f ≡ true → roundAnswer f .refu
 unfolding roundAnswer
 round-passes f w = round-accepted f w
 
-pub round-done : (b : Barge) (c : BargeCall) → bargeSound b ≡ true → named c < 4 → isRound (lone c) ≡ true → outcome b c .refusal ≡ 0
-unfolding bargeRefusal refusal Lone.outcome
+pub round-done : (b : Barge) (c : BargeCall) → bargeSound b ≡ true → named c < 4 → isRound (standalone c) ≡ true → outcome b c .refusal ≡ 0
+unfolding bargeRefusal refusal OneFloor.outcome
 round-done b (book k t c) s l r = absurd (false≢true r)
 round-done b (anywhere k t number) s l r = absurd (false≢true r)
 round-done b (stop k t) s l r = absurd (false≢true r)
@@ -188,7 +188,7 @@ round-done b (repair k t) s l r = absurd (false≢true r)
 round-done b (round k) s l r = refusal-is b (round k) ∙ rw (s, lt-leb 4 k l, round-passes (floorAt b k) (sound-of b s .each k l))
 
 -- it stays sound
-pub stays : (b : Barge) (c : BargeCall) → bargeSound b ≡ true → Typed c → bargeSound (outcome b c .barge) ≡ true
+pub stays : (b : Barge) (c : BargeCall) → bargeSound b ≡ true → InRange c → bargeSound (outcome b c .barge) ≡ true
 stays b c s t = go (ℕ-discrete (outcome b c .refusal) 0)
   where
     S : Sound b
@@ -197,5 +197,5 @@ stays b c s t = go (ℕ-discrete (outcome b c .refusal) 0)
     go : Dec (outcome b c .refusal ≡ 0) → bargeSound (outcome b c .barge) ≡ true
     go (yes z) =
         let D = done b c z in
-        rw (D .barge) (sound-is (withFloor b (named c) (alone b c .floor)) (with-sound b (named c) (alone b c .floor) S (D .on) (call-keeps (floorAt b (named c)) (S .each (named c) (D .on)) (lone c) t .0)))
+        rw (D .barge) (sound-is (withFloor b (named c) (standaloneOutcome b c .floor)) (with-sound b (named c) (standaloneOutcome b c .floor) S (D .on) (call-keeps (floorAt b (named c)) (S .each (named c) (D .on)) (standalone c) t .0)))
     go (no z) = rw (undone b c z .barge) s

@@ -18,30 +18,30 @@ use Rattle.floor.specs.Bound.{bound}
 use Rattle.floor.specs.Live.{LivePath, connected, connectedCount}
 use Rattle.floor.proofs.Calling.{can}
 use Rattle.barge.specs.Barges.{floorAt, aboard, bargeSound}
-use Rattle.barge.specs.Lists.{BargeCall, book, anywhere, stop, repair, round, Typed, bargeAfter, bookedIn, reportedIn, Totals}
+use Rattle.barge.specs.Lists.{BargeCall, book, anywhere, stop, repair, round, InRange, bargeAfter, bookedIn, reportedIn, Totals}
 use Rattle.barge.specs.PerFloor.{bookedOn, reportedOn, reportedAllOn, runsOn, QuietOn, roundsOn, Promises}
 use Rattle.barge.proofs.Samples.{four}
 use Rattle.barge.proofs.PerFloor.{per-floor}
 use Rattle.barge.proofs.Totals.{totals}
-use Rattle.barge.proofs.AloneInstances.{loaded, loaded-sound, loaded-four, sizes}
+use Rattle.barge.proofs.StandaloneInstances.{loaded, loaded-sound, loaded-four, sizes}
 
 -- calls of each kind on floors 1 and 3, and on a floor that isn't there; of those on floor 3 the second booking is 50 with an allowance of 5, the first stop is 8
 unfoldable mixed : List BargeCall
 mixed = book 4 0 (can 1 0 0) ∷ anywhere 3 2 7 ∷ book 3 1 (can 8 0 4) ∷ stop 3 0 ∷ stop 3 1 ∷ repair 3 1 ∷ anywhere 1 0 9 ∷ round 3 ∷ round 1 ∷ []
 
-typed : All Typed mixed
+in-range : All InRange mixed
 unfolding mixed can
-typed = (omega arith, (omega arith, (omega arith, (tt, (tt, (tt, (omega arith, (tt, (tt, tt)))))))))
+in-range = (omega arith, (omega arith, (omega arith, (tt, (tt, (tt, (omega arith, (tt, (tt, tt)))))))))
 
 -- ---- `totals`: below the allowance, at it, and above it
 below : Totals (loaded 5) mixed
-below = totals (loaded 5) (loaded-sound 5 (sizes .0)) mixed typed
+below = totals (loaded 5) (loaded-sound 5 (sizes .0)) mixed in-range
 
 full : Totals (loaded 4) mixed
-full = totals (loaded 4) (loaded-sound 4 (sizes .1 .0)) mixed typed
+full = totals (loaded 4) (loaded-sound 4 (sizes .1 .0)) mixed in-range
 
 over : Totals (loaded 3) mixed
-over = totals (loaded 3) (loaded-sound 3 (sizes .1 .1 .0)) mixed typed
+over = totals (loaded 3) (loaded-sound 3 (sizes .1 .1 .0)) mixed in-range
 
 stays-sound : (bargeSound (bargeAfter (loaded 5) mixed) ≡ true) × (bargeSound (bargeAfter (loaded 3) mixed) ≡ true)
 stays-sound = (below .sound, over .sound)
@@ -68,7 +68,7 @@ above =
 -- ---- `per-floor`, floor j
 module _ (j : ℕ) (l : j < 4) where
   P : Promises j (loaded 5) mixed
-  P = per-floor j l (loaded 5) (loaded-sound 5 (sizes .0)) mixed typed
+  P = per-floor j l (loaded 5) (loaded-sound 5 (sizes .0)) mixed in-range
 
   first : P .first ≡ floorAt (loaded 5) j
   first = P .is-first
@@ -110,7 +110,7 @@ module _ (j : ℕ) (l : j < 4) where
   counts-live t = P .counts-live t
 
   -- also while the other floors go on; on floors 1 and 3 of a barge it is applied in ListSamples
-  emptied : (ds : List BargeCall) → All Typed ds → QuietOn j (bargeAfter (loaded 5) mixed) ds → bound (P .first .settings) (connectedCount (view (P .now)) (runsOn j (loaded 5) mixed)) ≤ roundsOn j ds
+  emptied : (ds : List BargeCall) → All InRange ds → QuietOn j (bargeAfter (loaded 5) mixed) ds → bound (P .first .settings) (connectedCount (view (P .now)) (runsOn j (loaded 5) mixed)) ≤ roundsOn j ds
       → (t : ℕ) → LivePath (P .first .settings) (runsOn j (loaded 5) mixed) t → membersOf (view (floorAt (bargeAfter (bargeAfter (loaded 5) mixed) ds) j)) t ≡ []
   emptied ds h q n t p = P .emptied ds h q n t p
 

@@ -4,9 +4,9 @@ pub mod Answers
 pub mod PerFloor
 pub mod Alike
 pub mod Totals
-pub mod Alone
+pub mod Standalone
 pub mod ListSamples
 pub mod LiveInstances
-pub mod AloneInstances
+pub mod StandaloneInstances
 pub mod AlikeInstances
 pub mod Instances

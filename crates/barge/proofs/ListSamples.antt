@@ -20,7 +20,7 @@ use Rattle.floor.proofs.Calling as Calling
 use Rattle.floor.proofs.AnywhereSamples.{small}
 use Rattle.barge.specs.declared.Barge.{Barge}
 use Rattle.barge.specs.Barges.{floorAt, withFloor, onFloor, aboard, allowanceSound, bargeSound, bargeRefusal, allowed, bargeWith, bargeBook, bargeBookAnywhere, bargeStop, bargeRepair, bargeRound}
-use Rattle.barge.specs.Lists.{BargeCall, book, anywhere, stop, repair, round, Typed, outcome, bargeAfter, bookedIn, reportedIn}
+use Rattle.barge.specs.Lists.{BargeCall, book, anywhere, stop, repair, round, InRange, outcome, bargeAfter, bookedIn, reportedIn}
 use Rattle.barge.specs.PerFloor.{bookedOn, reportedOn, reportedAllOn, runsBy, latest, runsOn, disturbs, QuietOn, roundsOn}
 use Rattle.barge.proofs.Samples.{four}
 use Rattle.barge.proofs.PerFloor.{per-floor}
@@ -80,8 +80,8 @@ start-test : bargeSound start && leb (aboard start) (start .allowance) ≡ true
 unfolding holds small four start onFloor aboard allowanceSound bargeSound
 start-test = refl
 
-never-over : (cs : List BargeCall) → All Typed cs → aboard (bargeAfter start cs) ≤ start .allowance
-never-over cs typed = totals start (and-left (bargeSound start) _ start-test) cs typed .within (leb-true (aboard start) (start .allowance) (and-right (bargeSound start) _ start-test))
+never-over : (cs : List BargeCall) → All InRange cs → aboard (bargeAfter start cs) ≤ start .allowance
+never-over cs in-range = totals start (and-left (bargeSound start) _ start-test) cs in-range .within (leb-true (aboard start) (start .allowance) (and-right (bargeSound start) _ start-test))
 
 -- ---- demand 3 of floor j: QuietOn as a test, and the other premises
 unfoldable quietBy : ℕ → Barge → List BargeCall → Bool
@@ -98,11 +98,11 @@ unfolding quietBy
 quiet-by j b [] q = refl
 quiet-by j b (c ∷ cs) q = rw (q .0, quiet-by j (outcome b c .barge) cs (q .1))
 
-emptied-from : (j : ℕ) → j < 4 → (b : Barge) → bargeSound b ≡ true → (cs ds : List BargeCall) → All Typed cs → All Typed ds → QuietOn j (bargeAfter b cs) ds
+emptied-from : (j : ℕ) → j < 4 → (b : Barge) → bargeSound b ≡ true → (cs ds : List BargeCall) → All InRange cs → All InRange ds → QuietOn j (bargeAfter b cs) ds
     → bound (floorAt b j .settings) (connectedCount (view (floorAt (bargeAfter b cs) j)) (runsOn j b cs)) ≤ roundsOn j ds
     → (t : ℕ) → connected (floorAt b j .settings) (runsOn j b cs) t ≡ true → membersOf (view (floorAt (bargeAfter (bargeAfter b cs) ds) j)) t ≡ []
-emptied-from j j4 b s cs ds typed further q enough t live =
-    let P = per-floor j j4 b s cs typed in
+emptied-from j j4 b s cs ds in-range further q enough t live =
+    let P = per-floor j j4 b s cs in-range in
     let r = runsOn j b cs in
     let enough′ = subst (λ (g : Floor). bound (P .first .settings) (connectedCount (view g) r) ≤ roundsOn j ds) (sym (P .is-now))
     (subst (λ (g : Floor). bound (g .settings) (connectedCount (view (floorAt (bargeAfter b cs) j)) r) ≤ roundsOn j ds) (sym (P .is-first)) enough) in
@@ -158,18 +158,18 @@ module _ (j i : ℕ) (h : met j i ≡ true) where
   other-not-quiet : ¬ (QuietOn i paused-barge (further j i))
   other-not-quiet q = true≢false (sym (quiet-by i paused-barge (further j i) q) ∙ not-true _ (and-right (quietBy j paused-barge (further j i)) _ (and-right live _ rest)))
 
-  typed-paused : All Typed (paused j)
+  in-range-paused : All InRange (paused j)
   unfolding paused
-  typed-paused = (tt, (tt, tt))
+  in-range-paused = (tt, (tt, tt))
 
-  typed-further : All Typed (further j i)
+  in-range-further : All InRange (further j i)
   unfolding further
-  typed-further = (tt, (tt, (omega arith, (tt, (tt, tt)))))
+  in-range-further = (tt, (tt, (omega arith, (tt, (tt, tt)))))
 
   -- by the theorem alone
   here-emptied : j < 4 → membersOf (view (floorAt (bargeAfter paused-barge (further j i)) j)) 0 ≡ []
   here-emptied l =
-      emptied-from j l (wide j) (and-left (bargeSound (wide j)) _ begun) (paused j) (further j i) typed-paused typed-further here-quiet
+      emptied-from j l (wide j) (and-left (bargeSound (wide j)) _ begun) (paused j) (further j i) in-range-paused in-range-further here-quiet
       (leb-true _ (roundsOn j (further j i)) (and-right (bargeSound (wide j)) _ begun)) 0 (and-left live _ rest)
 
 one-emptied : membersOf (view (floorAt (bargeAfter (bargeAfter (wide 1) (paused 1)) (further 1 3)) 1)) 0 ≡ []

@@ -11,7 +11,7 @@ use Rattle.floor.proofs.Calling.{got, holds}
 use Rattle.floor.proofs.AnywhereSamples.{small}
 use Rattle.barge.specs.declared.Barge.{Barge}
 use Rattle.barge.specs.Barges.{floorAt, onFloor, aboard, allowanceSound, bargeSound, bargeRefusal, allowed, bargeWith, bargeBookAnywhere, bargeStop, bargeRound}
-use Rattle.barge.specs.Lists.{BargeCall, anywhere, stop, round, Typed, outcome, bargeAfter}
+use Rattle.barge.specs.Lists.{BargeCall, anywhere, stop, round, InRange, outcome, bargeAfter}
 use Rattle.barge.specs.PerFloor.{runsBy, latest, runsOn, disturbs, QuietOn, Promises}
 use Rattle.barge.proofs.Samples.{four}
 use Rattle.barge.proofs.PerFloor.{per-floor}
@@ -39,12 +39,12 @@ halted-test : (runsOn 3 plain halted 0 ≡ false) × ((connected (floorAt plain 
 unfolding holds small four plain halted onFloor aboard allowanceSound bargeSound bargeRefusal bargeWith bargeStop outcome runsBy latest runsOn
 halted-test = (refl, (refl, refl))
 
-typed-halted : All Typed halted
+in-range-halted : All InRange halted
 unfolding halted
-typed-halted = (tt, tt)
+in-range-halted = (tt, tt)
 
 P : Promises 3 plain halted
-P = per-floor 3 (omega arith) plain plain-sound halted typed-halted
+P = per-floor 3 (omega arith) plain plain-sound halted in-range-halted
 
 -- tile 0 doesn't run after it either, so that it has no live path; the hopper has one
 still-stopped : runsOn 3 plain (halted ++ further) 0 ≡ false

@@ -22,32 +22,32 @@ use Rattle.floor.specs.Bookings.{listAnswer}
 use Rattle.floor.specs.Bound.{bound}
 use Rattle.floor.specs.Live.{LivePath, connected, connectedCount}
 use Rattle.floor.specs.Demand3.{Call, isRound}
-use Rattle.floor.specs.Demand3 as Lone
+use Rattle.floor.specs.Demand3 as OneFloor
 use Rattle.floor.proofs.Lists.{call-refused}
 use Rattle.floor.proofs.Theorem.{demand3}
 use Rattle.barge.specs.declared.Barge.{Barge}
 use Rattle.barge.specs.Barges.{floorAt, withFloor, bargeSound}
-use Rattle.barge.specs.Lists.{BargeCall, book, anywhere, stop, repair, round, named, lone, alone, Typed, outcome, bargeAfter}
+use Rattle.barge.specs.Lists.{BargeCall, book, anywhere, stop, repair, round, named, standalone, standaloneOutcome, InRange, outcome, bargeAfter}
 use Rattle.barge.specs.PerFloor.{bookedOn, reportedOn, reportedAllOn, runsBy, latest, runsOn, disturbs, QuietOn, roundsOn, Promises, PerFloor}
 use Rattle.barge.proofs.Answers.{Sound, sound-of, done, undone, others, own-refused, round-passes, round-done, stays}
 
 -- ---- a refused call on a lone floor
 record Idle (f : Floor) (c : Call) : Type 0 where
-  floor : Lone.outcome f c .floor ≡ f
-  booked : Lone.outcome f c .booked ≡ []
-  reported : Lone.outcome f c .reported ≡ (λ _. [])
+  floor : OneFloor.outcome f c .floor ≡ f
+  booked : OneFloor.outcome f c .booked ≡ []
+  reported : OneFloor.outcome f c .reported ≡ (λ _. [])
 
-idle : (f : Floor) → wellFormed f ≡ true → (c : Call) → Lone.outcome f c .refusal ≢ 0 → Idle f c
-unfolding Lone.outcome
-idle f w (Lone.book t c) h = record { floor = call-refused f w (Lone.book t c) refl h; booked = rw (ne-eqb (bookAnswer f t c .refusal) 0 h); reported = refl }
-idle f w (Lone.anywhere t number) h = record { floor = call-refused f w (Lone.anywhere t number) refl h; booked = rw (ne-eqb (anywhereAnswer f t number .refusal) 0 h); reported = refl }
-idle f w (Lone.stop t) h = record { floor = call-refused f w (Lone.stop t) refl h; booked = refl; reported = refl }
-idle f w (Lone.repair t) h = record { floor = call-refused f w (Lone.repair t) refl h; booked = refl; reported = refl }
-idle f w Lone.round h = absurd (h (round-passes f w))
-idle f w (Lone.keep name) h = record { floor = call-refused f w (Lone.keep name) refl h; booked = refl; reported = refl }
-idle f w (Lone.forget name) h = record { floor = call-refused f w (Lone.forget name) refl h; booked = refl; reported = refl }
-idle f w (Lone.recall name) h = record { floor = call-refused f w (Lone.recall name) refl h; booked = refl; reported = refl }
-idle f w (Lone.list l) h = record { floor = call-refused f w (Lone.list l) refl h; booked = rw (ne-eqb (listAnswer f l .refusal) 0 h); reported = refl }
+idle : (f : Floor) → wellFormed f ≡ true → (c : Call) → OneFloor.outcome f c .refusal ≢ 0 → Idle f c
+unfolding OneFloor.outcome
+idle f w (OneFloor.book t c) h = record { floor = call-refused f w (OneFloor.book t c) refl h; booked = rw (ne-eqb (bookAnswer f t c .refusal) 0 h); reported = refl }
+idle f w (OneFloor.anywhere t number) h = record { floor = call-refused f w (OneFloor.anywhere t number) refl h; booked = rw (ne-eqb (anywhereAnswer f t number .refusal) 0 h); reported = refl }
+idle f w (OneFloor.stop t) h = record { floor = call-refused f w (OneFloor.stop t) refl h; booked = refl; reported = refl }
+idle f w (OneFloor.repair t) h = record { floor = call-refused f w (OneFloor.repair t) refl h; booked = refl; reported = refl }
+idle f w OneFloor.round h = absurd (h (round-passes f w))
+idle f w (OneFloor.keep name) h = record { floor = call-refused f w (OneFloor.keep name) refl h; booked = refl; reported = refl }
+idle f w (OneFloor.forget name) h = record { floor = call-refused f w (OneFloor.forget name) refl h; booked = refl; reported = refl }
+idle f w (OneFloor.recall name) h = record { floor = call-refused f w (OneFloor.recall name) refl h; booked = refl; reported = refl }
+idle f w (OneFloor.list l) h = record { floor = call-refused f w (OneFloor.list l) refl h; booked = rw (ne-eqb (listAnswer f l .refusal) 0 h); reported = refl }
 
 -- ---- one call seen from floor j
 -- the lone calls that it stands for: itself, or none where it names another floor or 50 refuses it
@@ -56,23 +56,23 @@ taken j b c = eqb (named c) j && not (eqb (outcome b c .refusal) 50)
 
 pub record Listed (j : ℕ) (b : Barge) (c : BargeCall) : Type 0 where
   pub here : eqb (named c) j ≡ true
-  pub floor : floorAt (outcome b c .barge) j ≡ Lone.outcome (floorAt b j) (lone c) .floor
-  pub booked : cond (eqb (named c) j) (outcome b c .booked) [] ≡ Lone.outcome (floorAt b j) (lone c) .booked
-  pub reported : (k : ℕ) → cond (eqb (named c) j) (outcome b c .reported k) [] ≡ Lone.outcome (floorAt b j) (lone c) .reported k
-  pub runs : (t : ℕ) (r : Bool) → runsBy j b c t r ≡ Lone.runsBy (floorAt b j) (lone c) t r
-  pub accepted : eqb (outcome b c .refusal) 0 ≡ eqb (Lone.outcome (floorAt b j) (lone c) .refusal) 0
-  pub round : cond {A = ℕ} (eqb (named c) j && isRound (lone c)) 1 0 ≡ cond (isRound (lone c)) 1 0
+  pub floor : floorAt (outcome b c .barge) j ≡ OneFloor.outcome (floorAt b j) (standalone c) .floor
+  pub booked : cond (eqb (named c) j) (outcome b c .booked) [] ≡ OneFloor.outcome (floorAt b j) (standalone c) .booked
+  pub reported : (k : ℕ) → cond (eqb (named c) j) (outcome b c .reported k) [] ≡ OneFloor.outcome (floorAt b j) (standalone c) .reported k
+  pub runs : (t : ℕ) (r : Bool) → runsBy j b c t r ≡ OneFloor.runsBy (floorAt b j) (standalone c) t r
+  pub accepted : eqb (outcome b c .refusal) 0 ≡ eqb (OneFloor.outcome (floorAt b j) (standalone c) .refusal) 0
+  pub round : cond {A = ℕ} (eqb (named c) j && isRound (standalone c)) 1 0 ≡ cond (isRound (standalone c)) 1 0
 
 record Skipped (j : ℕ) (b : Barge) (c : BargeCall) : Type 0 where
   floor : floorAt (outcome b c .barge) j ≡ floorAt b j
   booked : cond (eqb (named c) j) (outcome b c .booked) [] ≡ []
   reported : (k : ℕ) → cond (eqb (named c) j) (outcome b c .reported k) [] ≡ []
   runs : (t : ℕ) (r : Bool) → runsBy j b c t r ≡ r
-  round : cond {A = ℕ} (eqb (named c) j && isRound (lone c)) 1 0 ≡ 0
+  round : cond {A = ℕ} (eqb (named c) j && isRound (standalone c)) 1 0 ≡ 0
 
 -- whether a stop or a repair of the barge counts for floor j
-runs-same : (j : ℕ) (b : Barge) (c : BargeCall) → eqb (named c) j ≡ true → eqb (outcome b c .refusal) 0 ≡ eqb (Lone.outcome (floorAt b j) (lone c) .refusal) 0 → (t : ℕ) (r : Bool) → runsBy j b c t r ≡ Lone.runsBy (floorAt b j) (lone c) t r
-unfolding runsBy Lone.runsBy
+runs-same : (j : ℕ) (b : Barge) (c : BargeCall) → eqb (named c) j ≡ true → eqb (outcome b c .refusal) 0 ≡ eqb (OneFloor.outcome (floorAt b j) (standalone c) .refusal) 0 → (t : ℕ) (r : Bool) → runsBy j b c t r ≡ OneFloor.runsBy (floorAt b j) (standalone c) t r
+unfolding runsBy OneFloor.runsBy
 runs-same j b (book k u c) n e t r = refl
 runs-same j b (anywhere k u number) n e t r = refl
 runs-same j b (stop k u) n e t r = rw (n, e)
@@ -137,27 +137,27 @@ module _ (j : ℕ) (j4 : j < 4) (b : Barge) (s : bargeSound b ≡ true) (c : Bar
       f : Floor
       f = floorAt b j
 
-      same : alone b c ≡ Lone.outcome (floorAt b j) (lone c)
-      same = ap (λ (k : ℕ). Lone.outcome (floorAt b k) (lone c)) at
+      same : standaloneOutcome b c ≡ OneFloor.outcome (floorAt b j) (standalone c)
+      same = ap (λ (k : ℕ). OneFloor.outcome (floorAt b k) (standalone c)) at
 
       go : Dec (outcome b c .refusal ≡ 0) → Listed j b c
       go (yes z) =
           let D = done b c z in
-          let q : eqb (outcome b c .refusal) 0 ≡ eqb (Lone.outcome f (lone c) .refusal) 0 = ap (λ (x : ℕ). eqb x 0) (z ∙ sym (D .own) ∙ ap (λ (o : Lone.Outcome). o .refusal) same) in
+          let q : eqb (outcome b c .refusal) 0 ≡ eqb (OneFloor.outcome f (standalone c) .refusal) 0 = ap (λ (x : ℕ). eqb x 0) (z ∙ sym (D .own) ∙ ap (λ (o : OneFloor.Outcome). o .refusal) same) in
           record {
             here = e;
-            floor = ap (λ (x : Barge). floorAt x j) (D .barge) ∙ ap (λ (k : ℕ). floorAt (withFloor b k (alone b c .floor)) j) at ∙ getD-set-same (b .floors) j (alone b c .floor) zeroFloor (omega (arith, S .four)) ∙ ap (λ (o : Lone.Outcome). o .floor) same;
-            booked = rw e (D .booked ∙ ap (λ (o : Lone.Outcome). o .booked) same);
-            reported = λ k. rw e (ap (λ (g : ℕ → List ℕ). g k) (D .reported) ∙ ap (λ (o : Lone.Outcome). o .reported k) same);
+            floor = ap (λ (x : Barge). floorAt x j) (D .barge) ∙ ap (λ (k : ℕ). floorAt (withFloor b k (standaloneOutcome b c .floor)) j) at ∙ getD-set-same (b .floors) j (standaloneOutcome b c .floor) zeroFloor (omega (arith, S .four)) ∙ ap (λ (o : OneFloor.Outcome). o .floor) same;
+            booked = rw e (D .booked ∙ ap (λ (o : OneFloor.Outcome). o .booked) same);
+            reported = λ k. rw e (ap (λ (g : ℕ → List ℕ). g k) (D .reported) ∙ ap (λ (o : OneFloor.Outcome). o .reported k) same);
             runs = runs-same j b c e q;
             accepted = q;
             round = rw e;
           }
       go (no z) =
           let U = undone b c z in
-          let r : Lone.outcome (floorAt b j) (lone c) .refusal ≢ 0 = λ q. own-refused b c s (omega (arith, at)) z n (ap (λ (o : Lone.Outcome). o .refusal) same ∙ q) in
-          let I = idle f (S .each j j4) (lone c) r in
-          let q : eqb (outcome b c .refusal) 0 ≡ eqb (Lone.outcome f (lone c) .refusal) 0 = ne-eqb (outcome b c .refusal) 0 z ∙ sym (ne-eqb (Lone.outcome f (lone c) .refusal) 0 r) in
+          let r : OneFloor.outcome (floorAt b j) (standalone c) .refusal ≢ 0 = λ q. own-refused b c s (omega (arith, at)) z n (ap (λ (o : OneFloor.Outcome). o .refusal) same ∙ q) in
+          let I = idle f (S .each j j4) (standalone c) r in
+          let q : eqb (outcome b c .refusal) 0 ≡ eqb (OneFloor.outcome f (standalone c) .refusal) 0 = ne-eqb (outcome b c .refusal) 0 z ∙ sym (ne-eqb (OneFloor.outcome f (standalone c) .refusal) 0 r) in
           record {
             here = e;
             floor = ap (λ (x : Barge). floorAt x j) (U .barge) ∙ sym (I .floor);
@@ -186,19 +186,19 @@ module _ (j : ℕ) (j4 : j < 4) (b : Barge) (s : bargeSound b ≡ true) (c : Bar
         booked = cond-nil (eqb (named c) j) (U .booked);
         reported = λ k. cond-nil (eqb (named c) j) (ap (λ (g : ℕ → List ℕ). g k) (U .reported));
         runs = runs-none j b c (rw (ne-eqb (outcome b c .refusal) 0 z));
-        round = rw e (no-round (by-test (isRound (lone c))));
+        round = rw e (no-round (by-test (isRound (standalone c))));
       }
     where
-      no-round : (isRound (lone c) ≡ true) ⊎ (isRound (lone c) ≡ false) → cond {A = ℕ} (isRound (lone c)) 1 0 ≡ 0
+      no-round : (isRound (standalone c) ≡ true) ⊎ (isRound (standalone c) ≡ false) → cond {A = ℕ} (isRound (standalone c)) 1 0 ≡ 0
       no-round (inr n) = rw n
       no-round (inl y) = absurd (omega (arith, round-done b c s (omega (arith, eqb-true (named c) j e)) y))
 
   -- itself, or none
-  by-call : (P : List Call → Type 0) → (Listed j b c → P (lone c ∷ [])) → (Skipped j b c → P []) → P (cond (taken j b c) (lone c ∷ []) [])
+  by-call : (P : List Call → Type 0) → (Listed j b c → P (standalone c ∷ [])) → (Skipped j b c → P []) → P (cond (taken j b c) (standalone c ∷ []) [])
   unfolding taken
   by-call P yes′ no′ = go (by-test (eqb (named c) j)) (ℕ-discrete (outcome b c .refusal) 50)
     where
-      go : (eqb (named c) j ≡ true) ⊎ (eqb (named c) j ≡ false) → Dec (outcome b c .refusal ≡ 50) → P (cond (eqb (named c) j && not (eqb (outcome b c .refusal) 50)) (lone c ∷ []) [])
+      go : (eqb (named c) j ≡ true) ⊎ (eqb (named c) j ≡ false) → Dec (outcome b c .refusal ≡ 50) → P (cond (eqb (named c) j && not (eqb (outcome b c .refusal) 50)) (standalone c ∷ []) [])
       go (inr e) d = rw e (no′ (elsewhere e))
       go (inl e) (yes q) = rw (e, eq-eqb (outcome b c .refusal) 50 q) (no′ (over e q))
       go (inl e) (no n) = rw (e, ne-eqb (outcome b c .refusal) 50 n) (yes′ (listed e n))
@@ -207,40 +207,40 @@ module _ (j : ℕ) (j4 : j < 4) (b : Barge) (s : bargeSound b ≡ true) (c : Bar
 -- the calls that name floor j, without those that 50 refuses, as calls on a lone floor
 unfoldable own : ℕ → Barge → List BargeCall → List Call
 own j b [] = []
-own j b (c ∷ cs) = cond (taken j b c) (lone c ∷ []) [] ++ own j (outcome b c .barge) cs
+own j b (c ∷ cs) = cond (taken j b c) (standalone c ∷ []) [] ++ own j (outcome b c .barge) cs
 
 record Same (j : ℕ) (b : Barge) (cs : List BargeCall) (ds : List Call) : Type 0 where
-  floor : floorAt (bargeAfter b cs) j ≡ Lone.floorAfter (floorAt b j) ds
-  booked : bookedOn j b cs ≡ Lone.bookedIn (floorAt b j) ds
-  reported : (k : ℕ) → reportedOn j b cs k ≡ Lone.reportedIn (floorAt b j) ds k
-  runs : (t : ℕ) (r : Bool) → latest j b cs t r ≡ Lone.latest (floorAt b j) ds t r
-  quiet : QuietOn j b cs → Lone.Quiet (floorAt b j) ds
-  rounds : Lone.roundsIn ds ≡ roundsOn j cs
-  typed : All Lone.Typed ds
+  floor : floorAt (bargeAfter b cs) j ≡ OneFloor.floorAfter (floorAt b j) ds
+  booked : bookedOn j b cs ≡ OneFloor.bookedIn (floorAt b j) ds
+  reported : (k : ℕ) → reportedOn j b cs k ≡ OneFloor.reportedIn (floorAt b j) ds k
+  runs : (t : ℕ) (r : Bool) → latest j b cs t r ≡ OneFloor.latest (floorAt b j) ds t r
+  quiet : QuietOn j b cs → OneFloor.Quiet (floorAt b j) ds
+  rounds : OneFloor.roundsIn ds ≡ roundsOn j cs
+  in-range : All OneFloor.InRange ds
   sound : bargeSound (bargeAfter b cs) ≡ true
 
-quiet-lone : (j : ℕ) (b : Barge) (c : BargeCall) (f : Floor) → eqb (named c) j ≡ true → eqb (outcome b c .refusal) 0 ≡ eqb (Lone.outcome f (lone c) .refusal) 0 → disturbs j b c ≡ false → Lone.disturbs f (lone c) ≡ false
-unfolding disturbs Lone.disturbs Lone.changesRunning
-quiet-lone j b (book k t c) f h e q = sym e ∙ (rw h at q)
-quiet-lone j b (anywhere k t number) f h e q = sym e ∙ (rw h at q)
-quiet-lone j b (stop k t) f h e q = sym e ∙ (rw h at q)
-quiet-lone j b (repair k t) f h e q = sym e ∙ (rw h at q)
-quiet-lone j b (round k) f h e q = refl
+quiet-standalone : (j : ℕ) (b : Barge) (c : BargeCall) (f : Floor) → eqb (named c) j ≡ true → eqb (outcome b c .refusal) 0 ≡ eqb (OneFloor.outcome f (standalone c) .refusal) 0 → disturbs j b c ≡ false → OneFloor.disturbs f (standalone c) ≡ false
+unfolding disturbs OneFloor.disturbs OneFloor.changesRunning
+quiet-standalone j b (book k t c) f h e q = sym e ∙ (rw h at q)
+quiet-standalone j b (anywhere k t number) f h e q = sym e ∙ (rw h at q)
+quiet-standalone j b (stop k t) f h e q = sym e ∙ (rw h at q)
+quiet-standalone j b (repair k t) f h e q = sym e ∙ (rw h at q)
+quiet-standalone j b (round k) f h e q = refl
 
-module _ (j : ℕ) (b : Barge) (c : BargeCall) (cs : List BargeCall) (ds : List Call) (typed-c : Typed c) (R : Same j (outcome b c .barge) cs ds) where
-  with-it : Listed j b c → Same j b (c ∷ cs) (lone c ∷ ds)
-  unfolding bargeAfter bookedOn reportedOn latest Lone.floorAfter Lone.bookedIn Lone.reportedIn Lone.latest
+module _ (j : ℕ) (b : Barge) (c : BargeCall) (cs : List BargeCall) (ds : List Call) (in-range-c : InRange c) (R : Same j (outcome b c .barge) cs ds) where
+  with-it : Listed j b c → Same j b (c ∷ cs) (standalone c ∷ ds)
+  unfolding bargeAfter bookedOn reportedOn latest OneFloor.floorAfter OneFloor.bookedIn OneFloor.reportedIn OneFloor.latest
   with-it L =
       let f = floorAt b j in
-      let o = Lone.outcome f (lone c) in
+      let o = OneFloor.outcome f (standalone c) in
       record {
-        floor = R .floor ∙ ap (λ (x : Floor). Lone.floorAfter x ds) (L .floor);
-        booked = ap (λ (l : List ℕ). l ++ bookedOn j (outcome b c .barge) cs) (L .booked) ∙ ap (λ (l : List ℕ). o .booked ++ l) (R .booked ∙ ap (λ (x : Floor). Lone.bookedIn x ds) (L .floor));
-        reported = λ k. ap (λ (l : List ℕ). l ++ reportedOn j (outcome b c .barge) cs k) (L .reported k) ∙ ap (λ (l : List ℕ). o .reported k ++ l) (R .reported k ∙ ap (λ (x : Floor). Lone.reportedIn x ds k) (L .floor));
-        runs = λ t r. ap (λ (x : Bool). latest j (outcome b c .barge) cs t x) (L .runs t r) ∙ R .runs t (Lone.runsBy f (lone c) t r) ∙ ap (λ (x : Floor). Lone.latest x ds t (Lone.runsBy f (lone c) t r)) (L .floor);
-        quiet = λ q. (quiet-lone j b c f (L .here) (L .accepted) (q .0), subst (λ (x : Floor). Lone.Quiet x ds) (L .floor) (R .quiet (q .1)));
-        rounds = ap (λ (n : ℕ). n + Lone.roundsIn ds) (sym (L .round)) ∙ ap (λ (n : ℕ). cond (eqb (named c) j && isRound (lone c)) 1 0 + n) (R .rounds);
-        typed = (typed-c, R .typed);
+        floor = R .floor ∙ ap (λ (x : Floor). OneFloor.floorAfter x ds) (L .floor);
+        booked = ap (λ (l : List ℕ). l ++ bookedOn j (outcome b c .barge) cs) (L .booked) ∙ ap (λ (l : List ℕ). o .booked ++ l) (R .booked ∙ ap (λ (x : Floor). OneFloor.bookedIn x ds) (L .floor));
+        reported = λ k. ap (λ (l : List ℕ). l ++ reportedOn j (outcome b c .barge) cs k) (L .reported k) ∙ ap (λ (l : List ℕ). o .reported k ++ l) (R .reported k ∙ ap (λ (x : Floor). OneFloor.reportedIn x ds k) (L .floor));
+        runs = λ t r. ap (λ (x : Bool). latest j (outcome b c .barge) cs t x) (L .runs t r) ∙ R .runs t (OneFloor.runsBy f (standalone c) t r) ∙ ap (λ (x : Floor). OneFloor.latest x ds t (OneFloor.runsBy f (standalone c) t r)) (L .floor);
+        quiet = λ q. (quiet-standalone j b c f (L .here) (L .accepted) (q .0), subst (λ (x : Floor). OneFloor.Quiet x ds) (L .floor) (R .quiet (q .1)));
+        rounds = ap (λ (n : ℕ). n + OneFloor.roundsIn ds) (sym (L .round)) ∙ ap (λ (n : ℕ). cond (eqb (named c) j && isRound (standalone c)) 1 0 + n) (R .rounds);
+        in-range = (in-range-c, R .in-range);
         sound = R .sound;
       }
 
@@ -248,26 +248,26 @@ module _ (j : ℕ) (b : Barge) (c : BargeCall) (cs : List BargeCall) (ds : List 
   unfolding bargeAfter bookedOn reportedOn latest
   without L =
       record {
-        floor = R .floor ∙ ap (λ (x : Floor). Lone.floorAfter x ds) (L .floor);
-        booked = ap (λ (l : List ℕ). l ++ bookedOn j (outcome b c .barge) cs) (L .booked) ∙ (R .booked ∙ ap (λ (x : Floor). Lone.bookedIn x ds) (L .floor));
-        reported = λ k. ap (λ (l : List ℕ). l ++ reportedOn j (outcome b c .barge) cs k) (L .reported k) ∙ (R .reported k ∙ ap (λ (x : Floor). Lone.reportedIn x ds k) (L .floor));
-        runs = λ t r. ap (λ (x : Bool). latest j (outcome b c .barge) cs t x) (L .runs t r) ∙ R .runs t r ∙ ap (λ (x : Floor). Lone.latest x ds t r) (L .floor);
-        quiet = λ q. subst (λ (x : Floor). Lone.Quiet x ds) (L .floor) (R .quiet (q .1));
+        floor = R .floor ∙ ap (λ (x : Floor). OneFloor.floorAfter x ds) (L .floor);
+        booked = ap (λ (l : List ℕ). l ++ bookedOn j (outcome b c .barge) cs) (L .booked) ∙ (R .booked ∙ ap (λ (x : Floor). OneFloor.bookedIn x ds) (L .floor));
+        reported = λ k. ap (λ (l : List ℕ). l ++ reportedOn j (outcome b c .barge) cs k) (L .reported k) ∙ (R .reported k ∙ ap (λ (x : Floor). OneFloor.reportedIn x ds k) (L .floor));
+        runs = λ t r. ap (λ (x : Bool). latest j (outcome b c .barge) cs t x) (L .runs t r) ∙ R .runs t r ∙ ap (λ (x : Floor). OneFloor.latest x ds t r) (L .floor);
+        quiet = λ q. subst (λ (x : Floor). OneFloor.Quiet x ds) (L .floor) (R .quiet (q .1));
         rounds = let z = L .round in R .rounds ∙ omega arith;
-        typed = R .typed;
+        in-range = R .in-range;
         sound = R .sound;
       }
 
-same : (j : ℕ) → j < 4 → (b : Barge) → bargeSound b ≡ true → (cs : List BargeCall) → All Typed cs → Same j b cs (own j b cs)
-unfolding own bargeAfter bookedOn reportedOn latest Lone.floorAfter Lone.bookedIn Lone.reportedIn Lone.latest
-same j j4 b s [] h = record { floor = refl; booked = refl; reported = λ k. refl; runs = λ t r. refl; quiet = λ _. tt; rounds = refl; typed = tt; sound = s }
+same : (j : ℕ) → j < 4 → (b : Barge) → bargeSound b ≡ true → (cs : List BargeCall) → All InRange cs → Same j b cs (own j b cs)
+unfolding own bargeAfter bookedOn reportedOn latest OneFloor.floorAfter OneFloor.bookedIn OneFloor.reportedIn OneFloor.latest
+same j j4 b s [] h = record { floor = refl; booked = refl; reported = λ k. refl; runs = λ t r. refl; quiet = λ _. tt; rounds = refl; in-range = tt; sound = s }
 same j j4 b s (c ∷ cs) h =
     let b′ = outcome b c .barge in
     let R = same j j4 b′ (stays b c s (h .0)) cs (h .1) in
     by-call j j4 b s c (λ l. Same j b (c ∷ cs) (l ++ own j b′ cs)) (with-it j b c cs (own j b′ cs) (h .0) R) (without j b c cs (own j b′ cs) (h .0) R)
 
 -- ---- "Per floor of a sound barge, demand 3 reads as before for the calls that name it."
-module _ (j : ℕ) (j4 : j < 4) (b : Barge) (s : bargeSound b ≡ true) (cs : List BargeCall) (typed : All Typed cs) where
+module _ (j : ℕ) (j4 : j < 4) (b : Barge) (s : bargeSound b ≡ true) (cs : List BargeCall) (in-range : All InRange cs) where
   abbrev first : Floor
   first = floorAt b j
 
@@ -275,23 +275,23 @@ module _ (j : ℕ) (j4 : j < 4) (b : Barge) (s : bargeSound b ≡ true) (cs : Li
   calls = own j b cs
 
   R : Same j b cs calls
-  R = same j j4 b s cs typed
+  R = same j j4 b s cs in-range
 
-  P : Lone.Promises first calls
-  P = demand3 first (sound-of b s .each j j4) calls (R .typed)
+  P : OneFloor.Promises first calls
+  P = demand3 first (sound-of b s .each j j4) calls (R .in-range)
 
-  runs-are : Lone.runsAfter first calls ≡ runsOn j b cs
-  unfolding Lone.runsAfter runsOn
+  runs-are : OneFloor.runsAfter first calls ≡ runsOn j b cs
+  unfolding OneFloor.runsAfter runsOn
   runs-are = fun-ext (λ t. sym (R .runs t (runsOf (view first) t)))
 
-  reported-all : reportedAllOn j b cs ≡ Lone.reportedAll first calls
-  unfolding reportedAllOn Lone.reportedAll
+  reported-all : reportedAllOn j b cs ≡ OneFloor.reportedAll first calls
+  unfolding reportedAllOn OneFloor.reportedAll
   reported-all = ap (cat 4) (fun-ext (R .reported))
 
   is-now : P .now ≡ floorAt (bargeAfter b cs) j
   is-now = P .is-now ∙ sym (R .floor)
 
-  further : (ds : List BargeCall) → All Typed ds → Same j (bargeAfter b cs) ds (own j (bargeAfter b cs) ds)
+  further : (ds : List BargeCall) → All InRange ds → Same j (bargeAfter b cs) ds (own j (bargeAfter b cs) ds)
   further ds h = same j j4 (bargeAfter b cs) (R .sound) ds h
 
   promises : Promises j b cs
@@ -313,9 +313,9 @@ module _ (j : ℕ) (j4 : j < 4) (b : Barge) (s : bargeSound b ≡ true) (cs : Li
     counts-live = subst (λ (r : ℕ → Bool). (t : ℕ) → LivePath (first .settings) r t ↔ connected (first .settings) r t ≡ true) runs-are (P .counts-live);
     emptied = λ ds h q n t p.
         let F = further ds h in
-        let back : Floor → Floor = λ x. Lone.floorAfter x (own j (bargeAfter b cs) ds) in
+        let back : Floor → Floor = λ x. OneFloor.floorAfter x (own j (bargeAfter b cs) ds) in
         ap (λ (x : Floor). membersOf (view x) t) (F .floor ∙ ap back (sym is-now))
-        ∙ P .emptied (own j (bargeAfter b cs) ds) (F .typed) (subst (λ (x : Floor). Lone.Quiet x (own j (bargeAfter b cs) ds)) (sym is-now) (F .quiet q))
+        ∙ P .emptied (own j (bargeAfter b cs) ds) (F .in-range) (subst (λ (x : Floor). OneFloor.Quiet x (own j (bargeAfter b cs) ds)) (sym is-now) (F .quiet q))
         (enough ds F n) t (subst (λ (r : ℕ → Bool). LivePath (first .settings) r t) (sym runs-are) p);
     runs-same = quiet-runs j b cs;
     live-same = λ ds q t.
@@ -324,8 +324,8 @@ module _ (j : ℕ) (j4 : j < 4) (b : Barge) (s : bargeSound b ≡ true) (cs : Li
   }
     where
       enough : (ds : List BargeCall) → Same j (bargeAfter b cs) ds (own j (bargeAfter b cs) ds) → bound (first .settings) (connectedCount (view (P .now)) (runsOn j b cs)) ≤ roundsOn j ds
-          → bound (first .settings) (connectedCount (view (P .now)) (Lone.runsAfter first calls)) ≤ Lone.roundsIn (own j (bargeAfter b cs) ds)
-      enough ds F n = subst (λ (r : ℕ → Bool). bound (first .settings) (connectedCount (view (P .now)) r) ≤ Lone.roundsIn (own j (bargeAfter b cs) ds)) (sym runs-are) (omega (arith, F .rounds))
+          → bound (first .settings) (connectedCount (view (P .now)) (OneFloor.runsAfter first calls)) ≤ OneFloor.roundsIn (own j (bargeAfter b cs) ds)
+      enough ds F n = subst (λ (r : ℕ → Bool). bound (first .settings) (connectedCount (view (P .now)) r) ≤ OneFloor.roundsIn (own j (bargeAfter b cs) ds)) (sym runs-are) (omega (arith, F .rounds))
 
 pub per-floor : PerFloor
-per-floor j j4 b s cs typed = promises j j4 b s cs typed
+per-floor j j4 b s cs in-range = promises j j4 b s cs in-range

@@ -25,8 +25,8 @@ unfoldable same : Barge → Barge → List ℕ
 same b d = tab 4 (λ k. cond (sameFloor (floorAt b k) (floorAt d k)) 1 0)
 
 -- the refusal, the total afterwards, and which floors are as they were
-unfoldable told : Barge → BargeAnswer → List ℕ
-told b r = r .refusal ∷ aboard (r .barge) ∷ same (r .barge) b
+unfoldable answerRow : Barge → BargeAnswer → List ℕ
+answerRow b r = r .refusal ∷ aboard (r .barge) ∷ same (r .barge) b
 
 -- the refusal, the total afterwards, the place
 unfoldable placed : BargePlaced → List ℕ
@@ -48,22 +48,22 @@ table =
     let full = some 2 in
     let moving = four near near near near 4 in
     -- two are aboard. One below the allowance a booking of either sort is accepted, and the other three floors stay; at it and above it 50 refuses, also where the named floor is empty
-    (told b (bargeBook b 0 0 (can 1 0 0)), 0 ∷ 3 ∷ 0 ∷ 1 ∷ 1 ∷ 1 ∷ [])
-    ∷ (told b (bargeBook b 1 0 (can 10 4 0)), 0 ∷ 3 ∷ 1 ∷ 0 ∷ 1 ∷ 1 ∷ [])
-    ∷ (told b (bargeBook b 3 0 (can 1 0 0)), 0 ∷ 3 ∷ 1 ∷ 1 ∷ 1 ∷ 0 ∷ [])
+    (answerRow b (bargeBook b 0 0 (can 1 0 0)), 0 ∷ 3 ∷ 0 ∷ 1 ∷ 1 ∷ 1 ∷ [])
+    ∷ (answerRow b (bargeBook b 1 0 (can 10 4 0)), 0 ∷ 3 ∷ 1 ∷ 0 ∷ 1 ∷ 1 ∷ [])
+    ∷ (answerRow b (bargeBook b 3 0 (can 1 0 0)), 0 ∷ 3 ∷ 1 ∷ 1 ∷ 1 ∷ 0 ∷ [])
     ∷ (placed (bargeBookAnywhere b 1 0 10), 0 ∷ 3 ∷ 4 ∷ 0 ∷ [])
-    ∷ (told full (bargeBook full 0 0 (can 1 0 0)), 50 ∷ 2 ∷ 1 ∷ 1 ∷ 1 ∷ 1 ∷ [])
+    ∷ (answerRow full (bargeBook full 0 0 (can 1 0 0)), 50 ∷ 2 ∷ 1 ∷ 1 ∷ 1 ∷ 1 ∷ [])
     ∷ (placed (bargeBookAnywhere full 1 0 10), 50 ∷ 2 ∷ 0 ∷ 0 ∷ [])
     ∷ (bargeBook (some 1) 3 0 (can 1 0 0) .refusal ∷ bargeBookAnywhere (some 1) 3 0 1 .refusal ∷ [], 50 ∷ 50 ∷ [])
     -- 50 is last: after 33, 34 and 40. Above the allowance the other calls are as on a lone floor
     ∷ (bargeBook full 1 0 (can 9 4 0) .refusal ∷ bargeBook full 1 0 (can 10 3 0) .refusal ∷ placed (bargeBookAnywhere full 2 0 8), 33 ∷ 34 ∷ 40 ∷ 2 ∷ 0 ∷ 0 ∷ [])
-    ∷ (told (some 1) (bargeStop (some 1) 2 0), 0 ∷ 2 ∷ 1 ∷ 1 ∷ 0 ∷ 1 ∷ [])
+    ∷ (answerRow (some 1) (bargeStop (some 1) 2 0), 0 ∷ 2 ∷ 1 ∷ 1 ∷ 0 ∷ 1 ∷ [])
     ∷ (bargeStop full 2 1 .refusal ∷ bargeRepair full 2 0 .refusal ∷ bargeRepair (bargeStop full 2 0 .barge) 2 0 .refusal ∷ [], 8 ∷ 32 ∷ 0 ∷ [])
     -- 49 after 30, and before the call's own; a wrong number is not cut
     ∷ (bargeBook full 4 9 (can 0 0 0) .refusal ∷ bargeBookAnywhere full 256 0 1 .refusal ∷ bargeStop full 65536 9 .refusal ∷ bargeRepair full (2 ^ 32 - 4) 0 .refusal ∷ bargeRound full (2 ^ 32 - 1) .refusal ∷ [], 49 ∷ 49 ∷ 49 ∷ 49 ∷ 49 ∷ [])
     ∷ (bargeRound (some 0) 4 .refusal ∷ bargeRound (some 0) 0 .refusal ∷ bargeRound (some 1) 0 .refusal ∷ bargeRound (some 4032) 0 .refusal ∷ bargeRound (some 4033) 0 .refusal ∷ [], 30 ∷ 30 ∷ 0 ∷ 0 ∷ 30 ∷ [])
     -- one malformed floor, at each place, whatever floor is named
-    ∷ (told (four zeroFloor f f f 9) (bargeBook (four zeroFloor f f f 9) 1 0 (can 1 0 0)), 30 ∷ 0 ∷ 1 ∷ 1 ∷ 1 ∷ 1 ∷ [])
+    ∷ (answerRow (four zeroFloor f f f 9) (bargeBook (four zeroFloor f f f 9) 1 0 (can 1 0 0)), 30 ∷ 0 ∷ 1 ∷ 1 ∷ 1 ∷ 1 ∷ [])
     ∷ (bargeBookAnywhere (four f zeroFloor f f 9) 0 0 1 .refusal ∷ bargeStop (four f f zeroFloor f 9) 3 0 .refusal ∷ bargeRound (four f f f zeroFloor 9) 4 .refusal ∷ [], 30 ∷ 30 ∷ 30 ∷ [])
     -- a round moves the named floor alone; a delivery lowers the total by one, and a booking is accepted again
     ∷ (rounded moving (bargeRound moving 2), 0 ∷ 3 ∷ 5 ∷ 1 ∷ 1 ∷ 0 ∷ 1 ∷ [])
@@ -72,5 +72,5 @@ table =
     ∷ []
 
 barge-samples : holds table ≡ true
-unfolding holds small four same told placed rounded table onFloor aboard allowanceSound bargeSound bargeRefusal allowed bargeWith bargeBook bargeBookAnywhere bargeStop bargeRepair bargeRound
+unfolding holds small four same answerRow placed rounded table onFloor aboard allowanceSound bargeSound bargeRefusal allowed bargeWith bargeBook bargeBookAnywhere bargeStop bargeRepair bargeRound
 barge-samples = refl

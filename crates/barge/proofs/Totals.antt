@@ -16,11 +16,11 @@ use Rattle.floor.specs.declared.Floor.{Floor}
 use Rattle.floor.specs.Model.{numbersOn}
 use Rattle.floor.specs.Memory.{zeroFloor, view}
 use Rattle.floor.specs.Well.{wellFormed}
-use Rattle.floor.specs.Demand3 as Lone
+use Rattle.floor.specs.Demand3 as OneFloor
 use Rattle.floor.proofs.Lists.{call-keeps}
 use Rattle.barge.specs.declared.Barge.{Barge}
 use Rattle.barge.specs.Barges.{floorAt, withFloor, onFloor, aboard, bargeSound, allowed}
-use Rattle.barge.specs.Lists.{BargeCall, book, anywhere, stop, repair, round, named, lone, alone, Typed, outcome, bargeAfter, bookedIn, reportedIn, JointTotal}
+use Rattle.barge.specs.Lists.{BargeCall, book, anywhere, stop, repair, round, named, standalone, standaloneOutcome, InRange, outcome, bargeAfter, bookedIn, reportedIn, JointTotal}
 use Rattle.barge.proofs.Answers.{sound-of, done, undone, stays}
 
 -- ---- one call
@@ -30,10 +30,10 @@ sum-set [] k f h = absurd (omega arith)
 sum-set (x ∷ l) zero f h = omega arith
 sum-set (x ∷ l) (suc k) f h = omega (arith, sum-set l k f (omega arith))
 
-lone-total : (f : Floor) → wellFormed f ≡ true → (c : Lone.Call) → Lone.Typed c → onFloor (Lone.outcome f c .floor) + length (cat 4 (Lone.outcome f c .reported)) ≡ onFloor f + length (Lone.outcome f c .booked)
+standalone-total : (f : Floor) → wellFormed f ≡ true → (c : OneFloor.Call) → OneFloor.InRange c → onFloor (OneFloor.outcome f c .floor) + length (cat 4 (OneFloor.outcome f c .reported)) ≡ onFloor f + length (OneFloor.outcome f c .booked)
 unfolding onFloor
-lone-total f w c t =
-    let o = Lone.outcome f c in
+standalone-total f w c t =
+    let o = OneFloor.outcome f c in
     let K = call-keeps f w c t .1 in
     sym (length-append (numbersOn (view (o .floor))) (cat 4 (o .reported))) ∙ length-perm (K .nums) ∙ length-append (numbersOn (view f)) (o .booked)
 
@@ -41,15 +41,15 @@ changed : (b : Barge) (k : ℕ) (f : Floor) (x y : ℕ) → k < length (b .floor
 unfolding aboard
 changed b k f x y h e = omega (arith, sum-set (b .floors) k f h)
 
-pub total : (b : Barge) (c : BargeCall) → bargeSound b ≡ true → Typed c → aboard (outcome b c .barge) + length (cat 4 (outcome b c .reported)) ≡ aboard b + length (outcome b c .booked)
+pub total : (b : Barge) (c : BargeCall) → bargeSound b ≡ true → InRange c → aboard (outcome b c .barge) + length (cat 4 (outcome b c .reported)) ≡ aboard b + length (outcome b c .booked)
 total b c s t = go (ℕ-discrete (outcome b c .refusal) 0)
   where
     go : Dec (outcome b c .refusal ≡ 0) → aboard (outcome b c .barge) + length (cat 4 (outcome b c .reported)) ≡ aboard b + length (outcome b c .booked)
     go (yes z) =
         let D = done b c z in
-        let l = alone b c in
+        let l = standaloneOutcome b c in
         rw (D .barge, D .reported, D .booked)
-        (changed b (named c) (l .floor) (length (cat 4 (l .reported))) (length (l .booked)) (omega (arith, sound-of b s .four, D .on)) (lone-total (floorAt b (named c)) (sound-of b s .each (named c) (D .on)) (lone c) t))
+        (changed b (named c) (l .floor) (length (cat 4 (l .reported))) (length (l .booked)) (omega (arith, sound-of b s .four, D .on)) (standalone-total (floorAt b (named c)) (sound-of b s .each (named c) (D .on)) (standalone c) t))
     go (no z) = let U = undone b c z in rw (U .barge, U .reported, U .booked, cat-nil {A = ℕ} 4)
 
 same-allowance : (b : Barge) (c : BargeCall) → outcome b c .barge .allowance ≡ b .allowance
@@ -69,7 +69,7 @@ one-or-none true n = omega arith
 one-or-none false n = omega arith
 
 -- no call takes the total above the greater of total and allowance
-stays-under : (b : Barge) (c : BargeCall) → bargeSound b ≡ true → Typed c → (n : ℕ) → b .allowance ≤ n → aboard b ≤ n → aboard (outcome b c .barge) ≤ n
+stays-under : (b : Barge) (c : BargeCall) → bargeSound b ≡ true → InRange c → (n : ℕ) → b .allowance ≤ n → aboard b ≤ n → aboard (outcome b c .barge) ≤ n
 unfolding outcome
 stays-under b c s t n h l = go c (total b c s t) (ℕ-discrete (outcome b c .refusal) 0)
   where
@@ -88,7 +88,7 @@ record Over (b : Barge) (cs : List BargeCall) : Type 0 where
   counted : aboard (bargeAfter b cs) + length (reportedIn b cs) ≡ aboard b + length (bookedIn b cs)
   under : (n : ℕ) → b .allowance ≤ n → aboard b ≤ n → aboard (bargeAfter b cs) ≤ n
 
-over : (b : Barge) → bargeSound b ≡ true → (cs : List BargeCall) → All Typed cs → Over b cs
+over : (b : Barge) → bargeSound b ≡ true → (cs : List BargeCall) → All InRange cs → Over b cs
 unfolding bargeAfter bookedIn reportedIn
 over b s [] h = record { sound = s; allowance = refl; counted = refl; under = λ n x y. y }
 over b s (c ∷ cs) h =

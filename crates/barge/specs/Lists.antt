@@ -1,4 +1,4 @@
--- Lists of calls on a barge, and the joint total over them. The theorems are `as-alone` and `refused` of proofs/Alone, `others` of proofs/Answers and `totals` of proofs/Totals.
+-- Lists of calls on a barge, and the joint total over them. The theorems are `as-standalone` and `refused` of proofs/Standalone, `others` of proofs/Answers and `totals` of proofs/Totals.
 use mathlib.Core.Path.{_≡_}
 use mathlib.Core.Logic.{_↔_, _≢_}
 use mathlib.Core.Bool.{Bool, true, false, cond}
@@ -15,7 +15,7 @@ use Rattle.floor.specs.Calls.{zeroReport, roundAnswer}
 use Rattle.floor.specs.Anywhere.{anywhereAnswer}
 use Rattle.floor.specs.Reports.{listedAt}
 use Rattle.floor.specs.Demand3.{Call}
-use Rattle.floor.specs.Demand3 as Lone
+use Rattle.floor.specs.Demand3 as OneFloor
 use Rattle.barge.specs.declared.Barge.{Barge}
 use Rattle.barge.specs.Barges.{floorAt, withFloor, aboard, bargeSound, bargeBook, bargeBookAnywhere, bargeStop, bargeRepair, bargeRound}
 
@@ -36,16 +36,16 @@ named (repair k t) = k
 named (round k) = k
 
 -- the same call on a lone floor
-abbrev pub lone : BargeCall → Call
-lone (book k t c) = Lone.book t c
-lone (anywhere k t number) = Lone.anywhere t number
-lone (stop k t) = Lone.stop t
-lone (repair k t) = Lone.repair t
-lone (round k) = Lone.round
+abbrev pub standalone : BargeCall → Call
+standalone (book k t c) = OneFloor.book t c
+standalone (anywhere k t number) = OneFloor.anywhere t number
+standalone (stop k t) = OneFloor.stop t
+standalone (repair k t) = OneFloor.repair t
+standalone (round k) = OneFloor.round
 
 -- a booking's number has its parameter's 32 bits, as on a lone floor
-abbrev pub Typed : BargeCall → Type 0
-Typed c = Lone.Typed (lone c)
+abbrev pub InRange : BargeCall → Type 0
+InRange c = OneFloor.InRange (standalone c)
 
 -- a call's answer: its refusal number, 0 if accepted; the barge; the numbers that it booked; the numbers that it reported delivered to each hopper of the floor that it names
 pub record Outcome : Type 0 where
@@ -77,8 +77,8 @@ reportedIn b (c ∷ cs) = cat 4 (outcome b c .reported) ++ reportedIn (outcome b
 
 -- ---- one call
 -- the same call on the floor that it names, alone
-abbrev pub alone : Barge → BargeCall → Lone.Outcome
-alone b c = Lone.outcome (floorAt b (named c)) (lone c)
+abbrev pub standaloneOutcome : Barge → BargeCall → OneFloor.Outcome
+standaloneOutcome b c = OneFloor.outcome (floorAt b (named c)) (standalone c)
 
 -- whether it is a booking of either sort
 abbrev pub books : BargeCall → Bool
@@ -89,53 +89,53 @@ books (repair k t) = false
 books (round k) = false
 
 -- what a call tells besides its number: a booking without a place its place, a round its report, whole: grants, reasons, missing millimetres, deliveries; the others nothing
-pub data Told : Type 0 where
-  nothing : Told
-  place : ℕ → ℕ → Told
-  report : Report → Told
+pub data Payload : Type 0 where
+  nothing : Payload
+  place : ℕ → ℕ → Payload
+  report : Report → Payload
 
-abbrev pub told : Barge → BargeCall → Told
-told b (book k t c) = nothing
-told b (anywhere k t number) = let r = bargeBookAnywhere b k t number in place (r .a) (r .b)
-told b (stop k t) = nothing
-told b (repair k t) = nothing
-told b (round k) = report (bargeRound b k .report)
+abbrev pub payload : Barge → BargeCall → Payload
+payload b (book k t c) = nothing
+payload b (anywhere k t number) = let r = bargeBookAnywhere b k t number in place (r .a) (r .b)
+payload b (stop k t) = nothing
+payload b (repair k t) = nothing
+payload b (round k) = report (bargeRound b k .report)
 
 -- the same of the call on the floor f, alone
-abbrev pub toldAlone : Floor → BargeCall → Told
-toldAlone f (book k t c) = nothing
-toldAlone f (anywhere k t number) = let r = anywhereAnswer f t number in place (r .a) (r .b)
-toldAlone f (stop k t) = nothing
-toldAlone f (repair k t) = nothing
-toldAlone f (round k) = report (roundAnswer f .report)
+abbrev pub standalonePayload : Floor → BargeCall → Payload
+standalonePayload f (book k t c) = nothing
+standalonePayload f (anywhere k t number) = let r = anywhereAnswer f t number in place (r .a) (r .b)
+standalonePayload f (stop k t) = nothing
+standalonePayload f (repair k t) = nothing
+standalonePayload f (round k) = report (roundAnswer f .report)
 
 -- of a refused call: "a report of zeros"
-abbrev pub toldZeros : BargeCall → Told
-toldZeros (book k t c) = nothing
-toldZeros (anywhere k t number) = place 0 0
-toldZeros (stop k t) = nothing
-toldZeros (repair k t) = nothing
-toldZeros (round k) = report zeroReport
+abbrev pub zeroPayload : BargeCall → Payload
+zeroPayload (book k t c) = nothing
+zeroPayload (anywhere k t number) = place 0 0
+zeroPayload (stop k t) = nothing
+zeroPayload (repair k t) = nothing
+zeroPayload (round k) = report zeroReport
 
 -- calls "do there what they do on a lone one, but for 50"; 50 refuses a booking that nothing else refuses, where "the total is at or above the allowance"
-pub record AsAlone (b : Barge) (c : BargeCall) : Type 0 where
-  pub refusal : outcome b c .refusal ≢ 50 → outcome b c .refusal ≡ alone b c .refusal
-  pub floor : outcome b c .refusal ≢ 50 → floorAt (outcome b c .barge) (named c) ≡ alone b c .floor
-  pub booked : outcome b c .refusal ≢ 50 → outcome b c .booked ≡ alone b c .booked
-  pub reported : outcome b c .refusal ≢ 50 → outcome b c .reported ≡ alone b c .reported
-  pub over : outcome b c .refusal ≡ 50 ↔ ((books c ≡ true) × (alone b c .refusal ≡ 0) × (b .allowance ≤ aboard b))
-  pub tells : outcome b c .refusal ≢ 50 → told b c ≡ toldAlone (floorAt b (named c)) c
+pub record AsStandalone (b : Barge) (c : BargeCall) : Type 0 where
+  pub refusal : outcome b c .refusal ≢ 50 → outcome b c .refusal ≡ standaloneOutcome b c .refusal
+  pub floor : outcome b c .refusal ≢ 50 → floorAt (outcome b c .barge) (named c) ≡ standaloneOutcome b c .floor
+  pub booked : outcome b c .refusal ≢ 50 → outcome b c .booked ≡ standaloneOutcome b c .booked
+  pub reported : outcome b c .refusal ≢ 50 → outcome b c .reported ≡ standaloneOutcome b c .reported
+  pub over : outcome b c .refusal ≡ 50 ↔ ((books c ≡ true) × (standaloneOutcome b c .refusal ≡ 0) × (b .allowance ≤ aboard b))
+  pub same-payload : outcome b c .refusal ≢ 50 → payload b c ≡ standalonePayload (floorAt b (named c)) c
   -- accepted, the barge has that floor, and all else as it was
-  pub barge : outcome b c .refusal ≡ 0 → outcome b c .barge ≡ withFloor b (named c) (alone b c .floor)
+  pub barge : outcome b c .refusal ≡ 0 → outcome b c .barge ≡ withFloor b (named c) (standaloneOutcome b c .floor)
 
 -- on a sound barge, for a call that names one of its floors
-abbrev pub Alone : Type 0
-Alone = (b : Barge) → bargeSound b ≡ true → (c : BargeCall) → named c < 4 → AsAlone b c
+abbrev pub Standalone : Type 0
+Standalone = (b : Barge) → bargeSound b ≡ true → (c : BargeCall) → named c < 4 → AsStandalone b c
 
 -- "A refusal gives its number, a report of zeros, the same floor": of a refused call
 pub record GivenBack (b : Barge) (c : BargeCall) : Type 0 where
   pub barge : outcome b c .barge ≡ b
-  pub tells : told b c ≡ toldZeros c
+  pub same-payload : payload b c ≡ zeroPayload c
   pub booked : outcome b c .booked ≡ []
   pub reported : outcome b c .reported ≡ (λ _. [])
 
@@ -165,4 +165,4 @@ pub record Totals (b : Barge) (cs : List BargeCall) : Type 0 where
   pub above : b .allowance ≤ aboard b → aboard (bargeAfter b cs) ≤ aboard b
 
 abbrev pub JointTotal : Type 0
-JointTotal = (b : Barge) → bargeSound b ≡ true → (cs : List BargeCall) → All Typed cs → Totals b cs
+JointTotal = (b : Barge) → bargeSound b ≡ true → (cs : List BargeCall) → All InRange cs → Totals b cs

@@ -18,7 +18,7 @@ use Rattle.floor.specs.Live.{LivePath, connected, connectedCount}
 use Rattle.floor.specs.Demand3.{isRound}
 use Rattle.barge.specs.declared.Barge.{Barge}
 use Rattle.barge.specs.Barges.{floorAt, bargeSound}
-use Rattle.barge.specs.Lists.{BargeCall, book, anywhere, stop, repair, round, named, lone, Typed, outcome, bargeAfter}
+use Rattle.barge.specs.Lists.{BargeCall, book, anywhere, stop, repair, round, named, standalone, InRange, outcome, bargeAfter}
 
 -- of the calls that name floor j: the numbers of accepted bookings; what the rounds reported delivered to hopper k, and to all together
 unfoldable pub bookedOn : ℕ → Barge → List BargeCall → List ℕ
@@ -49,7 +49,7 @@ runsOn j b cs t = latest j b cs t (runsOf (view (floorAt b j)) t)
 
 -- "no accepted booking, stop or repair" on floor j, and its rounds. What is done on the other floors may go on
 unfoldable pub disturbs : ℕ → Barge → BargeCall → Bool
-disturbs j b c = eqb (named c) j && (not (isRound (lone c)) && eqb (outcome b c .refusal) 0)
+disturbs j b c = eqb (named c) j && (not (isRound (standalone c)) && eqb (outcome b c .refusal) 0)
 
 abbrev pub QuietOn : ℕ → Barge → List BargeCall → Type 0
 QuietOn j b [] = Unit {0}
@@ -57,7 +57,7 @@ QuietOn j b (c ∷ cs) = (disturbs j b c ≡ false) × QuietOn j (outcome b c .b
 
 abbrev pub roundsOn : ℕ → List BargeCall → ℕ
 roundsOn j [] = 0
-roundsOn j (c ∷ cs) = cond (eqb (named c) j && isRound (lone c)) 1 0 + roundsOn j cs
+roundsOn j (c ∷ cs) = cond (eqb (named c) j && isRound (standalone c)) 1 0 + roundsOn j cs
 
 -- demand 3's promises word for word: j the floor, b the first barge, cs the list
 pub record Promises (j : ℕ) (b : Barge) (cs : List BargeCall) : Type 0 where
@@ -76,11 +76,11 @@ pub record Promises (j : ℕ) (b : Barge) (cs : List BargeCall) : Type 0 where
   pub delivered : (k : ℕ) → getD (now .counters .delivered) k 0 ≡ getD (first .counters .delivered) k 0 + length (reportedOn j b cs k)
   pub runs-now : (t : ℕ) → runsOn j b cs t ≡ runsOf (view now) t
   pub counts-live : (t : ℕ) → LivePath (first .settings) (runsOn j b cs) t ↔ connected (first .settings) (runsOn j b cs) t ≡ true
-  pub emptied : (ds : List BargeCall) → All Typed ds → QuietOn j (bargeAfter b cs) ds → bound (first .settings) (connectedCount (view now) (runsOn j b cs)) ≤ roundsOn j ds
+  pub emptied : (ds : List BargeCall) → All InRange ds → QuietOn j (bargeAfter b cs) ds → bound (first .settings) (connectedCount (view now) (runsOn j b cs)) ≤ roundsOn j ds
       → (t : ℕ) → LivePath (first .settings) (runsOn j b cs) t → membersOf (view (floorAt (bargeAfter (bargeAfter b cs) ds) j)) t ≡ []
   pub runs-same : (ds : List BargeCall) → QuietOn j (bargeAfter b cs) ds → (t : ℕ) → runsOn j b (cs ++ ds) t ≡ runsOn j b cs t
   pub live-same : (ds : List BargeCall) → QuietOn j (bargeAfter b cs) ds → (t : ℕ) → LivePath (first .settings) (runsOn j b (cs ++ ds)) t ↔ LivePath (first .settings) (runsOn j b cs) t
 
 -- each of the four floors
 abbrev pub PerFloor : Type 0
-PerFloor = (j : ℕ) → j < 4 → (b : Barge) → bargeSound b ≡ true → (cs : List BargeCall) → All Typed cs → Promises j b cs
+PerFloor = (j : ℕ) → j < 4 → (b : Barge) → bargeSound b ≡ true → (cs : List BargeCall) → All InRange cs → Promises j b cs

@@ -28,12 +28,12 @@ pub fn book(barge: Barge, floor: u32, tile: u32, canister: Canister) -> BargeAns
     if number == 0 {
         let k = floor as usize;
         let old = changed.floors[k];
-        let lone = book_checked(old, tile, canister, true);
-        number = lone.refusal;
+        let answer = book_checked(old, tile, canister, true);
+        number = answer.refusal;
         if number == 0 {
             number = last_refusal(begun.total, changed.allowance);
             if number == 0 {
-                let booked = lone.floor;
+                let booked = answer.floor;
                 changed.floors[k] = booked;
             }
         }
@@ -56,15 +56,15 @@ pub fn book_anywhere(barge: Barge, floor: u32, tile: u32, number: u32) -> BargeP
     if refused == 0 {
         let k = floor as usize;
         let old = changed.floors[k];
-        let lone = anywhere_checked(old, tile, number, true);
-        refused = lone.refusal;
+        let answer = anywhere_checked(old, tile, number, true);
+        refused = answer.refusal;
         if refused == 0 {
             refused = last_refusal(begun.total, changed.allowance);
             if refused == 0 {
-                let placed = lone.floor;
+                let placed = answer.floor;
                 changed.floors[k] = placed;
-                a = lone.a;
-                b = lone.b;
+                a = answer.a;
+                b = answer.b;
             }
         }
     }
@@ -130,11 +130,11 @@ pub fn round(barge: Barge, floor: u32) -> BargeRounded
     if begun.refusal == 0 {
         let k = floor as usize;
         let old = changed.floors[k];
-        let lone = run_round(old);
-        let moved = lone.floor;
+        let answer = run_round(old);
+        let moved = answer.floor;
         changed.floors[k] = moved;
-        let told = lone.report;
-        report = told;
+        let given = answer.report;
+        report = given;
     }
     BargeRounded {
         barge: changed,

@@ -11,7 +11,7 @@ use Rattle.floor.specs.Memory.{zeroFloor}
 use Rattle.floor.specs.Well.{wellFormed}
 use Rattle.floor.specs.Bookings.{answered, acceptedIn, listAnswer, listAfter}
 use Rattle.floor.specs.Demand3.{floorAfter, bookedIn, reportedIn}
-use Rattle.floor.specs.Together.{answersIn}
+use Rattle.floor.specs.CommutingCalls.{answersIn}
 use Rattle.floor.proofs.Calling.{fresh, holds}
 use Rattle.floor.proofs.ListSamples.{entry, elsewhere}
 use Rattle.book_list.specs.Parts.{placesAnswer}

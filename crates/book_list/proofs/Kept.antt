@@ -9,7 +9,7 @@ use Rattle.floor.specs.declared.Booking.{Booking}
 use Rattle.floor.specs.declared.Floor.{Floor}
 use Rattle.floor.specs.Well.{wellFormed}
 use Rattle.floor.specs.Calls.{refusalOf, answer, bookAnswer}
-use Rattle.floor.specs.Demand3.{book, Typed, outcome}
+use Rattle.floor.specs.Demand3.{book, InRange, outcome}
 use Rattle.floor.proofs.Lists.{call-keeps}
 use Rattle.floor.specs.Bookings.{single, tooLong}
 use Rattle.book_list.specs.Parts.{entriesOf, begunOf}
@@ -19,7 +19,7 @@ unfolding bookAnswer answer refusalOf refusal
 book-malformed f t c w = rw w
 
 -- the callers' arguments have their parameters' widths
-pub still : (f : Floor) (t : ℕ) (c : Canister) → Typed (book t c) → wellFormed (bookAnswer f t c .floor) ≡ wellFormed f
+pub still : (f : Floor) (t : ℕ) (c : Canister) → InRange (book t c) → wellFormed (bookAnswer f t c .floor) ≡ wellFormed f
 unfolding outcome
 still f t c h = go (wellFormed f) refl
   where
@@ -27,7 +27,7 @@ still f t c h = go (wellFormed f) refl
     go true w = rw w (call-keeps f w (book t c) h .0)
     go false w = rw (book-malformed f t c w)
 
-pub entry-still : (f : Floor) (b : Booking) → Typed (book (b .tile) (b .canister)) → wellFormed (single f b .floor) ≡ wellFormed f
+pub entry-still : (f : Floor) (b : Booking) → InRange (book (b .tile) (b .canister)) → wellFormed (single f b .floor) ≡ wellFormed f
 entry-still f b h = still f (b .tile) (b .canister) h
 
 -- where there is a turn, the floor was checked

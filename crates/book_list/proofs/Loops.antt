@@ -15,4 +15,4 @@ pub record EntriesBooked (f : Floor) (list : List Booking) (entries : ℕ) (well
   pub list-length : length list ≡ 64
   pub answered : places ≡ listUpto i f list
   pub floored : current ≡ floorUpto i f list
-  pub known : i < entries → well ≡ wellFormed current
+  pub well-is : i < entries → well ≡ wellFormed current

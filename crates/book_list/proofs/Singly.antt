@@ -13,7 +13,7 @@ use Rattle.floor.specs.declared.Answer.{Answer}
 use Rattle.floor.specs.Well.{wellFormed}
 use Rattle.floor.specs.Bookings.{answered, single, floorSingly, entriesSingly, tooLong, acceptedIn, listAnswer, listAfter}
 use Rattle.floor.specs.Demand3.{Call, book, outcome, floorAfter, bookedIn, reportedIn}
-use Rattle.floor.specs.Together.{answersIn}
+use Rattle.floor.specs.CommutingCalls.{answersIn}
 use Rattle.floor.specs.Chain.{bookedBy}
 use Rattle.book_list.specs.declared.Listed.{Listed}
 use Rattle.book_list.specs.Parts.{placesAnswer}

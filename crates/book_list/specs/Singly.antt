@@ -10,7 +10,7 @@ use Rattle.floor.specs.declared.Floor.{Floor}
 use Rattle.floor.specs.Well.{wellFormed}
 use Rattle.floor.specs.Bookings.{answered, acceptedIn, listAnswer, listAfter}
 use Rattle.floor.specs.Demand3.{Call, book, floorAfter, bookedIn, reportedIn}
-use Rattle.floor.specs.Together.{answersIn}
+use Rattle.floor.specs.CommutingCalls.{answersIn}
 use Rattle.book_list.specs.Parts.{placesAnswer}
 
 -- the entries as single bookings, calls of demand 3

@@ -21,7 +21,7 @@ source s t all fill e few on f =
     rw m at (sym f)
 
 pub count-few : (s : Settings) (t all n : ℕ) → (t < total s → n ≤ 16) → all ≡ total s → leb all t ≡ false → n ≤ 16
-count-few s t all n held e on = held (omega (arith, e, leb-false all t on))
+count-few s t all n bounded e on = bounded (omega (arith, e, leb-false all t on))
 
 within-no : (s : Settings) (c : Canister) → not (leb (c .a) (span s) && leb (c .b) (span s)) ≡ true → inside s c ≡ false
 unfolding inside

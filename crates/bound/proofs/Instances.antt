@@ -13,11 +13,11 @@ use Rattle.floor.specs.Model.{Model, runsOf, membersOf, numbersOn}
 use Rattle.floor.specs.Memory.{view}
 use Rattle.floor.specs.Bound.{bound}
 use Rattle.floor.specs.Live.{LivePath, here, step, connected}
-use Rattle.floor.specs.Demand3.{Call, book, stop, repair, round, Typed, floorAfter, reportedAll, runsAfter, roundsIn}
+use Rattle.floor.specs.Demand3.{Call, book, stop, repair, round, InRange, floorAfter, reportedAll, runsAfter, roundsIn}
 use Rattle.floor.proofs.Calling.{several, can, holds}
-use Rattle.floor.proofs.Shown.{Shows}
-use Rattle.floor.proofs.Walked.{isTyped, all-typed, valueAfter, answersBy, reportedBy, quietBy, shows-list, reported-same, runs-same, quiet}
-use Rattle.floor.proofs.Made.{Made, begun, book as put, floorOf, made, made-shows, holdBy}
+use Rattle.floor.proofs.CallsByValue.{Shows}
+use Rattle.floor.proofs.ListsByValue.{isInRange, all-in-range, valueAfter, answersBy, reportedBy, quietBy, shows-list, reported-same, runs-same, quiet}
+use Rattle.floor.proofs.TablesByValue.{Made, begun, book as put, floorOf, made, made-shows, holdBy}
 use Rattle.floor.proofs.Instances.{rounds}
 use Rattle.floor.proofs.Grid.{at4}
 use Rattle.bound.specs.declared.Bounded.{Bounded}
@@ -51,22 +51,22 @@ used-test : (made used .0 ≡ true) × ((answersBy (made used .1) calls ≡ 0 �
 unfolding holds holdBy used can boundBy numbersWhere unconnectedNumbers
 used-test = (refl, (refl, refl))
 
-typed : All Typed calls
-unfolding isTyped allOf can
-typed = all-typed calls refl
+in-range : All InRange calls
+unfolding isInRange allOf can
+in-range = all-in-range calls refl
 
-later-typed : All Typed later
-unfolding isTyped allOf can
-later-typed = all-typed later refl
+later-typed : All InRange later
+unfolding isInRange allOf can
+later-typed = all-in-range later refl
 
 first : Shows f (made used .1)
 first = made-shows used (used-test .0)
 
 shown : Shows now m
-shown = shows-list f (made used .1) first calls typed
+shown = shows-list f (made used .1) first calls in-range
 
 W : WithinBound now (runsAfter f calls)
-W = within-bound f (first .well) calls typed
+W = within-bound f (first .well) calls in-range
 
 -- ---- the answer: (6 - 1) × (1 + 3 × 4) rounds, three canisters with a live path and one without
 answer : boundAnswer now ≡ record { rounds = 65; connected = 3; unconnected = 1; refusal = 0 }
@@ -80,7 +80,7 @@ rounds-are = W .rounds
 
 -- ---- the numbers: 7 on tile 4, 4 and 6 on tile 1; 5 on tile 3
 runs : runsAfter f calls ≡ runsOf m
-runs = fun-ext (runs-same f (made used .1) first calls typed)
+runs = fun-ext (runs-same f (made used .1) first calls in-range)
 
 parts-test : (connectedNumbers m (runsOf m) ≡ 7 ∷ 4 ∷ 6 ∷ []) × ((unconnectedNumbers m (runsOf m) ≡ 5 ∷ []) × (numbersOn m ≡ 7 ∷ 5 ∷ 4 ∷ 6 ∷ []))
 unfolding holds holdBy used can numbersWhere connectedNumbers unconnectedNumbers

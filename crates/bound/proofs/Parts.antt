@@ -22,12 +22,12 @@ use Rattle.floor.specs.Memory.{view}
 use Rattle.floor.specs.Well.{wellFormed}
 use Rattle.floor.specs.Move.{insertEach, staying}
 use Rattle.floor.specs.Calls.{afterRound, delivered}
-use Rattle.floor.specs.Demand3.{Call, book, anywhere, stop, repair, round, keep, forget, recall, list, Typed, outcome, floorAfter, reportedIn, reportedAll, latest, runsAfter, isRound, disturbs, Quiet, roundsIn}
+use Rattle.floor.specs.Demand3.{Call, book, anywhere, stop, repair, round, keep, forget, recall, list, InRange, outcome, floorAfter, reportedIn, reportedAll, latest, runsAfter, isRound, disturbs, Quiet, roundsIn}
 use Rattle.floor.proofs.Sound.{Sound}
 use Rattle.floor.proofs.Pack.{well-sound}
 use Rattle.floor.proofs.Borders.{numbers-same, staying-nil}
 use Rattle.floor.proofs.Insertion.{insert-each-perm}
-use Rattle.floor.proofs.Fields.{wayAt, stays, leaves, comes, round-settings, round-own, round-hopper, went, delivered-are, delivered-length}
+use Rattle.floor.proofs.Fields.{wayAt, stays, leaves, comes, round-settings, round-own, round-hopper, deliveredTo, delivered-are, delivered-length}
 use Rattle.floor.proofs.Passing.{Moving, still-or}
 use Rattle.floor.proofs.Safety.{leaves-still}
 use Rattle.floor.proofs.Conservation.{moved-perm}
@@ -130,7 +130,7 @@ module _ (m : Model) (S : Sound m) (p : ℕ → Bool) (along : (u : ℕ) → Mov
           (subst (λ (x : List ℕ). List·Permᴰ (numbers (comes m t ++ stays m t)) x) (sym (append-nil (numbers (insertEach (comes m t) (stays m t)))))
           (map-perm (λ c. c .number) (Permᴰ·symm (insert-each-perm (comes m t) (stays m t)))))
 
-  out-all : List·Permᴰ (cat C out) (cat 4 (went m))
+  out-all : List·Permᴰ (cat C out) (cat 4 (deliveredTo m))
   unfolding out isHopper hoppersOf
   out-all =
       let few : length (delivered m) ≤ 4 = omega (arith, delivered-length m (S .len), S .measured .hoppers-few) in
@@ -147,20 +147,20 @@ module _ (m : Model) (S : Sound m) (p : ℕ → Bool) (along : (u : ℕ) → Mov
         go true e = ap (λ (x : Bool). cond x (numbers (comes m t)) []) (hopper t e)
         go false e = part-nil (p t) ∙ sym (part-nil b)
 
-    gone : List·Permᴰ (cat C (λ t. cond (p t) (out t) [])) (cond b (cat 4 (went m)) [])
+    gone : List·Permᴰ (cat C (λ t. cond (p t) (out t) [])) (cond b (cat 4 (deliveredTo m)) [])
     gone = List·Permᴰ·trans (perm-of (ap (cat C) (fun-ext out-part))) (go b)
       where
-        go : (b : Bool) → List·Permᴰ (cat C (λ t. cond b (out t) [])) (cond b (cat 4 (went m)) [])
+        go : (b : Bool) → List·Permᴰ (cat C (λ t. cond b (out t) [])) (cond b (cat 4 (deliveredTo m)) [])
         go true = out-all
         go false = perm-of (cat-nil {A = ℕ} C)
 
-    pub round-parted : List·Permᴰ (numbersWhere (afterRound m) p ++ cond b (cat 4 (went m)) []) (numbersWhere m p)
+    pub round-parted : List·Permᴰ (numbersWhere (afterRound m) p ++ cond b (cat 4 (deliveredTo m)) []) (numbersWhere m p)
     unfolding numbersWhere
     round-parted =
         let new : ℕ → List ℕ = λ t. cond (p t) (numbers (membersOf (afterRound m) t)) [] in
         let off : ℕ → List ℕ = λ t. cond (p t) (out t) [] in
         let here : cat (total (afterRound m .settings)) new ≡ cat C new = ap (λ (s : Settings). cat (total s) new) (round-settings m) in
-        List·Permᴰ·trans (perm-of (ap (λ (x : List ℕ). x ++ cond b (cat 4 (went m)) []) here))
+        List·Permᴰ·trans (perm-of (ap (λ (x : List ℕ). x ++ cond b (cat 4 (deliveredTo m)) []) here))
         (List·Permᴰ·trans (Permᴰ·append-left (cat C new) (Permᴰ·symm gone))
         (List·Permᴰ·trans (Permᴰ·symm (cat-append C new off))
         (List·Permᴰ·trans (Permᴰ·symm (cat-perm C (λ t. cond (p t) (numbers (comes m t ++ stays m t)) []) (λ t. new t ++ off t)
@@ -182,7 +182,7 @@ module _ (p : ℕ → Bool) (b : Bool) where
     Parted c = List·Permᴰ (numbersWhere (view (outcome f c .floor)) p ++ cond b (cat 4 (outcome f c .reported)) []) (numbersWhere (view f) p)
 
     -- a call that is no round changes the layouts at most
-    still : (c : Call) → Typed c → disturbs f c ≡ false → isRound c ≡ false → outcome f c .reported ≡ none → Parted c
+    still : (c : Call) → InRange c → disturbs f c ≡ false → isRound c ≡ false → outcome f c .reported ≡ none → Parted c
     unfolding floorAfter rounds numbersWhere
     still c h q r e =
         let R = quiet-rounds f w (c ∷ []) (h, tt) (q, tt) in
@@ -192,7 +192,7 @@ module _ (p : ℕ → Bool) (b : Bool) where
         let none-out : cond b (cat 4 (outcome f c .reported)) [] ≡ [] = ap (λ (g : ℕ → List ℕ). cond b (cat 4 g) []) e ∙ nothing in
         perm-of ((λ i. same i ++ none-out i) ∙ append-nil (numbersWhere (view f) p))
 
-    one : (c : Call) → Typed c → disturbs f c ≡ false → Parting (view f .settings) (runsOf (view f)) p b → Parted c
+    one : (c : Call) → InRange c → disturbs f c ≡ false → Parting (view f .settings) (runsOf (view f)) p b → Parted c
     unfolding outcome
     one (book t x) h q P = still (book t x) h q refl refl
     one (anywhere t n) h q P = still (anywhere t n) h q refl refl
@@ -210,11 +210,11 @@ module _ (p : ℕ → Bool) (b : Bool) where
     one (list l) h q P = still (list l) h q refl refl
 
     -- the same tiles run after it
-    same-runs : (c : Call) → Typed c → disturbs f c ≡ false → runsOf (view (outcome f c .floor)) ≡ runsOf (view f)
+    same-runs : (c : Call) → InRange c → disturbs f c ≡ false → runsOf (view (outcome f c .floor)) ≡ runsOf (view f)
     unfolding floorAfter latest runsAfter
     same-runs c h q = fun-ext (λ t. sym (list-runs f w (c ∷ []) (h, tt) t) ∙ quiet-runs f [] (c ∷ []) (q, tt) t)
 
-    still-parting : (c : Call) → Typed c → disturbs f c ≡ false → Parting (view f .settings) (runsOf (view f)) p b → Parting (view (outcome f c .floor) .settings) (runsOf (view (outcome f c .floor))) p b
+    still-parting : (c : Call) → InRange c → disturbs f c ≡ false → Parting (view f .settings) (runsOf (view f)) p b → Parting (view (outcome f c .floor) .settings) (runsOf (view (outcome f c .floor))) p b
     still-parting c h q P =
         subst (λ (s : Settings). Parting s (runsOf (view (outcome f c .floor))) p b) (sym (call-keeps f w c h .1 .same-settings))
         (subst (λ (r : ℕ → Bool). Parting (view f .settings) r p b) (sym (same-runs c h q)) P)
@@ -223,7 +223,7 @@ module _ (p : ℕ → Bool) (b : Bool) where
   both : (g h : ℕ → List ℕ) → List·Permᴰ (cond b (cat 4 (λ k. g k ++ h k)) []) (cond b (cat 4 g) [] ++ cond b (cat 4 h) [])
   both g h = List·Permᴰ·trans (part-perm b (cat-append 4 g h)) (perm-of (part-append b (cat 4 g) (cat 4 h)))
 
-  pub list-parted : (f : Floor) → wellFormed f ≡ true → (ds : List Call) → All Typed ds → Quiet f ds → Parting (view f .settings) (runsOf (view f)) p b
+  pub list-parted : (f : Floor) → wellFormed f ≡ true → (ds : List Call) → All InRange ds → Quiet f ds → Parting (view f .settings) (runsOf (view f)) p b
       → List·Permᴰ (numbersWhere (view (floorAfter f ds)) p ++ cond b (reportedAll f ds) []) (numbersWhere (view f) p)
   unfolding floorAfter reportedAll reportedIn
   list-parted f w [] h q P = perm-of (ap (λ (x : List ℕ). numbersWhere (view f) p ++ x) nothing ∙ append-nil (numbersWhere (view f) p))

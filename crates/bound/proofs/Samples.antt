@@ -13,8 +13,8 @@ use Rattle.floor.specs.Memory.{zeroFloor, view, refitted}
 use Rattle.floor.specs.Bound.{bound}
 use Rattle.floor.specs.Live.{connectedCount}
 use Rattle.floor.proofs.Calling.{settings, several, fresh as freshFloor, book as bookOn, Table, holds}
-use Rattle.floor.proofs.Shown.{Shows}
-use Rattle.floor.proofs.Made.{Made, begun, fresh, book, stop, repair, rounds, floorOf, made, made-shows, holdBy}
+use Rattle.floor.proofs.CallsByValue.{Shows}
+use Rattle.floor.proofs.TablesByValue.{Made, begun, fresh, book, stop, repair, rounds, floorOf, made, made-shows, holdBy}
 use Rattle.bound.specs.declared.Bounded.{Bounded}
 use Rattle.bound.specs.Answer.{numbersWhere, unconnectedNumbers, boundAnswer}
 use Rattle.bound.proofs.Within.{bound-accepted}

@@ -18,7 +18,7 @@ use Rattle.floor.specs.Demand3.{Call, floorAfter, reportedAll, latest, runsAfte
 use Rattle.floor.proofs.Sound.{Sound}
 use Rattle.floor.proofs.Pack.{well-sound}
 use Rattle.floor.proofs.Answers.{formed}
-use Rattle.floor.proofs.Nearest.{laid}
+use Rattle.floor.proofs.Nearest.{routable}
 use Rattle.floor.proofs.Paths.{live-iff}
 use Rattle.floor.proofs.Clearing.{same-live}
 use Rattle.floor.proofs.Lists.{list-keeps}
@@ -48,7 +48,7 @@ module _ (g : Floor) (w : wellFormed g ≡ true) where
   -- ---- having a live path parts the floor: the hoppers have one
   hopper-live : (t : ℕ) → isHopper (m .settings) t ≡ true → live t ≡ true
   hopper-live t h =
-      let L = laid m S in
+      let L = routable m S in
       live-iff (m .settings) (runsOf m) L t .0 (here h (L .run-on t (L .hop-runs t h)) (L .hop-runs t h))
 
   parting : Parting (m .settings) (runsOf m) live true
@@ -74,7 +74,7 @@ module _ (g : Floor) (w : wellFormed g ≡ true) where
     none-live = cat-empty (total (last .settings)) (λ t. cond (live t) (numbers (membersOf last t)) []) (λ t _. go t (live t) refl)
       where
         go : (t : ℕ) (b : Bool) → live t ≡ b → cond b (numbers (membersOf last t)) [] ≡ []
-        go t true e = ap (λ (l : List Canister). numbers l) (emptied ds F t (live-iff (m .settings) (runsOf m) (laid m S) t .1 e))
+        go t true e = ap (λ (l : List Canister). numbers l) (emptied ds F t (live-iff (m .settings) (runsOf m) (routable m S) t .1 e))
         go t false e = refl
 
     delivered : List·Permᴰ (reportedAll g ds) (numbersWhere m live)
@@ -95,7 +95,7 @@ module _ (g : Floor) (w : wellFormed g ≡ true) where
         counted = ap (λ (r : Bounded). r .connected) A ∙ count-numbers m (runsOf m);
         others = ap (λ (r : Bounded). r .unconnected) A;
         aboard = two-parts m (runsOf m);
-        paths = live-iff (m .settings) (runsOf m) (laid m S);
+        paths = live-iff (m .settings) (runsOf m) (routable m S);
         at-least = subst (λ (r : Bounded). 1 ≤ r .rounds) (sym A) (bound-some m S (runsOf m));
         at-most = subst (λ (r : Bounded). r .rounds ≤ 63 * (1 + 1008 * 59999)) (sym A) (bound-most m S (runsOf m));
         emptied = emptied;

@@ -12,12 +12,12 @@ use Rattle.floor.specs.Memory.{view}
 use Rattle.floor.specs.Well.{wellFormed}
 use Rattle.floor.specs.Bound.{bound}
 use Rattle.floor.specs.Live.{LivePath, connected}
-use Rattle.floor.specs.Demand3.{Call, Typed, floorAfter, reportedAll, runsAfter, Quiet, roundsIn}
+use Rattle.floor.specs.Demand3.{Call, InRange, floorAfter, reportedAll, runsAfter, Quiet, roundsIn}
 use Rattle.bound.specs.Answer.{connectedNumbers, unconnectedNumbers, boundAnswer}
 
 -- a further list with no accepted booking, stop or repair, and at least as many rounds as the call answers
 abbrev pub Further : Floor → List Call → Type 0
-Further now ds = All Typed ds × (Quiet now ds × (boundAnswer now .rounds ≤ roundsIn ds))
+Further now ds = All InRange ds × (Quiet now ds × (boundAnswer now .rounds ≤ roundsIn ds))
 
 -- now: the floor that is asked; run: which tiles run
 pub record WithinBound (now : Floor) (run : ℕ → Bool) : Type 0 where
@@ -39,4 +39,4 @@ pub record WithinBound (now : Floor) (run : ℕ → Bool) : Type 0 where
 
 -- the theorem: on the floor after every list of calls from a well-formed one, with the tiles that run by the history, as in demand 3
 abbrev pub AtTheLatest : Type 0
-AtTheLatest = (f : Floor) → wellFormed f ≡ true → (cs : List Call) → All Typed cs → WithinBound (floorAfter f cs) (runsAfter f cs)
+AtTheLatest = (f : Floor) → wellFormed f ≡ true → (cs : List Call) → All InRange cs → WithinBound (floorAfter f cs) (runsAfter f cs)

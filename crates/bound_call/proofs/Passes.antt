@@ -20,7 +20,7 @@ use Rattle.floor.specs.Settings.{total, isHopper}
 use Rattle.floor.specs.Grid.{neighbour}
 use Rattle.floor.specs.Layouts.{setBelow}
 use Rattle.floor.specs.Live.{reached, connected}
-use Rattle.floor.proofs.Laying.{below-bit}
+use Rattle.floor.proofs.SoundLayouts.{below-bit}
 
 -- a set made of what passes
 pub made-bit : (p : ℕ → Bool) (n x : ℕ) → x ≡ setBelow p n → (t : ℕ) → t < n → bit x t ≡ p t

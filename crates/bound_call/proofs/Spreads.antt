@@ -18,7 +18,7 @@ use Rattle.floor.specs.Settings.{total, isHopper, Ranged}
 use Rattle.floor.specs.Grid.{neighbour}
 use Rattle.floor.specs.Layouts.{setBelow}
 use Rattle.floor.proofs.GridBranches.{some-rest}
-use Rattle.floor.proofs.Laying.{below-bit}
+use Rattle.floor.proofs.SoundLayouts.{below-bit}
 use Rattle.bound_call.specs.Sets.{aboveFirst}
 use Rattle.bound_call.proofs.Shifts.{shr-bit, shl-bit, either-bit}
 

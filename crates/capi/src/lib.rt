@@ -7,7 +7,7 @@ ghost use Rattle.floor.specs.Anywhere.{anywhereAnswer};
 ghost use Rattle.floor.specs.Bookings.{listAnswer, listAfter};
 ghost use Rattle.bound.specs.Answer.{boundAnswer};
 ghost use Rattle.image.specs.Image.{loadAnswer, writeAnswer, written};
-ghost use Rattle.throughput.specs.Window.{feedTold};
+ghost use Rattle.throughput.specs.Window.{feedValues};
 ghost use Rattle.page_call.specs.Page.{pageAnswer, paged};
 ghost use Rattle.plan.specs.Plans.{offerAnswer, releaseAnswer, reportAnswer};
 ghost use Rattle.barge.specs.Barges.{bargeBook, bargeBookAnywhere, bargeStop, bargeRepair, bargeRound};
@@ -31,8 +31,8 @@ use plan::Offered;
 use plan::Plan;
 use plan::Planned;
 use plan::Released;
+use throughput::FedValues;
 use throughput::Throughput;
-use throughput::Told;
 
 #[no_mangle]
 pub extern "C" fn ceromby_fresh(settings: Settings) -> Answer
@@ -133,10 +133,10 @@ pub extern "C" fn ceromby_write(floor: Floor, buffer: &mut [u8]) -> Written
 }
 
 #[no_mangle]
-pub extern "C" fn ceromby_feed(throughput: Throughput, count: u32) -> Told
-    ensures { λ r. ⌜ r ≡ feedTold throughput count ⌝ }
+pub extern "C" fn ceromby_feed(throughput: Throughput, count: u32) -> FedValues
+    ensures { λ r. ⌜ r ≡ feedValues throughput count ⌝ }
 {
-    throughput::feed_told(throughput, count)
+    throughput::feed_values(throughput, count)
 }
 
 #[no_mangle]

@@ -55,7 +55,7 @@ gapCases =
     let eastShort = book 6 31 0 1 east in
     let pair = rounds 1 (book 6 50 0 5 (book 5 0 0 1 (rounds 3 (stop 4 (stop 0 (fresh 3 2 2)))))) in
     let anew = book 7 39 0 3 (stop 5 pair) in
-    let held = book 7 70 0 3 pair in
+    let blocked = book 7 70 0 3 pair in
     -- west: a ≥ d
     (grant 1 (book 6 40 0 1 west), 0 ∷ 1 ∷ [])
     ∷ (on 0 (rounds 1 (book 6 40 0 1 west)), 0 ∷ 5 ∷ 20 ∷ 0 ∷ [])
@@ -85,8 +85,8 @@ gapCases =
     ∷ (grant 3 anew, 0 ∷ 0 ∷ [])
     ∷ (turn 3 (rounds 1 anew), 0 ∷ 1 ∷ [])
     -- both want, and only west has the gap: the turn stays with east
-    ∷ (grant 3 held, 0 ∷ 0 ∷ [])
-    ∷ (turn 3 (rounds 1 held), 0 ∷ 4 ∷ [])
+    ∷ (grant 3 blocked, 0 ∷ 0 ∷ [])
+    ∷ (turn 3 (rounds 1 blocked), 0 ∷ 4 ∷ [])
     -- every canister here: one with the gap and one without, either first
     ∷ (grant 1 (book 7 39 40 1 (book 6 70 0 1 west)), 0 ∷ 0 ∷ [])
     ∷ (grant 1 (book 7 70 0 1 (book 6 39 40 1 west)), 0 ∷ 0 ∷ [])
@@ -99,19 +99,19 @@ gap-cases = refl
 -- ---- turns and grants
 unfoldable turnCases : Table
 turnCases =
-    let lone = book 5 0 0 0 (fresh 2 1 1) in
+    let single = book 5 0 0 0 (fresh 2 1 1) in
     let three = book 7 50 0 5 (book 6 0 0 2 (book 5 0 0 1 (fresh 3 2 3))) in
     let gone = stop 2 (rounds 1 three) in
     let plus = book 8 0 0 7 (book 7 0 0 5 (book 6 0 0 3 (book 5 0 0 1 (fresh 3 3 4)))) in
     let beside = stop 1 (book 5 0 0 0 (rounds 2 (fresh 3 1 2))) in
     let still = stop 1 (book 5 50 0 1 (rounds 2 (fresh 3 1 2))) in
     -- a lone wanting side keeps the hopper's turn; when none wants, turn none and no grant
-    (grant 1 lone, 0 ∷ 1 ∷ [])
-    ∷ (turn 1 (rounds 1 lone), 0 ∷ 1 ∷ [])
-    ∷ (grant 1 (rounds 1 lone), 0 ∷ 1 ∷ [])
-    ∷ (turn 1 (rounds 4 lone), 0 ∷ 1 ∷ [])
-    ∷ (grant 1 (rounds 4 lone), 0 ∷ 0 ∷ [])
-    ∷ (turn 1 (rounds 5 lone), 0 ∷ 0 ∷ [])
+    (grant 1 single, 0 ∷ 1 ∷ [])
+    ∷ (turn 1 (rounds 1 single), 0 ∷ 1 ∷ [])
+    ∷ (grant 1 (rounds 1 single), 0 ∷ 1 ∷ [])
+    ∷ (turn 1 (rounds 4 single), 0 ∷ 1 ∷ [])
+    ∷ (grant 1 (rounds 4 single), 0 ∷ 0 ∷ [])
+    ∷ (turn 1 (rounds 5 single), 0 ∷ 0 ∷ [])
     -- the hopper between four that want: west, south, north, east, then west
     ∷ (grant 4 plus, 0 ∷ 1 ∷ [])
     ∷ (grant 4 (rounds 1 plus), 0 ∷ 2 ∷ [])

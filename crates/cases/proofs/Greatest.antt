@@ -23,7 +23,7 @@ use Rattle.floor.specs.Live.{reached, connected, connectedCount}
 use Rattle.floor.specs.Demand3.{floorAfter}
 use Rattle.floor.proofs.Well.{sound-fact}
 use Rattle.floor.proofs.Capacity.{view-packed, well-pack}
-use Rattle.floor.proofs.Shown.{Shows}
+use Rattle.floor.proofs.CallsByValue.{Shows}
 use Rattle.bound.specs.declared.Bounded.{Bounded}
 use Rattle.bound.specs.Answer.{numbersWhere, unconnectedNumbers, boundAnswer}
 use Rattle.bound.proofs.Within.{within-bound}

@@ -8,10 +8,10 @@ use lib.Dec.{ltb, eqb}
 use lib.ListN.{length, getD, take, drop, take-append-drop, length-drop, length-map, List·getD-map}
 use lib.Seq.{take-take, take-all, length-take-le, getD-take, getD-drop}
 use borrow.Author.Tests.{lt-ltb, eqb-true}
-use Rattle.laws.specs.Define.{cat, keep, allOf, pairsOf}
+use Rattle.laws.specs.Define.{cat, filter, allOf, pairsOf}
 use Rattle.laws.specs.Every.{All, Pairs}
 use Rattle.laws.proofs.Tests.{and-left, and-right}
-use Rattle.laws.proofs.Lists.{all-imp, all-map, all-true, keep-all, keep-none, keep-append, map-append, perm-of, all-place, pairs-place}
+use Rattle.laws.proofs.Lists.{all-imp, all-map, all-true, filter-all, filter-none, filter-append, map-append, perm-of, all-place, pairs-place}
 use Rattle.floor.specs.declared.Canister.{Canister}
 use Rattle.floor.specs.declared.Tile.{Tile}
 use Rattle.floor.specs.declared.Floor.{Floor}
@@ -21,7 +21,7 @@ use Rattle.floor.specs.Memory.{zeroCanister, headOf, stateOf, view, head, isZer
 use Rattle.floor.specs.Well.{headSound, membersSound, tileSound}
 use Rattle.floor.proofs.Rows.{view-at, rest-zero}
 use Rattle.check_unique.specs.Differ.{differ, Runs}
-use Rattle.check_unique.proofs.Apart.{differ-keep, runs-of}
+use Rattle.check_unique.proofs.Apart.{differ-filter, runs-of}
 use Rattle.check_floor.specs.Code.{counted}
 use Rattle.check_floor.proofs.Branches.{zero-off, count-fits}
 use Rattle.check_floor.proofs.Joins.{map-take, map-drop, cat-same, cat-rest, cat-length, blocks-perm}
@@ -83,24 +83,24 @@ number-zero : (c : Canister) → isZeroCanister c ≡ true → ltb 0 (c .number)
 unfolding isZeroCanister
 number-zero c h = rw (eqb-true (c .number) 0 (and-left (eqb (c .number) 0) _ h))
 
-kept : (n : ℕ) (l : List Canister) → All (λ c. 0 < c .number) (take n l) → allOf isZeroCanister (drop n l) ≡ true → keep (λ k. ltb 0 k) (numbers l) ≡ numbers (take n l)
+kept : (n : ℕ) (l : List Canister) → All (λ c. 0 < c .number) (take n l) → allOf isZeroCanister (drop n l) ≡ true → filter (λ k. ltb 0 k) (numbers l) ≡ numbers (take n l)
 kept n l pos free =
-    ap (λ (x : List Canister). keep (λ k. ltb 0 k) (numbers x)) (sym (take-append-drop n l))
-    ∙ ap (keep (λ k. ltb 0 k)) (map-append (λ (c : Canister). c .number) (take n l) (drop n l))
-    ∙ keep-append (λ k. ltb 0 k) (numbers (take n l)) (numbers (drop n l))
+    ap (λ (x : List Canister). filter (λ k. ltb 0 k) (numbers x)) (sym (take-append-drop n l))
+    ∙ ap (filter (λ k. ltb 0 k)) (map-append (λ (c : Canister). c .number) (take n l) (drop n l))
+    ∙ filter-append (λ k. ltb 0 k) (numbers (take n l)) (numbers (drop n l))
     ∙ two
   where
-    one : keep (λ k. ltb 0 k) (numbers (take n l)) ≡ numbers (take n l)
+    one : filter (λ k. ltb 0 k) (numbers (take n l)) ≡ numbers (take n l)
     one =
         let yes-each = all-imp (λ c. 0 < c .number) (λ c. ltb 0 (c .number) ≡ true) (take n l) (λ c h. lt-ltb 0 (c .number) h) pos in
-        keep-all (λ k. ltb 0 k) _ (all-map (λ k. ltb 0 k ≡ true) (λ (c : Canister). c .number) (take n l) yes-each)
+        filter-all (λ k. ltb 0 k) _ (all-map (λ k. ltb 0 k ≡ true) (λ (c : Canister). c .number) (take n l) yes-each)
 
-    none : keep (λ k. ltb 0 k) (numbers (drop n l)) ≡ []
+    none : filter (λ k. ltb 0 k) (numbers (drop n l)) ≡ []
     none =
         let no-each = all-imp (λ c. isZeroCanister c ≡ true) (λ c. ltb 0 (c .number) ≡ false) (drop n l) number-zero (all-true isZeroCanister (drop n l) free) in
-        keep-none (λ k. ltb 0 k) _ (all-map (λ k. ltb 0 k ≡ false) (λ (c : Canister). c .number) (drop n l) no-each)
+        filter-none (λ k. ltb 0 k) _ (all-map (λ k. ltb 0 k ≡ false) (λ (c : Canister). c .number) (drop n l) no-each)
 
-    two : keep (λ k. ltb 0 k) (numbers (take n l)) ++ keep (λ k. ltb 0 k) (numbers (drop n l)) ≡ numbers (take n l)
+    two : filter (λ k. ltb 0 k) (numbers (take n l)) ++ filter (λ k. ltb 0 k) (numbers (drop n l)) ≡ numbers (take n l)
     two = rw (one, none) (append-nil (numbers (take n l)))
 
 -- ---- all tiles
@@ -115,22 +115,22 @@ module _ (f : Floor) (lc : length (f .canisters) ≡ 1024) (few : total (f .sett
   count-view = ap length numbers-view ∙ cat-length (f .tiles) 64 (λ t. numbers (usedOf f t)) (λ t h. length-map (usedOf f t) (λ c. c .number) ∙ used-length f t lc h (fit t h))
 
   pub differ-view : ((t : ℕ) → t < 64 → All (λ c. 0 < c .number) (usedOf f t)) → differ (numbers (f .canisters)) ≡ pairsOf (λ x y. not (eqb x y)) (numbersOn (view f))
-  differ-view pos = differ-keep (numbers (f .canisters)) (List·Permᴰ·trans (perm-of whole) (List·Permᴰ·trans (blocks-perm (λ k. ltb 0 k) (numbers (f .canisters)) 64) (perm-of (each ∙ sym numbers-view))))
+  differ-view pos = differ-filter (numbers (f .canisters)) (List·Permᴰ·trans (perm-of whole) (List·Permᴰ·trans (blocks-perm (λ k. ltb 0 k) (numbers (f .canisters)) 64) (perm-of (each ∙ sym numbers-view))))
     where
       len : length (numbers (f .canisters)) ≤ 16 * 64
       len = omega (arith, length-map (f .canisters) (λ c. c .number))
 
-      whole : keep (λ k. ltb 0 k) (numbers (f .canisters)) ≡ keep (λ k. ltb 0 k) (take (16 * 64) (numbers (f .canisters)))
-      whole = ap (keep (λ k. ltb 0 k)) (sym (take-all (16 * 64) (numbers (f .canisters)) len))
+      whole : filter (λ k. ltb 0 k) (numbers (f .canisters)) ≡ filter (λ k. ltb 0 k) (take (16 * 64) (numbers (f .canisters)))
+      whole = ap (filter (λ k. ltb 0 k)) (sym (take-all (16 * 64) (numbers (f .canisters)) len))
 
       part : (t : ℕ) → take 16 (drop (16 * t) (numbers (f .canisters))) ≡ numbers (block (f .canisters) t)
       part t = ap (take 16) (sym (map-drop (λ (c : Canister). c .number) (16 * t) (f .canisters))) ∙ sym (map-take (λ (c : Canister). c .number) 16 (drop (16 * t) (f .canisters)))
 
-      kept-part : (t : ℕ) → t < 64 → keep (λ k. ltb 0 k) (take 16 (drop (16 * t) (numbers (f .canisters)))) ≡ numbers (usedOf f t)
-      kept-part t h = ap (keep (λ k. ltb 0 k)) (part t) ∙ kept (headOf f t .count) (block (f .canisters) t) (pos t h) (rest-fit f t (fit t h))
+      kept-part : (t : ℕ) → t < 64 → filter (λ k. ltb 0 k) (take 16 (drop (16 * t) (numbers (f .canisters)))) ≡ numbers (usedOf f t)
+      kept-part t h = ap (filter (λ k. ltb 0 k)) (part t) ∙ kept (headOf f t .count) (block (f .canisters) t) (pos t h) (rest-fit f t (fit t h))
 
-      each : cat 64 (λ t. keep (λ k. ltb 0 k) (take 16 (drop (16 * t) (numbers (f .canisters))))) ≡ cat 64 (λ t. numbers (usedOf f t))
-      each = cat-same 64 (λ t. keep (λ k. ltb 0 k) (take 16 (drop (16 * t) (numbers (f .canisters))))) (λ t. numbers (usedOf f t)) kept-part
+      each : cat 64 (λ t. filter (λ k. ltb 0 k) (take 16 (drop (16 * t) (numbers (f .canisters))))) ≡ cat 64 (λ t. numbers (usedOf f t))
+      each = cat-same 64 (λ t. filter (λ k. ltb 0 k) (take 16 (drop (16 * t) (numbers (f .canisters))))) (λ t. numbers (usedOf f t)) kept-part
 
 -- ---- the places as the test for differing numbers wants them
 number-at : (cs : List Canister) (t i : ℕ) → i < 16 → getD (numbers cs) (16 * t + i) 0 ≡ getD (block cs t) i zeroCanister .number

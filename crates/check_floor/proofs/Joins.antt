@@ -7,9 +7,9 @@ use native.Mathlib.Omega.{arith}
 use native.Mathlib.Decide.{ℕ-discrete}
 use lib.ListN.{length, getD, take, drop, length-append}
 use lib.Seq.{take-add}
-use Rattle.laws.specs.Define.{cat, keep}
+use Rattle.laws.specs.Define.{cat, filter}
 use Rattle.laws.specs.Every.{All}
-use Rattle.laws.proofs.Lists.{all-append, keep-append, swap-append}
+use Rattle.laws.proofs.Lists.{all-append, filter-append, swap-append}
 use Rattle.floor.specs.declared.Tile.{Tile}
 use Rattle.floor.specs.Memory.{zeroTile}
 use Rattle.check_floor.specs.Code.{counted}
@@ -52,11 +52,11 @@ cat-length ts zero g h = refl
 cat-length ts (suc n) g h = omega (arith, length-append (g n) (cat n g), h n (omega arith), cat-length ts n g (λ t l. h t (omega arith)))
 
 -- what is kept of a list, block by block
-pub blocks-perm : {A : Type 0} (p : A → Bool) (l : List A) (n : ℕ) → List·Permᴰ (keep p (take (16 * n) l)) (cat n (λ t. keep p (take 16 (drop (16 * t) l))))
-unfolding cat keep
+pub blocks-perm : {A : Type 0} (p : A → Bool) (l : List A) (n : ℕ) → List·Permᴰ (filter p (take (16 * n) l)) (cat n (λ t. filter p (take 16 (drop (16 * t) l))))
+unfolding cat filter
 blocks-perm p l zero = List·Permᴰ·nil
 blocks-perm p l (suc n) =
     let e : 16 * suc n ≡ 16 * n + 16 = omega arith in
-    rw (e, take-add (16 * n) 16 l, keep-append p (take (16 * n) l) (take 16 (drop (16 * n) l)))
-    (List·Permᴰ·trans (swap-append (keep p (take (16 * n) l)) (keep p (take 16 (drop (16 * n) l))))
-    (Permᴰ·append-left (keep p (take 16 (drop (16 * n) l))) (blocks-perm p l n)))
+    rw (e, take-add (16 * n) 16 l, filter-append p (take (16 * n) l) (take 16 (drop (16 * n) l)))
+    (List·Permᴰ·trans (swap-append (filter p (take (16 * n) l)) (filter p (take 16 (drop (16 * n) l))))
+    (Permᴰ·append-left (filter p (take 16 (drop (16 * n) l))) (blocks-perm p l n)))

@@ -132,8 +132,8 @@ pub fn well_formed(f: Floor) -> bool
         return false;
     }
     let layouts = f.layouts;
-    let laid = layouts_ok(s, layouts);
-    if !laid {
+    let layouts_sound = layouts_ok(s, layouts);
+    if !layouts_sound {
         return false;
     }
     scan(f)

@@ -168,11 +168,11 @@ heads-step ks hs i len pos heads h k = go (ℕ-discrete h (at ks i % 2039))
             last m a b e (no z) = l .2 m a (omega arith) e
 
 -- ---- what is told at the end
-pub told-unlike : (ks : List ℕ) → Unlike ks (length ks) → differ ks ≡ true
-told-unlike ks u = r-differ ks .1 (pairs-each Apart 0 ks (λ i j a b. u i j a b))
+pub verdict-unlike : (ks : List ℕ) → Unlike ks (length ks) → differ ks ≡ true
+verdict-unlike ks u = r-differ ks .1 (pairs-each Apart 0 ks (λ i j a b. u i j a b))
 
-pub told-equal : (ks : List ℕ) (j k : ℕ) → j < k → k < length ks → at ks j ≡ at ks k → 0 < at ks k → differ ks ≡ false
-told-equal ks j k a b e pos = go (differ ks) refl
+pub verdict-equal : (ks : List ℕ) (j k : ℕ) → j < k → k < length ks → at ks j ≡ at ks k → 0 < at ks k → differ ks ≡ false
+verdict-equal ks j k a b e pos = go (differ ks) refl
   where
     go : (t : Bool) → differ ks ≡ t → differ ks ≡ false
     go true h = absurd (omega (arith, pos, pairs-place Apart 0 ks (r-differ ks .0 h) j k a b e))

@@ -67,11 +67,11 @@ pub fn numbers_differ(keys: [u32; 1024]) -> bool
     requires { ⌜ Runs keys ⌝ }
     ensures { λ r. ⌜ r ≡ differ keys ⌝ }
 {
-    let told = chained(keys);
-    if told == EQUAL {
+    let verdict = chained(keys);
+    if verdict == EQUAL {
         return false;
     }
-    if told == DIFFERENT {
+    if verdict == DIFFERENT {
         return true;
     }
     all_differ(keys)

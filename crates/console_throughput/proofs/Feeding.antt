@@ -9,13 +9,13 @@ use lib.ListN.{length, getD}
 use Rattle.laws.specs.Define.{tab}
 use Rattle.floor.specs.declared.Delivery.{Delivery}
 use Rattle.throughput.specs.declared.Throughput.{Throughput}
-use Rattle.throughput.specs.declared.Told.{Told}
-use Rattle.throughput.specs.Window.{feedTold}
+use Rattle.throughput.specs.declared.FedValues.{FedValues}
+use Rattle.throughput.specs.Window.{feedValues}
 use Rattle.console_throughput.specs.declared.Followed.{Followed}
 use Rattle.console_throughput.specs.Follow.{fedAt, followedBy}
 
-abbrev pub readAt : List Throughput → List Delivery → ℕ → Told
-readAt ts ds k = feedTold (getD ts k (record { last = nan; least = nan; greatest = nan; rounds = 0; deliveries = 0; closed = 0 })) (getD ds k (record { numbers = []; count = 0 }) .count)
+abbrev pub readAt : List Throughput → List Delivery → ℕ → FedValues
+readAt ts ds k = feedValues (getD ts k (record { last = nan; least = nan; greatest = nan; rounds = 0; deliveries = 0; closed = 0 })) (getD ds k (record { numbers = []; count = 0 }) .count)
 
 abbrev pub Fed : List Throughput → List Delivery → Followed
 Fed ts ds = record { records = readAt ts ds 0 .throughput ∷ readAt ts ds 1 .throughput ∷ readAt ts ds 2 .throughput ∷ readAt ts ds 3 .throughput ∷ []; closed = eqb (readAt ts ds 0 .kind) 2 }

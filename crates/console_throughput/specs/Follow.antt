@@ -7,14 +7,14 @@ use Rattle.laws.specs.Define.{tab}
 use Rattle.floor.specs.declared.Delivery.{Delivery}
 use Rattle.floor.specs.Calls.{noDelivery}
 use Rattle.throughput.specs.declared.Throughput.{Throughput}
-use Rattle.throughput.specs.declared.Told.{Told}
-use Rattle.throughput.specs.Window.{feedTold}
+use Rattle.throughput.specs.declared.FedValues.{FedValues}
+use Rattle.throughput.specs.Window.{feedValues}
 use Rattle.throughput.specs.Lists.{zeroThroughput}
 use Rattle.console_throughput.specs.declared.Followed.{Followed}
 
 -- what feeding record k tells: the count of the hopper with k hoppers before it
-unfoldable pub fedAt : List Throughput → List Delivery → ℕ → Told
-fedAt ts ds k = feedTold (getD ts k zeroThroughput) (getD ds k noDelivery .count)
+unfoldable pub fedAt : List Throughput → List Delivery → ℕ → FedValues
+fedAt ts ds k = feedValues (getD ts k zeroThroughput) (getD ds k noDelivery .count)
 
 -- all four fed; closed tells whether the first closed a window: begun and fed together, all four have the same rounds
 unfoldable pub followedBy : List Throughput → List Delivery → Followed

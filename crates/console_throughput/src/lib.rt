@@ -2,7 +2,7 @@
 ghost use mathlib.Core.Path.{_≡_};
 ghost use lib.ListN.{replicate};
 ghost use Rattle.throughput.specs.Lists.{zeroThroughput};
-ghost use Rattle.throughput.specs.Window.{feedTold};
+ghost use Rattle.throughput.specs.Window.{feedValues};
 ghost use Rattle.console_throughput.specs.Follow.{followedBy};
 use console_say::others;
 use floor::Delivery;
@@ -23,9 +23,9 @@ pub struct Followed {
 }
 
 fn fed(t: Throughput, d: Delivery) -> Throughput
-    ensures { λ r. ⌜ r ≡ feedTold t (d .count) .throughput ⌝ }
+    ensures { λ r. ⌜ r ≡ feedValues t (d .count) .throughput ⌝ }
 {
-    let told = throughput::feed_told(t, d.count as u32);
+    let told = throughput::feed_values(t, d.count as u32);
     told.throughput
 }
 
@@ -33,7 +33,7 @@ pub fn follow(records: [Throughput; 4], deliveries: [Delivery; 4]) -> Followed
     ensures { λ r. ⌜ r ≡ followedBy records deliveries ⌝ }
 {
     let taken = deliveries[0];
-    let told = throughput::feed_told(records[0], taken.count as u32);
+    let told = throughput::feed_values(records[0], taken.count as u32);
     let first = told.throughput;
     let second = fed(records[1], deliveries[1]);
     let third = fed(records[2], deliveries[2]);

@@ -10,19 +10,19 @@ use Rattle.floor.specs.Model.{nextOf, membersOf}
 use Rattle.floor.specs.Memory.{view}
 use Rattle.floor.specs.Anywhere.{anywhereAnswer}
 use Rattle.floor.specs.Placing.{Free, LowestPlace, bookedAt}
-use Rattle.floor.specs.Demand3.{Call, book, anywhere, stop, round, Typed, outcome, floorAfter, disturbs}
-use Rattle.floor.specs.Together.{placeTo, placed, unplaced, BothBooked}
-use Rattle.floor.specs.Fairness.{wants, grantsIn, Fair}
+use Rattle.floor.specs.Demand3.{Call, book, anywhere, stop, round, InRange, outcome, floorAfter, disturbs}
+use Rattle.floor.specs.CommutingCalls.{placeTo, placed, unplaced, BothBooked}
+use Rattle.floor.specs.BoundedBypass.{wants, grantsIn, Fair}
 use Rattle.floor.proofs.Calling.{can, holds}
-use Rattle.floor.proofs.Shown.{Shows, refusalBy, placeBy, valueBy, shows-refusal, shows-place, shows-call}
-use Rattle.floor.proofs.Walked.{disturbsBy, quietBy, unpressedBy, waitingBy, call-disturbs, unpressed, waiting}
-use Rattle.floor.proofs.Made.{Made, begun, fresh, book as put, floorOf, made, made-shows, holdBy}
+use Rattle.floor.proofs.CallsByValue.{Shows, refusalBy, placeBy, valueBy, shows-refusal, shows-place, shows-call}
+use Rattle.floor.proofs.ListsByValue.{disturbsBy, quietBy, runningUnchangedBy, waitingBy, call-disturbs, running-unchanged, waiting}
+use Rattle.floor.proofs.TablesByValue.{Made, begun, fresh, book as put, floorOf, made, made-shows, holdBy}
 use Rattle.floor.proofs.Placing.{placing}
-use Rattle.floor.proofs.Together.{two-phones}
-use Rattle.floor.proofs.Fairness.{nobody-waits-twice}
+use Rattle.floor.proofs.CommutingCalls.{commuting-calls}
+use Rattle.floor.proofs.BoundedBypass.{bounded-bypass}
 use Rattle.floor.proofs.Arrows.{arrows}
 use Rattle.floor.proofs.AnywhereSamples.{small}
-use Rattle.floor.proofs.Instances.{quietEnough, empties, emptied, rounds, typed-stop, typed-rounds, one, crowd, crowd-shows, square, square-shows, four-tiles, unpressed-rounds, settled, rest, settled-shows}
+use Rattle.floor.proofs.Instances.{quietEnough, empties, emptied, rounds, in-range-stop, in-range-rounds, one, crowd, crowd-shows, square, square-shows, four-tiles, running-unchanged-rounds, settled, rest, settled-shows}
 
 -- ---- the place found: U 9, l 3, r 1, canister 1 at (3, 2) on tile 0; 2 is set at (0, 6), the lowest place there is, as a booking there sets it
 unfoldable high : Made
@@ -39,14 +39,14 @@ high-accepted : anywhereAnswer (floorOf high) 0 2 .refusal ≡ 0
 unfolding outcome
 high-accepted = shows-refusal (floorOf high) (made high .1) high-shows (anywhere 0 2) ∙ high-test .1 .0
 
-high-told : (anywhereAnswer (floorOf high) 0 2 .a ≡ 0) × (anywhereAnswer (floorOf high) 0 2 .b ≡ 6)
+high-place : (anywhereAnswer (floorOf high) 0 2 .a ≡ 0) × (anywhereAnswer (floorOf high) 0 2 .b ≡ 6)
 unfolding placeTo
-high-told = let e = shows-place (floorOf high) (made high .1) high-shows (anywhere 0 2) ∙ high-test .1 .1 in (ap (λ (x : ℕ × ℕ). x .0) e, ap (λ (x : ℕ × ℕ). x .1) e)
+high-place = let e = shows-place (floorOf high) (made high .1) high-shows (anywhere 0 2) ∙ high-test .1 .1 in (ap (λ (x : ℕ × ℕ). x .0) e, ap (λ (x : ℕ × ℕ). x .1) e)
 
 high-lowest : LowestPlace (view (floorOf high)) 0 0 6
 high-lowest =
-    subst (λ (b : ℕ). LowestPlace (view (floorOf high)) 0 0 b) (high-told .1)
-    (subst (λ (a : ℕ). LowestPlace (view (floorOf high)) 0 a (anywhereAnswer (floorOf high) 0 2 .b)) (high-told .0) (placing (floorOf high) 0 2 .takes high-accepted))
+    subst (λ (b : ℕ). LowestPlace (view (floorOf high)) 0 0 b) (high-place .1)
+    (subst (λ (a : ℕ). LowestPlace (view (floorOf high)) 0 a (anywhereAnswer (floorOf high) 0 2 .b)) (high-place .0) (placing (floorOf high) 0 2 .takes high-accepted))
 
 high-booked : bookedAt (floorOf high) 0 2 0 6 .floor ≡ anywhereAnswer (floorOf high) 0 2 .floor
 high-booked = ap (λ (x : Answer). x .floor) (placing (floorOf high) 0 2 .as-booked 0 6 high-lowest)
@@ -94,33 +94,33 @@ both-booked =
 
 other-order : (outcome (floorOf (fresh 2 1 1)) (book 0 (can 7 40 0)) .refusal ≡ 0) × (outcome (outcome (floorOf (fresh 2 1 1)) (book 0 (can 7 40 0)) .floor) (anywhere 0 5) .refusal ≡ 33)
 unfolding can
-other-order = two-phones (floorOf (fresh 2 1 1)) .rising-answers 0 0 (anywhere 0 5) (book 0 (can 7 40 0)) (unplaced 5) (placed (can 7 40 0)) (omega arith) both-booked
+other-order = commuting-calls (floorOf (fresh 2 1 1)) .rising-answers 0 0 (anywhere 0 5) (book 0 (can 7 40 0)) (unplaced 5) (placed (can 7 40 0)) (omega arith) both-booked
 
 -- ---- [11]: west waits while another tile is filled; [3]: arrows rest
 abbrev meanwhile : List Call
 meanwhile = anywhere 0 9 ∷ rounds 5
 
-typed-meanwhile : All Typed meanwhile
-typed-meanwhile = (omega arith, typed-rounds 5)
+in-range-meanwhile : All InRange meanwhile
+in-range-meanwhile = (omega arith, in-range-rounds 5)
 
 west-test : waitingBy (made crowd .1) meanwhile 4 1 ≡ true
 unfolding holds holdBy crowd wants waitingBy
 west-test = refl
 
 west-fair : Fair 1 (grantsIn (floorOf crowd) meanwhile 4)
-west-fair = nobody-waits-twice (floorOf crowd) (crowd-shows .well) .fair meanwhile typed-meanwhile 4 1 (waiting (floorOf crowd) (made crowd .1) crowd-shows meanwhile typed-meanwhile 4 1 west-test)
+west-fair = bounded-bypass (floorOf crowd) (crowd-shows .well) .fair meanwhile in-range-meanwhile 4 1 (waiting (floorOf crowd) (made crowd .1) crowd-shows meanwhile in-range-meanwhile 4 1 west-test)
 
 abbrev busy : List Call
 busy = anywhere 0 5 ∷ stop 3 ∷ rounds 2
 
-typed-busy : All Typed busy
-typed-busy = (omega arith, (typed-stop 3, typed-rounds 2))
+in-range-busy : All InRange busy
+in-range-busy = (omega arith, (in-range-stop 3, in-range-rounds 2))
 
-busy-test : unpressedBy rest busy ≡ true
-unfolding holds holdBy square unpressedBy
+busy-test : runningUnchangedBy rest busy ≡ true
+unfolding holds holdBy square runningUnchangedBy
 busy-test = refl
 
 rested : (t : ℕ) → nextOf (view (floorAfter settled busy)) t ≡ nextOf (view settled) t
 rested =
-    arrows (floorOf square) (square-shows .well) .1 .rests (rounds 4) (typed-rounds 4) (unpressed-rounds 4 (floorOf square)) (omega (arith, four-tiles)) .stays busy typed-busy
-    (unpressed settled rest settled-shows busy typed-busy busy-test)
+    arrows (floorOf square) (square-shows .well) .1 .rests (rounds 4) (in-range-rounds 4) (running-unchanged-rounds 4 (floorOf square)) (omega (arith, four-tiles)) .stays busy in-range-busy
+    (running-unchanged settled rest settled-shows busy in-range-busy busy-test)

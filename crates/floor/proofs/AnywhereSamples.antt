@@ -10,7 +10,7 @@ use Rattle.floor.specs.Memory.{zeroFloor}
 use Rattle.floor.specs.Anywhere.{anywhereAnswer}
 use Rattle.floor.specs.Demand3.{Call, book as booking, anywhere}
 use Rattle.floor.proofs.Calling.{can, holds}
-use Rattle.floor.proofs.Made.{Made, begun, fresh, book, place, stop, Seen, on, whole, counted, told, answers, booked, said, given, Rows, hold, holdBy, by-values}
+use Rattle.floor.proofs.TablesByValue.{Made, begun, fresh, book, place, stop, Seen, on, whole, counted, answeredPlace, answers, booked, replies, given, Rows, hold, holdBy, by-values}
 
 -- W 2, hopper 1; U 9, v 1, places from 0 on
 unfoldable pub small : ℕ → ℕ → Settings
@@ -38,7 +38,7 @@ table =
     let two = book 2 4 0 0 (book 1 0 0 0 f) in
     let blocked = book 7 3 3 0 f in
     let full = filled 16 in
-    let placing : ℕ → Made → Seen = λ n e. told (anywhere 0 n) e in
+    let placing : ℕ → Made → Seen = λ n e. answeredPlace (anywhere 0 n) e in
     let mixed : List Call = anywhere 0 6 ∷ anywhere 0 6 ∷ booking 0 (can 7 0 4) ∷ anywhere 0 8 ∷ anywhere 0 9 ∷ anywhere 0 10 ∷ [] in
     -- an empty tile; the first row; the next row; the last place
     (placing 1 wide, 0 ∷ 0 ∷ 0 ∷ [])
@@ -60,8 +60,8 @@ table =
     ∷ (placing 10 (spread 9), 40 ∷ 0 ∷ 0 ∷ [])
     -- 30, 4, 5, 6, 31, 33, 40, each where the next one holds too
     ∷ (given (lists (anywhereAnswer zeroFloor 0 0)), 30 ∷ 0 ∷ 0 ∷ [])
-    ∷ (told (anywhere 2 0) blocked, 4 ∷ 0 ∷ 0 ∷ [])
-    ∷ (told (anywhere 1 0) blocked, 5 ∷ 0 ∷ 0 ∷ [])
+    ∷ (answeredPlace (anywhere 2 0) blocked, 4 ∷ 0 ∷ 0 ∷ [])
+    ∷ (answeredPlace (anywhere 1 0) blocked, 5 ∷ 0 ∷ 0 ∷ [])
     ∷ (placing 0 (stop 0 blocked), 6 ∷ 0 ∷ 0 ∷ [])
     ∷ (placing 7 (stop 0 blocked), 31 ∷ 0 ∷ 0 ∷ [])
     ∷ (placing 7 blocked, 33 ∷ 0 ∷ 0 ∷ [])
@@ -71,8 +71,8 @@ table =
     -- in a list, beside a booking with a place: the answers, the numbers booked, the places told
     ∷ (answers mixed f, 0 ∷ 33 ∷ 0 ∷ 0 ∷ 0 ∷ 40 ∷ [])
     ∷ (booked mixed f, 6 ∷ 7 ∷ 8 ∷ 9 ∷ [])
-    ∷ (said (λ x. x .1 .0) mixed f, 0 ∷ 0 ∷ 0 ∷ 4 ∷ 4 ∷ 0 ∷ [])
-    ∷ (said (λ x. x .1 .1) mixed f, 0 ∷ 0 ∷ 0 ∷ 0 ∷ 4 ∷ 0 ∷ [])
+    ∷ (replies (λ x. x .1 .0) mixed f, 0 ∷ 0 ∷ 0 ∷ 4 ∷ 4 ∷ 0 ∷ [])
+    ∷ (replies (λ x. x .1 .1) mixed f, 0 ∷ 0 ∷ 0 ∷ 0 ∷ 4 ∷ 0 ∷ [])
     ∷ []
 
 computed : holdBy table ≡ true

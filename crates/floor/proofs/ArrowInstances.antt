@@ -14,15 +14,15 @@ use Rattle.floor.specs.Sides.{sides}
 use Rattle.floor.specs.Settings.{isHopper}
 use Rattle.floor.specs.Model.{Model, distanceOf, nextOf}
 use Rattle.floor.specs.Memory.{view}
-use Rattle.floor.specs.Demand3.{Call, book, stop, round, Typed, outcome, floorAfter}
-use Rattle.floor.specs.Arrows.{beyond, FacesNearest, Chooses, Unpressed, Resting}
+use Rattle.floor.specs.Demand3.{Call, book, stop, round, InRange, outcome, floorAfter}
+use Rattle.floor.specs.Arrows.{beyond, FacesNearest, Chooses, RunningUnchanged, Resting}
 use Rattle.floor.proofs.Calling.{can, holds}
-use Rattle.floor.proofs.Shown.{Shows, valueBy, shows-call}
-use Rattle.floor.proofs.Walked.{isTyped, all-typed, valueAfter, unpressedBy, shows-list, unpressed}
-use Rattle.floor.proofs.Made.{Made, fresh, stop as halt, rounds as run, floorOf, made, made-shows, holdBy}
+use Rattle.floor.proofs.CallsByValue.{Shows, valueBy, shows-call}
+use Rattle.floor.proofs.ListsByValue.{isInRange, all-in-range, valueAfter, runningUnchangedBy, shows-list, running-unchanged}
+use Rattle.floor.proofs.TablesByValue.{Made, fresh, stop as halt, rounds as run, floorOf, made, made-shows, holdBy}
 use Rattle.floor.proofs.Grid.{at1, at2, at3, at4, side-pos}
 use Rattle.floor.proofs.Arrows.{arrows}
-use Rattle.floor.proofs.Instances.{rounds, typed-rounds, square, square-shows, four-tiles, unpressed-rounds, settled, rest, settled-shows}
+use Rattle.floor.proofs.Instances.{rounds, in-range-rounds, square, square-shows, four-tiles, running-unchanged-rounds, settled, rest, settled-shows}
 
 -- the arrow that a round from e gives tile t, by the values before and after it
 module _ (e : Made) (h : made e .0 ≡ true) where
@@ -114,30 +114,30 @@ each-farther =
 abbrev busy : List Call
 busy = book 1 (can 5 0 0) ∷ stop 3 ∷ rounds 2
 
-typed-busy : All Typed busy
-unfolding isTyped allOf can
-typed-busy = all-typed busy refl
+in-range-busy : All InRange busy
+unfolding isInRange allOf can
+in-range-busy = all-in-range busy refl
 
-busy-test : (unpressedBy rest busy ≡ true) × ((nextOf (valueAfter rest busy) 1 ≡ 4) × ((nextOf rest 1 ≡ 4) × (distanceOf rest 2 ≡ 1)))
-unfolding holds holdBy square can unpressedBy
+busy-test : (runningUnchangedBy rest busy ≡ true) × ((nextOf (valueAfter rest busy) 1 ≡ 4) × ((nextOf rest 1 ≡ 4) × (distanceOf rest 2 ≡ 1)))
+unfolding holds holdBy square can runningUnchangedBy
 busy-test = (refl, (refl, (refl, refl)))
 
-busy-unpressed : Unpressed settled busy
-busy-unpressed = unpressed settled rest settled-shows busy typed-busy (busy-test .0)
+busy-running-unchanged : RunningUnchanged settled busy
+busy-running-unchanged = running-unchanged settled rest settled-shows busy in-range-busy (busy-test .0)
 
 busy-shows : Shows (floorAfter settled busy) (valueAfter rest busy)
-busy-shows = shows-list settled rest settled-shows busy typed-busy
+busy-shows = shows-list settled rest settled-shows busy in-range-busy
 
 at-rest : Resting settled
-at-rest = arrows (floorOf square) (square-shows .well) .1 .rests (rounds 4) (typed-rounds 4) (unpressed-rounds 4 (floorOf square)) (omega (arith, four-tiles))
+at-rest = arrows (floorOf square) (square-shows .well) .1 .rests (rounds 4) (in-range-rounds 4) (running-unchanged-rounds 4 (floorOf square)) (omega (arith, four-tiles))
 
 one-stays : nextOf (view (floorAfter settled busy)) 1 ≡ 4
-one-stays = at-rest .stays busy typed-busy busy-unpressed 1 ∙ ap (λ (x : Model). nextOf x 1) (settled-shows .value) ∙ busy-test .1 .1 .0
+one-stays = at-rest .stays busy in-range-busy busy-running-unchanged 1 ∙ ap (λ (x : Model). nextOf x 1) (settled-shows .value) ∙ busy-test .1 .1 .0
 
 one-faces : FacesNearest (view (floorAfter settled busy)) 1 4
 one-faces =
     let e : nextOf (view (floorAfter settled busy)) 1 ≡ 4 = ap (λ (x : Model). nextOf x 1) (busy-shows .value) ∙ busy-test .1 .0 in
-    subst (λ (k : ℕ). FacesNearest (view (floorAfter settled busy)) 1 k) e (at-rest .faces busy typed-busy busy-unpressed 1 (λ z. absurd (omega (arith, e, z))))
+    subst (λ (k : ℕ). FacesNearest (view (floorAfter settled busy)) 1 k) e (at-rest .faces busy in-range-busy busy-running-unchanged 1 (λ z. absurd (omega (arith, e, z))))
 
 one-nearest : beyond (view (floorAfter settled busy)) 1 4 ≤ beyond (view (floorAfter settled busy)) 1 2
 unfolding sides
@@ -147,15 +147,15 @@ one-nearest = one-faces .least 2 at2
 abbrev booked : List Call
 booked = book 0 (can 5 0 0) ∷ rounds 3
 
-typed-booked : All Typed booked
-unfolding isTyped allOf can
-typed-booked = all-typed booked refl
+in-range-booked : All InRange booked
+unfolding isInRange allOf can
+in-range-booked = all-in-range booked refl
 
-booked-test : (unpressedBy (made square .1) booked ≡ true) × (distanceOf (valueAfter (made square .1) booked) 2 ≡ 1)
-unfolding holds holdBy square can unpressedBy
+booked-test : (runningUnchangedBy (made square .1) booked ≡ true) × (distanceOf (valueAfter (made square .1) booked) 2 ≡ 1)
+unfolding holds holdBy square can runningUnchangedBy
 booked-test = (refl, refl)
 
 booked-steady : distanceOf (view (outcome (floorAfter (floorOf square) booked) round .floor)) 2 ≡ 1
 booked-steady =
-    arrows (floorOf square) (square-shows .well) .1 .steady booked typed-booked (unpressed (floorOf square) (made square .1) square-shows booked typed-booked (booked-test .0)) (omega (arith, four-tiles)) 2
-    ∙ ap (λ (x : Model). distanceOf x 2) (shows-list (floorOf square) (made square .1) square-shows booked typed-booked .value) ∙ booked-test .1
+    arrows (floorOf square) (square-shows .well) .1 .steady booked in-range-booked (running-unchanged (floorOf square) (made square .1) square-shows booked in-range-booked (booked-test .0)) (omega (arith, four-tiles)) 2
+    ∙ ap (λ (x : Model). distanceOf x 2) (shows-list (floorOf square) (made square .1) square-shows booked in-range-booked .value) ∙ booked-test .1

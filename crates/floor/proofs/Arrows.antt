@@ -22,20 +22,20 @@ use Rattle.floor.specs.Well.{wellFormed}
 use Rattle.floor.specs.Route.{route}
 use Rattle.floor.specs.Move.{insert}
 use Rattle.floor.specs.Calls.{bookTests, booked, afterRound}
-use Rattle.floor.specs.Demand3.{Call, book, anywhere, stop, repair, round, keep, forget, recall, list, Typed, outcome, floorAfter, changesRunning, isRound, roundsIn}
-use Rattle.floor.specs.Together.{Books, placed, unplaced}
-use Rattle.floor.specs.Arrows.{beyond, FacesNearest, Chooses, Unpressed, Steady, Resting, Arrows, Settling, ArrowRule}
+use Rattle.floor.specs.Demand3.{Call, book, anywhere, stop, repair, round, keep, forget, recall, list, InRange, outcome, floorAfter, changesRunning, isRound, roundsIn}
+use Rattle.floor.specs.CommutingCalls.{Books, placed, unplaced}
+use Rattle.floor.specs.Arrows.{beyond, FacesNearest, Chooses, RunningUnchanged, Steady, Resting, Arrows, Settling, ArrowRule}
 use Rattle.floor.proofs.Sound.{Sound}
 use Rattle.floor.proofs.Pack.{well-sound}
 use Rattle.floor.proofs.Rows.{view-settings}
 use Rattle.floor.proofs.Routing.{Graph, RightTo, right-all, right-start}
-use Rattle.floor.proofs.Nearest.{graphBy, graphOf, route-routed, route-stable, distance-stable, route-nearest, route-keeps, route-ties, laid, formed}
+use Rattle.floor.proofs.Nearest.{graphBy, graphOf, route-routed, route-stable, distance-stable, route-nearest, route-keeps, route-ties, routable, formed}
 use Rattle.floor.proofs.Fields.{round-settings, round-runs, round-distance, round-next}
 use Rattle.floor.proofs.Passing.{arrow-at}
 use Rattle.floor.proofs.Progress.{same-distance}
 use Rattle.floor.proofs.Clearing.{right-round}
 use Rattle.floor.proofs.Lists.{view-round, through-list, call-keeps, call-refused, Relaid, relaid-keep, relaid-forget, relaid-recall, list-keeps}
-use Rattle.floor.proofs.Forms.{by-form, new-view, canisterOf, booking-accepts, bookForm, book-answers}
+use Rattle.floor.proofs.GuardedCalls.{by-form, new-view, canisterOf, booking-accepts, bookForm, book-answers}
 
 -- n has the settings, running tiles and distances of m, and the arrows a
 record Shows (m : Model) (a : ℕ → ℕ) (n : Model) : Type 0 where
@@ -78,7 +78,7 @@ module _ (I : ℕ → Model → Type 0) (alike : (n : ℕ) (m o : Model) → Ali
   relaid n g w c R i = no-round n (view (outcome g c .floor)) (subst (I n) (sym (R .1)) (alike n (view g) (withLayouts (view g) (R .0)) (record { settings = refl; runs = refl; distance = refl; next = refl }) i))
 
   -- a booking of either sort
-  books : (n : ℕ) (g : Floor) (w : wellFormed g ≡ true) (u : ℕ) {c : Call} (p : Books u c) → Typed c → I n (view g) → I n (view (outcome g c .floor))
+  books : (n : ℕ) (g : Floor) (w : wellFormed g ≡ true) (u : ℕ) {c : Call} (p : Books u c) → InRange c → I n (view g) → I n (view (outcome g c .floor))
   unfolding bookTests
   books n g w u {c} p h i =
       let F = bookForm p h in
@@ -88,7 +88,7 @@ module _ (I : ℕ → Model → Type 0) (alike : (n : ℕ) (m o : Model) → Ali
       (λ A. subst (I n) (sym (new-view F g w A)) (alike n (view g) (booked (view g) u b) (booked-alike (view g) (well-sound g w) u b (leb-false (total (view g .settings)) u (booking-accepts p (view g) A .0))) i))
       i)
 
-  step : (n : ℕ) (g : Floor) (w : wellFormed g ≡ true) (c : Call) → Typed c → changesRunning g c ≡ false → I n (view g) → I (n + cond (isRound c) 1 0) (view (outcome g c .floor))
+  step : (n : ℕ) (g : Floor) (w : wellFormed g ≡ true) (c : Call) → InRange c → changesRunning g c ≡ false → I n (view g) → I (n + cond (isRound c) 1 0) (view (outcome g c .floor))
   unfolding changesRunning
   step n g w (book u b) h q i = no-round n (view (outcome g (book u b) .floor)) (books n g w u (placed b) h i)
   step n g w (anywhere u number) h q i = no-round n (view (outcome g (anywhere u number) .floor)) (books n g w u (unplaced number) h i)
@@ -102,7 +102,7 @@ module _ (I : ℕ → Model → Type 0) (alike : (n : ℕ) (m o : Model) → Ali
   step n g w (recall name) h q i = relaid n g w (recall name) (relaid-recall g w name q) i
   step n g w (list l) h q i = no-round n (view (outcome g (list l) .floor)) (through-list (λ x. I n (view x)) (λ x k u b j p. books n x k u (placed b) j p) g w l h i)
 
-  through : (n : ℕ) (g : Floor) → wellFormed g ≡ true → (cs : List Call) → All Typed cs → Unpressed g cs → I n (view g) → I (n + roundsIn cs) (view (floorAfter g cs))
+  through : (n : ℕ) (g : Floor) → wellFormed g ≡ true → (cs : List Call) → All InRange cs → RunningUnchanged g cs → I n (view g) → I (n + roundsIn cs) (view (floorAfter g cs))
   unfolding floorAfter
   through n g w [] h q i = no-round n (view g) i
   through n g w (c ∷ cs) h q i =
@@ -180,7 +180,7 @@ rests-new m S steady = record {
 resting : (f : Floor) → wellFormed f ≡ true → (m : Model) → Rests m (view f) → Resting f
 resting f w m R = record { faces = λ cs h q t z. rests-face (along cs h q) t z; stays = λ cs h q t. ap (λ (a : ℕ → ℕ). a t) (along cs h q .shows .next ∙ sym (R .shows .next)) }
   where
-    along : (cs : List Call) → All Typed cs → Unpressed f cs → Rests m (view (floorAfter f cs))
+    along : (cs : List Call) → All InRange cs → RunningUnchanged f cs → Rests m (view (floorAfter f cs))
     along cs h q = through (λ _ n. Rests m n) (λ _ n o A Q. rests-alike Q o A) (λ _ n T Q. rests-round Q T) 0 f w cs h q R
 
 -- ---- how long it takes: after n rounds distances up to n are right; after C rounds arrows rest
@@ -202,7 +202,7 @@ near-round : (n : ℕ) (m : Model) → Sound m → Near n m → Near (suc n) (af
 near-round n m S N = record { right = right-round n m S (N .right); rest = λ h. (m, rests-new m S (near-steady n m S N (omega (arith, ap total (round-settings m))))) }
 
 near-start : (m : Model) → Sound m → Near 0 m
-near-start m S = record { right = right-start (graphOf m) (laid m S) (formed m S); rest = λ h. absurd (omega (arith, S .measured .two)) }
+near-start m S = record { right = right-start (graphOf m) (routable m S) (formed m S); rest = λ h. absurd (omega (arith, S .measured .two)) }
 
 -- ---- for every well-formed floor in memory
 module _ (f : Floor) (w : wellFormed f ≡ true) where
@@ -230,18 +230,18 @@ module _ (f : Floor) (w : wellFormed f ≡ true) where
     rests = λ s. resting after (call-keeps f w round tt .0) (view f) (subst (Rests (view f)) (sym round-shown) (rests-new (view f) sound (λ t. sym (distance-shown t) ∙ s t)));
   }
 
-module _ (f : Floor) (w : wellFormed f ≡ true) (cs : List Call) (typed : All Typed cs) (calm : Unpressed f cs) where
+module _ (f : Floor) (w : wellFormed f ≡ true) (cs : List Call) (in-range : All InRange cs) (calm : RunningUnchanged f cs) where
   abbrev now : Floor
   now = floorAfter f cs
 
   well : wellFormed now ≡ true
-  well = list-keeps f w cs typed .0
+  well = list-keeps f w cs in-range .0
 
   size : total (view now .settings) ≡ total (f .settings)
-  size = ap total (list-keeps f w cs typed .1 .same-settings ∙ view-settings f)
+  size = ap total (list-keeps f w cs in-range .1 .same-settings ∙ view-settings f)
 
   near : Near (0 + roundsIn cs) (view now)
-  near = through Near near-alike near-round 0 f w cs typed calm (near-start (view f) (well-sound f w))
+  near = through Near near-alike near-round 0 f w cs in-range calm (near-start (view f) (well-sound f w))
 
   list-steady : total (f .settings) ≤ suc (roundsIn cs) → Steady now
   list-steady h t = distance-shown now well t ∙ near-steady (0 + roundsIn cs) (view now) (well-sound now well) near (omega (arith, size)) t

@@ -4,7 +4,7 @@ use mathlib.Core.List.{List, [], _∷_, _++_, map}
 use Prim.Native.Nat.{ℕ, zero, suc, _-_, _*_, _^_}
 use lib.Dec.{eqb}
 use lib.ListN.{getD, take, replicate}
-use Rattle.laws.specs.Define.{tab, cat, allOf, anyOf, pairsOf, allBelow, keep, firstOf, sum, bit, bitsBelow, join, refusal}
+use Rattle.laws.specs.Define.{tab, cat, allOf, anyOf, pairsOf, allBelow, filter, firstOf, sum, bit, bitsBelow, join, refusal}
 use Rattle.laws.proofs.Lists.{same}
 use Rattle.floor.specs.declared.Canister.{Canister}
 use Rattle.floor.specs.declared.Settings.{Settings}
@@ -17,7 +17,7 @@ use Rattle.floor.specs.declared.Reading.{Reading}
 use Rattle.floor.specs.Sides.{sides, opposite, after, following, chosen}
 use Rattle.floor.specs.Settings.{isHopper, hoppersOf, settingsTests, settingsRefusal, settingsPass}
 use Rattle.floor.specs.Grid.{neighbour}
-use Rattle.floor.specs.Layouts.{nameNumber, letters, isLetter, spelled, nameOk, layoutOk, layoutsSound, setBelow, held, setOf, keepIn, forgetIn}
+use Rattle.floor.specs.Layouts.{nameNumber, letters, isLetter, spelled, nameOk, layoutOk, layoutsSound, setBelow, nameHeld, setOf, keepIn, forgetIn}
 use Rattle.floor.specs.Model.{runsOf, numbersOn}
 use Rattle.floor.specs.Memory.{zeroFloor, stateOf, usedLayouts, view, head, places, rows, layoutPlaces, build, pack, isZeroCanister, isZeroTile, headFits, tileFits, tilesFit, stateFits, isZeroLayout, layoutsFit, fits}
 use Rattle.floor.specs.Well.{hopperSound, runningSound, stoppedSound, faces, headSound, inside, apart, inOrder, membersSound, tileSound, numbersSound, countersSound, stateSound, sound, wellFormed}
@@ -25,7 +25,7 @@ use Rattle.floor.specs.Route.{nearer, nearest, liesAt, kept, onward, hea
 use Rattle.floor.specs.Signal.{requests, lack, missing, signalWith, signalBy, signalTile, shownOf, signalOf, signal}
 use Rattle.floor.specs.Move.{wayOf, crosses, shift, land, staying, leaving, insert, insertEach, membersNext, arrivals, moveTile, deliveredBy, raised, move}
 use Rattle.floor.specs.Reasons.{reasonTests, aheadOf, reasonOf, missingOf}
-use Rattle.floor.specs.Calls.{refusalOf, answer, freshTile, freshFloor, freshAnswer, bookTests, booked, bookAnswer, stopTests, stopped, stopAnswer, repairTests, repaired, repairAnswer, keepTests, runningSet, keptUnder, keepAnswer, heldTests, forgotten, forgetAnswer, recallTile, recalled, recallAnswer, afterRound, delivered, deliveryOf, reportOf, zeroReport, roundAnswer, readTests, readAnswer}
+use Rattle.floor.specs.Calls.{refusalOf, answer, freshTile, freshFloor, freshAnswer, bookTests, booked, bookAnswer, stopTests, stopped, stopAnswer, repairTests, repaired, repairAnswer, keepTests, runningSet, keptUnder, keepAnswer, nameHeldTests, forgotten, forgetAnswer, recallTile, recalled, recallAnswer, afterRound, delivered, deliveryOf, reportOf, zeroReport, roundAnswer, readTests, readAnswer}
 use Rattle.floor.specs.Anywhere.{leastFrom, least, clear, lowestA, lowestB, placeB, placeA, anywhereTests, placedAt, anywhereAnswer}
 use Rattle.floor.specs.Reports.{listedAt}
 use Rattle.floor.specs.Bound.{crossing, bound}
@@ -139,8 +139,8 @@ layoutNumbers [] = []
 layoutNumbers (x ∷ l) = x .name ∷ x .set ∷ layoutNumbers l
 
 -- the layouts of a floor, each its name and its set
-unfoldable pub laid : Floor → List ℕ
-laid f = readAnswer f 0 .refusal ∷ layoutNumbers (view f .layouts)
+unfoldable pub layoutsRead : Floor → List ℕ
+layoutsRead f = readAnswer f 0 .refusal ∷ layoutNumbers (view f .layouts)
 
 -- all of a floor of n tiles: what each has, its counters, its layouts
 unfoldable pub whole : ℕ → Floor → List ℕ
@@ -170,15 +170,15 @@ abbrev pub Table : Type 0
 Table = List (List ℕ × List ℕ)
 
 unfoldable pub holds : Table → Bool
-unfolding got several settings fresh can book stop repair named keeps rounds flat on has tile distances next turn listedAt reportedTo reported grant why counts counted same setUp heads layoutNumbers laid whole sameFloor refused refusedRound refusedReading
-    tab cat allOf anyOf pairsOf allBelow keep firstOf sum bit bitsBelow join refusal
+unfolding got several settings fresh can book stop repair named keeps rounds flat on has tile distances next turn listedAt reportedTo reported grant why counts counted same setUp heads layoutNumbers layoutsRead whole sameFloor refused refusedRound refusedReading
+    tab cat allOf anyOf pairsOf allBelow filter firstOf sum bit bitsBelow join refusal
     sides opposite after following chosen isHopper hoppersOf settingsTests settingsRefusal settingsPass neighbour numbersOn
-    nameNumber letters isLetter spelled nameOk layoutOk layoutsSound setBelow held setOf keepIn forgetIn
+    nameNumber letters isLetter spelled nameOk layoutOk layoutsSound setBelow nameHeld setOf keepIn forgetIn
     zeroFloor stateOf usedLayouts view head places rows layoutPlaces build pack isZeroCanister isZeroTile headFits tileFits tilesFit stateFits isZeroLayout layoutsFit fits
     hopperSound runningSound stoppedSound faces headSound inside apart inOrder membersSound tileSound numbersSound countersSound stateSound sound wellFormed
     nearer nearest liesAt kept onward headingOf routeTile route requests lack missing signalWith signalBy signalTile shownOf signalOf signal
     wayOf crosses shift land staying leaving insert insertEach membersNext arrivals moveTile deliveredBy raised move reasonTests aheadOf reasonOf missingOf
     refusalOf answer freshTile freshFloor freshAnswer bookTests booked bookAnswer leastFrom least clear lowestA lowestB placeB placeA anywhereTests placedAt anywhereAnswer stopTests stopped stopAnswer repairTests repaired repairAnswer
-    keepTests runningSet keptUnder keepAnswer heldTests forgotten forgetAnswer recallTile recalled recallAnswer
+    keepTests runningSet keptUnder keepAnswer nameHeldTests forgotten forgetAnswer recallTile recalled recallAnswer
     afterRound delivered deliveryOf reportOf zeroReport roundAnswer readTests readAnswer crossing bound reached connected connectedCount liveCount boundOf
 holds table = allOf (λ r. same (r .0) (r .1)) table

@@ -30,22 +30,22 @@ use Rattle.floor.proofs.Well.{inside-fact, apart-fact}
 use Rattle.floor.proofs.Geometry.{apart-sym}
 use Rattle.floor.proofs.Borders.{Rising}
 use Rattle.floor.proofs.Insertion.{insert-perm, insert-rising}
-use Rattle.floor.proofs.Fields.{round-settings, round-last, round-booked, went, round-counter, delivered-length}
+use Rattle.floor.proofs.Fields.{round-settings, round-last, round-booked, deliveredTo, round-counter, delivered-length}
 use Rattle.floor.proofs.Conservation.{round-numbers}
 use Rattle.floor.proofs.Kept.{round-sound}
 use Rattle.floor.proofs.Lowest.{at, lowest-is, found}
 
--- what a call from m to n keeps; `came` are the numbers booked, `gone k` those delivered to hopper k
-pub record Keeps (m n : Model) (came : List ℕ) (gone : ℕ → List ℕ) : Type 0 where
+-- what a call from m to n keeps; `added` are the numbers booked, `removed k` those delivered to hopper k
+pub record Keeps (m n : Model) (added : List ℕ) (removed : ℕ → List ℕ) : Type 0 where
   pub well : Sound n
   pub same-settings : n .settings ≡ m .settings
-  pub nums : List·Permᴰ (numbersOn n ++ cat 4 gone) (numbersOn m ++ came)
+  pub nums : List·Permᴰ (numbersOn n ++ cat 4 removed) (numbersOn m ++ added)
   pub rises : m .counters .last ≤ n .counters .last
-  pub above : All (λ k. m .counters .last < k) came
-  pub upto : All (λ k. k ≤ n .counters .last) came
-  pub distinct : Pairs (λ x y. x ≢ y) came
-  pub books : n .counters .booked ≡ m .counters .booked + length came
-  pub delivers : (k : ℕ) → getD (n .counters .delivered) k 0 ≡ getD (m .counters .delivered) k 0 + length (gone k)
+  pub above : All (λ k. m .counters .last < k) added
+  pub upto : All (λ k. k ≤ n .counters .last) added
+  pub distinct : Pairs (λ x y. x ≢ y) added
+  pub books : n .counters .booked ≡ m .counters .booked + length added
+  pub delivers : (k : ℕ) → getD (n .counters .delivered) k 0 ≡ getD (m .counters .delivered) k 0 + length (removed k)
 
 -- nothing delivered
 abbrev pub none : ℕ → List ℕ
@@ -137,7 +137,7 @@ module _ (m : Model) (S : Sound m) (t : ℕ) (on : t < total (m .settings)) wher
           counted = cnt;
           booked-last = bl;
           last-fits = fit;
-          laid-out = S .laid-out;
+          layouts-sound = S .layouts-sound;
         }
 
   -- stop and repair: the same canisters
@@ -370,7 +370,7 @@ repair-keeps m S t T =
     off (inr n) = n
     off (inl h) = not-both (S .hopper-runs t h) (T .1 .0)
 
-pub round-keeps : (m : Model) → Sound m → Keeps m (afterRound m) [] (went m)
+pub round-keeps : (m : Model) → Sound m → Keeps m (afterRound m) [] (deliveredTo m)
 round-keeps m S = record {
   well = round-sound m S;
   same-settings = round-settings m;
@@ -388,18 +388,18 @@ pub same-floor : (m : Model) → Sound m → Keeps m m [] none
 same-floor m S = record { well = S; same-settings = refl; nums = rw (cat-nil {A = ℕ} 4) (Permᴰ·refl (numbersOn m ++ [])); rises = omega arith; above = tt; upto = tt; distinct = tt; books = omega arith; delivers = λ k. omega arith }
 
 -- one call, and what follows it
-pub keeps-join : (l m n : Model) (came : List ℕ) (gone : ℕ → List ℕ) (came′ : List ℕ) (gone′ : ℕ → List ℕ) → Keeps l m came gone → Keeps m n came′ gone′ → Keeps l n (came ++ came′) (λ k. gone k ++ gone′ k)
-keeps-join l m n came gone came′ gone′ K J = record {
+pub keeps-join : (l m n : Model) (added : List ℕ) (removed : ℕ → List ℕ) (added′ : List ℕ) (removed′ : ℕ → List ℕ) → Keeps l m added removed → Keeps m n added′ removed′ → Keeps l n (added ++ added′) (λ k. removed k ++ removed′ k)
+keeps-join l m n added removed added′ removed′ K J = record {
   well = J .well;
   same-settings = J .same-settings ∙ K .same-settings;
-  nums = List·Permᴰ·trans (Permᴰ·append-left (numbersOn n) (cat-append 4 gone gone′)) (perm-chain (numbersOn l) (numbersOn m) (numbersOn n) came came′ (cat 4 gone) (cat 4 gone′) (K .nums) (J .nums));
+  nums = List·Permᴰ·trans (Permᴰ·append-left (numbersOn n) (cat-append 4 removed removed′)) (perm-chain (numbersOn l) (numbersOn m) (numbersOn n) added added′ (cat 4 removed) (cat 4 removed′) (K .nums) (J .nums));
   rises = omega (arith, K .rises, J .rises);
-  above = all-append (λ k. l .counters .last < k) came came′ (K .above) (all-imp (λ k. m .counters .last < k) (λ k. l .counters .last < k) came′ (λ k h. omega (arith, K .rises)) (J .above));
-  upto = all-append (λ k. k ≤ n .counters .last) came came′ (all-imp (λ k. k ≤ m .counters .last) (λ k. k ≤ n .counters .last) came (λ k h. omega (arith, J .rises)) (K .upto)) (J .upto);
-  distinct = pairs-append (λ x y. x ≢ y) came came′ (K .distinct) (J .distinct)
-      (all-cross (λ k. k ≤ m .counters .last) (λ k. m .counters .last < k) (λ x y. x ≢ y) came came′ (λ x y p q. omega arith) (K .upto) (J .above));
-  books = omega (arith, K .books, J .books, length-append came came′);
-  delivers = λ k. omega (arith, K .delivers k, J .delivers k, length-append (gone k) (gone′ k));
+  above = all-append (λ k. l .counters .last < k) added added′ (K .above) (all-imp (λ k. m .counters .last < k) (λ k. l .counters .last < k) added′ (λ k h. omega (arith, K .rises)) (J .above));
+  upto = all-append (λ k. k ≤ n .counters .last) added added′ (all-imp (λ k. k ≤ m .counters .last) (λ k. k ≤ n .counters .last) added (λ k h. omega (arith, J .rises)) (K .upto)) (J .upto);
+  distinct = pairs-append (λ x y. x ≢ y) added added′ (K .distinct) (J .distinct)
+      (all-cross (λ k. k ≤ m .counters .last) (λ k. m .counters .last < k) (λ x y. x ≢ y) added added′ (λ x y p q. omega arith) (K .upto) (J .above));
+  books = omega (arith, K .books, J .books, length-append added added′);
+  delivers = λ k. omega (arith, K .delivers k, J .delivers k, length-append (removed k) (removed′ k));
 }
 
 -- ---- what runs changes only at t, and only by stop and repair (for a round, see round-runs)

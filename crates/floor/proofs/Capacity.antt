@@ -10,10 +10,10 @@ use lib.Arith.{digits-lt, digits-div, digits-mod}
 use lib.Dec.{eqb}
 use lib.ListN.{length, length-map}
 use borrow.Author.Tests.{eqb-true, eqb-false, ne-eqb, not-true}
-use Rattle.laws.specs.Define.{allOf, keep}
+use Rattle.laws.specs.Define.{allOf, filter}
 use Rattle.laws.specs.Every.{All, Pairs}
 use Rattle.laws.proofs.Tests.{r-all}
-use Rattle.laws.proofs.Lists.{all-imp, all-keep, keep-all, pairs-keep, all-map, pairs-map}
+use Rattle.laws.proofs.Lists.{all-imp, all-filter, filter-all, pairs-filter, all-map, pairs-map}
 use Rattle.floor.specs.declared.Canister.{Canister}
 use Rattle.floor.specs.declared.Settings.{Settings}
 use Rattle.floor.specs.Settings.{spacing, span}
@@ -26,17 +26,17 @@ use Rattle.floor.proofs.Rows.{sound-named}
 use Rattle.floor.proofs.Pack.{view-pack, fits-pack, well-of}
 
 -- ---- the pigeonhole: different numbers below n are at most n
-drop-one : (n : ℕ) (l : List ℕ) → Pairs (λ x y. x ≢ y) l → length l ≤ suc (length (keep (λ x. not (eqb x n)) l))
-unfolding keep
+drop-one : (n : ℕ) (l : List ℕ) → Pairs (λ x y. x ≢ y) l → length l ≤ suc (length (filter (λ x. not (eqb x n)) l))
+unfolding filter
 drop-one n [] h = omega arith
 drop-one n (x ∷ l) h = go (eqb x n) refl (drop-one n l (h .1))
   where
-    go : (b : Bool) → eqb x n ≡ b → length l ≤ suc (length (keep (λ x. not (eqb x n)) l)) → suc (length l) ≤ suc (length (cond (not b) (x ∷ keep (λ x. not (eqb x n)) l) (keep (λ x. not (eqb x n)) l)))
+    go : (b : Bool) → eqb x n ≡ b → length l ≤ suc (length (filter (λ x. not (eqb x n)) l)) → suc (length l) ≤ suc (length (cond (not b) (x ∷ filter (λ x. not (eqb x n)) l) (filter (λ x. not (eqb x n)) l)))
     go false e ih = omega arith
     go true e ih =
         omega (
           arith,
-          ap length (keep-all (λ x. not (eqb x n)) l
+          ap length (filter-all (λ x. not (eqb x n)) l
               (all-imp (λ y. x ≢ y) (λ y. not (eqb y n) ≡ true) l (λ y k. ap not (ne-eqb y n (λ q. k (eqb-true x n e ∙ sym q)))) (h .0))),
         )
 
@@ -47,11 +47,11 @@ pigeon (suc n) l h p =
     omega (
       arith,
       drop-one n l p,
-      pigeon n (keep (λ x. not (eqb x n)) l)
-          (all-imp (λ x. (x < suc n) × (not (eqb x n) ≡ true)) (λ x. x < n) (keep (λ x. not (eqb x n)) l)
+      pigeon n (filter (λ x. not (eqb x n)) l)
+          (all-imp (λ x. (x < suc n) × (not (eqb x n) ≡ true)) (λ x. x < n) (filter (λ x. not (eqb x n)) l)
           (λ x q. let k : x ≢ n = eqb-false x n (not-true (eqb x n) (q .1)) in omega arith)
-          (all-keep (λ x. x < suc n) (λ x. not (eqb x n)) l h))
-          (pairs-keep (λ x y. x ≢ y) (λ x. not (eqb x n)) l p),
+          (all-filter (λ x. x < suc n) (λ x. not (eqb x n)) l h))
+          (pairs-filter (λ x y. x ≢ y) (λ x. not (eqb x n)) l p),
     )
 
 -- elements that a function sends to different numbers below n
@@ -140,10 +140,10 @@ module _ (m : Model) (S : Sound m) where
   sound-small t = few-members (m .settings) (S .measured) (membersOf m t) (S .inside t) (S .spaced t)
 
   pub view-packed : view (pack m) ≡ m
-  view-packed = view-pack m (S .len) (S .measured .few) (λ t _. sound-small t) (sound-named (m .settings) (m .layouts) (S .laid-out))
+  view-packed = view-pack m (S .len) (S .measured .few) (λ t _. sound-small t) (sound-named (m .settings) (m .layouts) (S .layouts-sound))
 
   pub sound-well : wellFormed (pack m) ≡ true
-  sound-well = well-of (pack m) (rw view-packed S) (fits-pack m (S .len) (S .measured .few) (λ t _. sound-small t) (sound-named (m .settings) (m .layouts) (S .laid-out)))
+  sound-well = well-of (pack m) (rw view-packed S) (fits-pack m (S .len) (S .measured .few) (λ t _. sound-small t) (sound-named (m .settings) (m .layouts) (S .layouts-sound)))
 
 pub well-pack : (m : Model) → sound m ≡ true → wellFormed (pack m) ≡ true
 well-pack m h = sound-well m (sound-fact m .0 h)

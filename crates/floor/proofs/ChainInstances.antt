@@ -12,15 +12,15 @@ use Rattle.floor.specs.declared.Rounded.{Rounded}
 use Rattle.floor.specs.Model.{Model, runsOf}
 use Rattle.floor.specs.Memory.{zeroFloor, view}
 use Rattle.floor.specs.Calls.{bookAnswer, stopAnswer, roundAnswer}
-use Rattle.floor.specs.Demand3.{Call, book, anywhere, stop, repair, round, keep, forget, recall, list, Typed, floorAfter, bookedIn, reportedIn, runsAfter}
+use Rattle.floor.specs.Demand3.{Call, book, anywhere, stop, repair, round, keep, forget, recall, list, InRange, floorAfter, bookedIn, reportedIn, runsAfter}
 use Rattle.floor.specs.Chain.{Made as Answered, none, books, stops, rounds, bookedBy, reportedBy, joined, runsMade, Chained}
 use Rattle.floor.proofs.Calling.{can, named, holds}
 use Rattle.floor.proofs.ListSamples.{entry}
-use Rattle.floor.proofs.Shown.{Shows}
-use Rattle.floor.proofs.Walked.{isTyped, all-typed, valueAfter, bookedBy as bookedOf, reportedBy as reportedOf, booked-same, reported-same, runs-same}
-use Rattle.floor.proofs.Made.{Made, begun, book as put, floorOf, made, made-shows, holdBy}
+use Rattle.floor.proofs.CallsByValue.{Shows}
+use Rattle.floor.proofs.ListsByValue.{isInRange, all-in-range, valueAfter, bookedBy as bookedOf, reportedBy as reportedOf, booked-same, reported-same, runs-same}
+use Rattle.floor.proofs.TablesByValue.{Made, begun, book as put, floorOf, made, made-shows, holdBy}
 use Rattle.floor.proofs.Chain.{real-calls}
-use Rattle.floor.proofs.TogetherInstances.{narrow}
+use Rattle.floor.proofs.CommutingInstances.{narrow}
 
 -- 5 on tile 1, about to cross into the hopper
 unfoldable near : Made
@@ -61,23 +61,23 @@ near-test = (refl, (refl, (refl, refl)))
 shown : Shows f m
 shown = made-shows near (near-test .0)
 
-typed : All Typed calls
-unfolding isTyped allOf can
-typed = all-typed calls refl
+in-range : All InRange calls
+unfolding isInRange allOf can
+in-range = all-in-range calls refl
 
 -- the last answer's floor is the list's; 6 is booked, 5 is reported to hopper 0; tile 0 stands
 same-floor : roundAnswer (stopAnswer (bookAnswer f 0 c .floor) 0 .floor) .floor ≡ floorAfter f (book 0 c ∷ stop 0 ∷ round ∷ [])
 same-floor = chained .floor
 
 six-booked : bookedBy c first ++ [] ≡ 6 ∷ []
-six-booked = chained .booked ∙ booked-same f m shown calls typed ∙ near-test .1 .0
+six-booked = chained .booked ∙ booked-same f m shown calls in-range ∙ near-test .1 .0
 
 five-reported : reportedBy third 0 ++ [] ≡ 5 ∷ []
-five-reported = ap (λ (ns : ℕ → List ℕ). ns 0) (chained .reported) ∙ reported-same f m shown calls typed 0 ∙ near-test .1 .1 .0
+five-reported = ap (λ (ns : ℕ → List ℕ). ns 0) (chained .reported) ∙ reported-same f m shown calls in-range 0 ∙ near-test .1 .1 .0
 
 zero-stands : runsMade answered 0 (runsOf (view f) 0) ≡ false
 unfolding runsAfter
-zero-stands = chained .runs 0 (runsOf (view f) 0) ∙ runs-same f m shown calls typed 0 ∙ near-test .1 .1 .1
+zero-stands = chained .runs 0 (runsOf (view f) 0) ∙ runs-same f m shown calls in-range 0 ∙ near-test .1 .1 .1
 
 abbrev A : ℕ
 A = named (65 ∷ [])

@@ -23,7 +23,7 @@ use Rattle.floor.specs.Bound.{crossing, bound}
 use Rattle.floor.specs.Live.{LivePath, connected, connectedCount}
 use Rattle.floor.proofs.Sound.{Sound}
 use Rattle.floor.proofs.Routing.{Graph, RightTo, Right, right-all, right-start, right-next, right-reach}
-use Rattle.floor.proofs.Nearest.{graphBy, graphOf, route-routed, route-stable, laid, formed}
+use Rattle.floor.proofs.Nearest.{graphBy, graphOf, route-routed, route-stable, routable, formed}
 use Rattle.floor.proofs.Paths.{connected-reach, live-iff, live-neighbours}
 use Rattle.floor.proofs.Fields.{wayAt, round-settings, round-whole, round-runs, round-distance, round-next}
 use Rattle.floor.proofs.Kept.{round-sound}
@@ -69,7 +69,7 @@ graph-rounds (suc n) m S = graph-rounds n (afterRound m) (round-sound m S) ∙ g
 pub right-round : (k : ℕ) (m : Model) → Sound m → RightTo (graphOf m) k (distanceOf m) → RightTo (graphOf (afterRound m)) (suc k) (distanceOf (afterRound m))
 right-round k m S I =
     subst (λ (g : Graph). RightTo g (suc k) (distanceOf (afterRound m))) (sym (graph-round m S))
-    (subst (λ (d : ℕ → ℕ). RightTo (graphOf m) (suc k) d) (sym (fun-ext (round-distance m (S .len)))) (right-next (graphOf m) (laid m S) (formed m S) (route-routed m (S .len)) k I))
+    (subst (λ (d : ℕ → ℕ). RightTo (graphOf m) (suc k) d) (sym (fun-ext (round-distance m (S .len)))) (right-next (graphOf m) (routable m S) (formed m S) (route-routed m (S .len)) k I))
 
 right-rounds : (n k : ℕ) (m : Model) → Sound m → RightTo (graphOf m) k (distanceOf m) → RightTo (graphOf (rounds n m)) (n + k) (distanceOf (rounds n m))
 unfolding rounds
@@ -83,7 +83,7 @@ Settled m = Right (graphOf m) (distanceOf m)
 pub settles : (m : Model) → Sound m → Settled (rounds (total (m .settings) - 1) m)
 settles m S =
     let n = total (m .settings) - 1 in
-    right-all (graphOf (rounds n m)) (n + 0) (omega (arith, ap (λ (s : Settings). total s) (rounds-settings n m))) (right-rounds n 0 m S (right-start (graphOf m) (laid m S) (formed m S)))
+    right-all (graphOf (rounds n m)) (n + 0) (omega (arith, ap (λ (s : Settings). total s) (rounds-settings n m))) (right-rounds n 0 m S (right-start (graphOf m) (routable m S) (formed m S)))
 
 module _ (m : Model) (S : Sound m) (T : Settled m) where
   distance-round : distanceOf (afterRound m) ≡ distanceOf m
@@ -166,7 +166,7 @@ module _ (m : Model) (S : Sound m) where
   pub same-live : (u k : ℕ) → List·Memᴰ k sides → runsOf m u ≡ true → runsOf m (neighbour (m .settings) k u) ≡ true → live (neighbour (m .settings) k u) ≡ live u
   same-live u k mk r q =
       let x = neighbour (m .settings) k u in
-      let L = laid m S in
+      let L = routable m S in
       let both = live-neighbours (m .settings) (runsOf m) L (S .measured .rows-pos) mk u r q in
       same-test (live x) (live u)
       (λ h. live-iff (m .settings) (runsOf m) L u .0 (both .1 (live-iff (m .settings) (runsOf m) L x .1 h)))
@@ -199,8 +199,8 @@ module _ (m : Model) (S : Sound m) where
   calm-live t =
       let n = total (m .settings) - 1 in
       let R : Right (graphOf m) (distanceOf calm) = subst (λ (g : Graph). Right g (distanceOf calm)) (graph-rounds n m S) (settles m S) in
-      let W = right-reach (graphOf m) (laid m S) R t in
-      let C = connected-reach (m .settings) (runsOf m) (laid m S) t in
+      let W = right-reach (graphOf m) (routable m S) R t in
+      let C = connected-reach (m .settings) (runsOf m) (routable m S) t in
       subst (λ (s : Settings). live t ≡ true ↔ distanceOf calm t < total s) (sym (rounds-settings n m)) (λ h. W .1 (sym C ∙ h), λ h. C ∙ W .0 h)
 
   -- Cleared: the bound of demand 3.
@@ -216,4 +216,4 @@ module _ (m : Model) (S : Sound m) where
       let r = enough c K (crossing (m .settings)) n (weight mark (rounds c m)) (potential (rounds c m)) h low2 (omega (arith, count-is c, count-never-rises c)) in
       ap (λ (x : ℕ). membersOf (rounds x m) t) (r .0)
       ∙ ap (λ (g : Model). membersOf g t) (rounds-add c (n - c) m)
-      ∙ clears (n - c) (rounds c m) SC (settles m S) (r .1) t (calm-live t .0 (live-iff (m .settings) (runsOf m) (laid m S) t .0 p))
+      ∙ clears (n - c) (rounds c m) SC (settles m S) (r .1) t (calm-live t .0 (live-iff (m .settings) (runsOf m) (routable m S) t .0 p))

@@ -26,7 +26,7 @@ use Rattle.floor.specs.Calls.{afterRound, delivered}
 use Rattle.floor.proofs.Sound.{Sound}
 use Rattle.floor.proofs.Grid.{side-pos, opposite-side, neighbour-side, neighbour-none}
 use Rattle.floor.proofs.Borders.{numbers-same, staying-nil}
-use Rattle.floor.proofs.Fields.{wayAt, stays, leaves, comes, round-settings, round-own, round-hopper, went, delivered-are, delivered-length}
+use Rattle.floor.proofs.Fields.{wayAt, stays, leaves, comes, round-settings, round-own, round-hopper, deliveredTo, delivered-are, delivered-length}
 use Rattle.floor.proofs.Passing.{Moving, moving, still-or, taking, takes-none, moves-from}
 use Rattle.floor.proofs.Safety.{leaves-still}
 use Rattle.floor.proofs.Insertion.{insert-each-perm}
@@ -92,12 +92,12 @@ module _ (m : Model) (S : Sound m) {B : Type 0} (h : ℕ → Canister → B) whe
   pub moved-perm : List·Permᴰ (cat (total (m .settings)) (λ t. map (h t) (comes m t ++ stays m t))) (cat (total (m .settings)) (λ u. map (h (goal u)) (leaves m u) ++ map (h u) (stays m u)))
   moved-perm =
       let C = total (m .settings) in
-      let came : List·Permᴰ (cat C (λ t. map (h t) (comes m t))) (cat C (λ u. map (h (goal u)) (leaves m u))) =
+      let incoming : List·Permᴰ (cat C (λ t. map (h t) (comes m t))) (cat C (λ u. map (h (goal u)) (leaves m u))) =
       List·Permᴰ·trans (cat-perm C (λ t. map (h t) (comes m t)) (λ t. cat C (part t)) (λ t l. perm-of (into t l)))
       (List·Permᴰ·trans (cat-swap C C part) (cat-perm C (λ u. cat C (λ t. part t u)) (λ u. map (h (goal u)) (leaves m u)) (λ u _. perm-of (sends u)))) in
       List·Permᴰ·trans (cat-perm C (λ t. map (h t) (comes m t ++ stays m t)) (λ t. map (h t) (comes m t) ++ map (h t) (stays m t)) (λ t _. perm-of (map-append (h t) (comes m t) (stays m t))))
       (List·Permᴰ·trans (cat-append C (λ t. map (h t) (comes m t)) (λ t. map (h t) (stays m t)))
-      (List·Permᴰ·trans (Permᴰ·append-right (cat C (λ t. map (h t) (stays m t))) came)
+      (List·Permᴰ·trans (Permᴰ·append-right (cat C (λ t. map (h t) (stays m t))) incoming)
       (Permᴰ·symm (cat-append C (λ u. map (h (goal u)) (leaves m u)) (λ u. map (h u) (stays m u))))))
 
 -- ---- the numbers
@@ -133,7 +133,7 @@ module _ (m : Model) (S : Sound m) where
           (subst (λ (x : List ℕ). List·Permᴰ (numbers (comes m t ++ stays m t)) x) (sym (append-nil (numbers (insertEach (comes m t) (stays m t)))))
           (map-perm (λ c. c .number) (Permᴰ·symm (insert-each-perm (comes m t) (stays m t)))))
 
-  out-all : List·Permᴰ (cat (total (m .settings)) out) (cat 4 (went m))
+  out-all : List·Permᴰ (cat (total (m .settings)) out) (cat 4 (deliveredTo m))
   unfolding out isHopper hoppersOf
   out-all =
       let few : length (delivered m) ≤ 4 = omega (arith, delivered-length m (S .len), S .measured .hoppers-few) in
@@ -141,13 +141,13 @@ module _ (m : Model) (S : Sound m) where
       (List·Permᴰ·trans (perm-of (ap join (sym (delivered-are m (S .len))))) (Permᴰ·symm (cat-places 4 (delivered m) few)))
 
   -- Each number once: those on the floor after the round with those delivered are those before, in some order.
-  pub round-numbers : List·Permᴰ (numbersOn (afterRound m) ++ cat 4 (went m)) (numbersOn m)
+  pub round-numbers : List·Permᴰ (numbersOn (afterRound m) ++ cat 4 (deliveredTo m)) (numbersOn m)
   unfolding numbersOn
   round-numbers =
       let C = total (m .settings) in
       let new : ℕ → List ℕ = λ t. numbers (membersOf (afterRound m) t) in
       let here : numbersOn (afterRound m) ≡ cat C new = ap (λ (s : Settings). cat (total s) new) (round-settings m) in
-      List·Permᴰ·trans (perm-of (ap (λ (x : List ℕ). x ++ cat 4 (went m)) here))
+      List·Permᴰ·trans (perm-of (ap (λ (x : List ℕ). x ++ cat 4 (deliveredTo m)) here))
       (List·Permᴰ·trans (Permᴰ·append-left (cat C new) (Permᴰ·symm out-all))
       (List·Permᴰ·trans (Permᴰ·symm (cat-append C new out))
       (List·Permᴰ·trans (Permᴰ·symm (cat-perm C (λ t. numbers (comes m t ++ stays m t)) (λ t. new t ++ out t) split)) moved-numbers)))

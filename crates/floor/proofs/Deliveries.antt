@@ -15,7 +15,7 @@ use Rattle.floor.specs.Model.{Model, numbers}
 use Rattle.floor.proofs.Sound.{Measured, Inside, Apart, Sound}
 use Rattle.floor.proofs.Capacity.{few-cells, spacing-pos, apart-div, within-div}
 use Rattle.floor.proofs.Geometry.{room, across, across-le, Along, apart-along}
-use Rattle.floor.proofs.Fields.{comes, went, delivered-are}
+use Rattle.floor.proofs.Fields.{comes, deliveredTo, delivered-are}
 use Rattle.floor.proofs.Passing.{Taking, idle-or}
 use Rattle.floor.proofs.Safety.{comes-inside, comes-apart, comes-rising, comes-room}
 
@@ -51,8 +51,8 @@ module _ (m : Model) (S : Sound m) where
       go (inr K) = border-few (m .settings) (S .measured) (K .grant .wanting .side) (comes m t) (comes-inside m S t) (comes-room m S t K) (comes-apart m S t)
 
   -- what holds of what comes to any tile holds of what is delivered to any hopper
-  each-went : (P : List ℕ → Type 0) → P [] → ((t : ℕ) → P (numbers (comes m t))) → (k : ℕ) → P (went m k)
-  each-went P none some k =
+  each-delivered : (P : List ℕ → Type 0) → P [] → ((t : ℕ) → P (numbers (comes m t))) → (k : ℕ) → P (deliveredTo m k)
+  each-delivered P none some k =
       subst (λ (l : List (List ℕ)). P (getD l k [])) (sym (delivered-are m (S .len)))
       (all-get P (map (λ h. numbers (comes m h)) hs) [] none (all-map P (λ h. numbers (comes m h)) hs (all-of (λ h. P (numbers (comes m h))) hs (λ h _. some h))) k)
     where
@@ -60,9 +60,9 @@ module _ (m : Model) (S : Sound m) where
       hs = hoppersOf (m .settings)
 
   -- to each hopper
-  pub delivered-few : (k : ℕ) → length (went m k) ≤ 4
-  delivered-few = each-went (λ l. length l ≤ 4) (omega arith) (λ t. omega (arith, length-map (comes m t) (λ (c : Canister). c .number), comes-few t))
+  pub delivered-few : (k : ℕ) → length (deliveredTo m k) ≤ 4
+  delivered-few = each-delivered (λ l. length l ≤ 4) (omega arith) (λ t. omega (arith, length-map (comes m t) (λ (c : Canister). c .number), comes-few t))
 
-  pub delivered-rising : (k : ℕ) → Pairs (λ x y. x < y) (went m k)
-  delivered-rising = each-went (Pairs (λ x y. x < y)) tt
+  pub delivered-rising : (k : ℕ) → Pairs (λ x y. x < y) (deliveredTo m k)
+  delivered-rising = each-delivered (Pairs (λ x y. x < y)) tt
       (λ t. pairs-map (λ _. Unit {0}) (λ c e. c .number < e .number) (λ x y. x < y) (λ c. c .number) (comes m t) (λ x y _ _ h. h) (all-of (λ _. Unit {0}) (comes m t) (λ _ _. tt)) (comes-rising m S t))

@@ -15,11 +15,11 @@ use Rattle.floor.specs.Model.{Model, runsOf, membersOf, numbersOn}
 use Rattle.floor.specs.Memory.{view}
 use Rattle.floor.specs.Well.{inside, apart, wellFormed}
 use Rattle.floor.specs.Live.{LivePath, here, step, connected}
-use Rattle.floor.specs.Demand3.{Call, book, anywhere, stop, repair, round, Typed, floorAfter, bookedIn, reportedIn, reportedAll, runsAfter, Promises}
+use Rattle.floor.specs.Demand3.{Call, book, anywhere, stop, repair, round, InRange, floorAfter, bookedIn, reportedIn, reportedAll, runsAfter, Promises}
 use Rattle.floor.proofs.Calling.{several, can, holds}
-use Rattle.floor.proofs.Shown.{Shows}
-use Rattle.floor.proofs.Walked.{isTyped, all-typed, valueAfter, answersBy, bookedBy, reportedBy, shows-list, booked-same, reported-same, runs-same}
-use Rattle.floor.proofs.Made.{Made, begun, book as put, rounds as run, floorOf, made, made-shows, holdBy}
+use Rattle.floor.proofs.CallsByValue.{Shows}
+use Rattle.floor.proofs.ListsByValue.{isInRange, all-in-range, valueAfter, answersBy, bookedBy, reportedBy, shows-list, booked-same, reported-same, runs-same}
+use Rattle.floor.proofs.TablesByValue.{Made, begun, book as put, rounds as run, floorOf, made, made-shows, holdBy}
 use Rattle.floor.proofs.Grid.{at4}
 use Rattle.floor.proofs.Theorem.{demand3}
 
@@ -41,18 +41,18 @@ used-test : (made used .0 ≡ true) × ((answersBy m calls ≡ 0 ∷ 33 ∷ 0 �
 unfolding holds holdBy used can
 used-test = (refl, (refl, (refl, (refl, refl))))
 
-typed : All Typed calls
-unfolding isTyped allOf can
-typed = all-typed calls refl
+in-range : All InRange calls
+unfolding isInRange allOf can
+in-range = all-in-range calls refl
 
 shown : Shows f m
 shown = made-shows used (used-test .0)
 
 later : Shows (floorAfter f calls) (valueAfter m calls)
-later = shows-list f m shown calls typed
+later = shows-list f m shown calls in-range
 
 P : Promises f calls
-P = demand3 f (shown .well) calls typed
+P = demand3 f (shown .well) calls in-range
 
 still-well : wellFormed (floorAfter f calls) ≡ true
 still-well = subst (λ (g : Floor). wellFormed g ≡ true) (P .is-now) (P .well)
@@ -77,13 +77,13 @@ unfolding holds holdBy used can
 numbers-test = (refl, refl)
 
 numbers-before : numbersOn (view f) ++ bookedIn f calls ≡ 4 ∷ 5 ∷ 6 ∷ 7 ∷ (2 ^ 32 - 1) ∷ []
-numbers-before = ap (λ (x : Model). numbersOn x ++ bookedIn f calls) (shown .value) ∙ ap (λ (l : List ℕ). numbersOn m ++ l) (booked-same f m shown calls typed ∙ used-test .1 .1 .0) ∙ numbers-test .0
+numbers-before = ap (λ (x : Model). numbersOn x ++ bookedIn f calls) (shown .value) ∙ ap (λ (l : List ℕ). numbersOn m ++ l) (booked-same f m shown calls in-range ∙ used-test .1 .1 .0) ∙ numbers-test .0
 
 numbers-now : numbersOn (view (floorAfter f calls)) ++ reportedAll f calls ≡ 5 ∷ 6 ∷ 4 ∷ 7 ∷ (2 ^ 32 - 1) ∷ []
 unfolding reportedAll
 numbers-now =
     ap (λ (x : Model). numbersOn x ++ cat 4 (reportedIn f calls)) (later .value)
-    ∙ ap (λ (g : ℕ → List ℕ). numbersOn (valueAfter m calls) ++ cat 4 g) (fun-ext (reported-same f m shown calls typed)) ∙ numbers-test .1
+    ∙ ap (λ (g : ℕ → List ℕ). numbersOn (valueAfter m calls) ++ cat 4 g) (fun-ext (reported-same f m shown calls in-range)) ∙ numbers-test .1
 
 kept : List·Permᴰ {A = ℕ} (4 ∷ 5 ∷ 6 ∷ 7 ∷ (2 ^ 32 - 1) ∷ []) (5 ∷ 6 ∷ 4 ∷ 7 ∷ (2 ^ 32 - 1) ∷ [])
 kept =
@@ -106,7 +106,7 @@ unfolding view
 booked-six =
     subst (λ (g : Floor). g .counters .booked ≡ f .counters .booked + length (bookedIn f calls)) (P .is-now) (P .booked)
     ∙ ap (λ (x : Model). x .counters .booked + length (bookedIn f calls)) (shown .value)
-    ∙ ap (λ (l : List ℕ). m .counters .booked + length l) (booked-same f m shown calls typed ∙ used-test .1 .1 .0) ∙ ap (λ (n : ℕ). n + 2) (counters .0)
+    ∙ ap (λ (l : List ℕ). m .counters .booked + length l) (booked-same f m shown calls in-range ∙ used-test .1 .1 .0) ∙ ap (λ (n : ℕ). n + 2) (counters .0)
 
 -- to hopper k: n before, and l in these rounds
 delivered-to : (k n : ℕ) (l : List ℕ) → getD (m .counters .delivered) k 0 ≡ n → reportedBy m calls k ≡ l → getD (floorAfter f calls .counters .delivered) k 0 ≡ n + length l
@@ -114,7 +114,7 @@ unfolding view
 delivered-to k n l p q =
     subst (λ (g : Floor). getD (g .counters .delivered) k 0 ≡ getD (f .counters .delivered) k 0 + length (reportedIn f calls k)) (P .is-now) (P .delivered k)
     ∙ ap (λ (x : Model). getD (x .counters .delivered) k 0 + length (reportedIn f calls k)) (shown .value)
-    ∙ ap (λ (r : List ℕ). getD (m .counters .delivered) k 0 + length r) (reported-same f m shown calls typed k ∙ q) ∙ ap (λ (x : ℕ). x + length l) p
+    ∙ ap (λ (r : List ℕ). getD (m .counters .delivered) k 0 + length r) (reported-same f m shown calls in-range k ∙ q) ∙ ap (λ (x : ℕ). x + length l) p
 
 delivered-first : getD (floorAfter f calls .counters .delivered) 0 0 ≡ 3
 delivered-first = delivered-to 0 1 (7 ∷ (2 ^ 32 - 1) ∷ []) (counters .1 .0) (used-test .1 .1 .1 .0)
@@ -131,7 +131,7 @@ carry : (Q : Settings → (ℕ → Bool) → Type 0) → Q (m .settings) (runsOf
 unfolding view
 carry Q q =
     subst (λ (x : Model). Q (x .settings) (runsAfter f calls)) (sym (shown .value))
-    (subst (λ (r : ℕ → Bool). Q (m .settings) r) (fun-ext (λ u. sym (runs-same f m shown calls typed u))) q)
+    (subst (λ (r : ℕ → Bool). Q (m .settings) r) (fun-ext (λ u. sym (runs-same f m shown calls in-range u))) q)
 
 path : LivePath (m .settings) (runsOf (valueAfter m calls)) 2
 unfolding holds holdBy used can

@@ -20,19 +20,19 @@ use Rattle.floor.specs.Memory.{view}
 use Rattle.floor.specs.Well.{wellFormed}
 use Rattle.floor.specs.Route.{route}
 use Rattle.floor.specs.Live.{LivePath, here, step}
-use Rattle.floor.specs.Demand3.{Call, round, Typed, floorAfter}
-use Rattle.floor.specs.Arrows.{Unpressed, Steady}
+use Rattle.floor.specs.Demand3.{Call, round, InRange, floorAfter}
+use Rattle.floor.specs.Arrows.{RunningUnchanged, Steady}
 use Rattle.floor.specs.Distances.{steps, ToNearest, Distances, DistanceRule}
 use Rattle.floor.proofs.Sound.{Sound}
 use Rattle.floor.proofs.Pack.{well-sound}
-use Rattle.floor.proofs.Routing.{Graph, Laid, reach, reach-step, reach-all, RightTo, Right, right-all, right-start, right-next, right-reach}
-use Rattle.floor.proofs.Nearest.{graphBy, graphOf, route-routed, laid, formed}
+use Rattle.floor.proofs.Routing.{Graph, Routable, reach, reach-step, reach-all, RightTo, Right, right-all, right-start, right-next, right-reach}
+use Rattle.floor.proofs.Nearest.{graphBy, graphOf, route-routed, routable, formed}
 use Rattle.floor.proofs.Fields.{round-distance}
 use Rattle.floor.proofs.Lists.{view-round, list-keeps}
 use Rattle.floor.proofs.Arrows.{arrows}
 
 -- ---- live paths by their steps
-module _ (s : Settings) (run : ℕ → Bool) (L : Laid (graphBy s run)) where
+module _ (s : Settings) (run : ℕ → Bool) (L : Routable (graphBy s run)) where
   abbrev g : Graph
   g = graphBy s run
 
@@ -59,8 +59,8 @@ module _ (m : Model) (S : Sound m) (R : Right (graphOf m) (distanceOf m)) where
   abbrev C : ℕ
   C = total (m .settings)
 
-  L : Laid (graphOf m)
-  L = laid m S
+  L : Routable (graphOf m)
+  L = routable m S
 
   near : (t : ℕ) → LivePath (m .settings) (runsOf m) t → distanceOf m t < C
   near t p = right-reach (graphOf m) L R t .1 (reach-all (graphOf m) L (steps p) t (path-reach (m .settings) (runsOf m) L p))
@@ -94,8 +94,8 @@ module _ (m : Model) (S : Sound m) (R : Right (graphOf m) (distanceOf m)) where
 -- ---- where a round changes no distance they are right
 module _ (m : Model) (S : Sound m) (same : distanceOf (route m) ≡ distanceOf m) where
   right-to : (n : ℕ) → RightTo (graphOf m) n (distanceOf m)
-  right-to zero = right-start (graphOf m) (laid m S) (formed m S)
-  right-to (suc n) = subst (RightTo (graphOf m) (suc n)) same (right-next (graphOf m) (laid m S) (formed m S) (route-routed m (S .len)) n (right-to n))
+  right-to zero = right-start (graphOf m) (routable m S) (formed m S)
+  right-to (suc n) = subst (RightTo (graphOf m) (suc n)) same (right-next (graphOf m) (routable m S) (formed m S) (route-routed m (S .len)) n (right-to n))
 
   steady-right : Right (graphOf m) (distanceOf m)
   steady-right = right-all (graphOf m) (total (m .settings)) (omega arith) (right-to (total (m .settings)))

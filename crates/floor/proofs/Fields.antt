@@ -84,24 +84,24 @@ unfolding afterRound move raised signal route
 round-booked m = refl
 
 -- the numbers delivered to hopper k
-abbrev pub went : Model → ℕ → List ℕ
-went m k = getD (delivered m) k []
+abbrev pub deliveredTo : Model → ℕ → List ℕ
+deliveredTo m k = getD (delivered m) k []
 
-pub round-delivered : (m : Model) → afterRound m .counters .delivered ≡ tab 4 (λ k. getD (m .counters .delivered) k 0 + length (went m k))
+pub round-delivered : (m : Model) → afterRound m .counters .delivered ≡ tab 4 (λ k. getD (m .counters .delivered) k 0 + length (deliveredTo m k))
 unfolding afterRound delivered move raised signal route
 round-delivered m = refl
 
 -- counter by counter
-pub round-counter : (m : Model) → length (m .counters .delivered) ≡ 4 → length (delivered m) ≤ 4 → (k : ℕ) → getD (afterRound m .counters .delivered) k 0 ≡ getD (m .counters .delivered) k 0 + length (went m k)
+pub round-counter : (m : Model) → length (m .counters .delivered) ≡ 4 → length (delivered m) ≤ 4 → (k : ℕ) → getD (afterRound m .counters .delivered) k 0 ≡ getD (m .counters .delivered) k 0 + length (deliveredTo m k)
 round-counter m e f k = ap (λ (l : List ℕ). getD l k 0) (round-delivered m) ∙ go (decLe (suc k) 4)
   where
-    go : Dec (k < 4) → getD (tab 4 (λ k. getD (m .counters .delivered) k 0 + length (went m k))) k 0 ≡ getD (m .counters .delivered) k 0 + length (went m k)
-    go (yes h) = tab-at 4 (λ k. getD (m .counters .delivered) k 0 + length (went m k)) k 0 h
+    go : Dec (k < 4) → getD (tab 4 (λ k. getD (m .counters .delivered) k 0 + length (deliveredTo m k))) k 0 ≡ getD (m .counters .delivered) k 0 + length (deliveredTo m k)
+    go (yes h) = tab-at 4 (λ k. getD (m .counters .delivered) k 0 + length (deliveredTo m k)) k 0 h
     go (no h) =
         let q : 4 ≤ k = omega arith in
         let old : getD (m .counters .delivered) k 0 ≡ 0 = List·getD-eq-default (m .counters .delivered) 0 (omega (arith, e)) in
-        let new : went m k ≡ [] = List·getD-eq-default (delivered m) [] (omega arith) in
-        tab-off 4 (λ k. getD (m .counters .delivered) k 0 + length (went m k)) k 0 q
+        let new : deliveredTo m k ≡ [] = List·getD-eq-default (delivered m) [] (omega arith) in
+        tab-off 4 (λ k. getD (m .counters .delivered) k 0 + length (deliveredTo m k)) k 0 q
         ∙ omega (arith, ap (λ (l : List ℕ). length l) new)
 
 module _ (m : Model) (w : Whole m) where

@@ -54,9 +54,9 @@ module _ (s : Settings) (running : Bool) (token : ℕ) (l : List Canister) (p : 
   abbrev given : Signal
   given = signalBy s running token l p
 
-  pub grant-told : 0 < given .grant → (running ≡ true) × (p (given .grant) ≡ true) × (missing s (given .grant) l ≡ 0)
+  pub grant-facts : 0 < given .grant → (running ≡ true) × (p (given .grant) ≡ true) × (missing s (given .grant) l ≡ 0)
   unfolding signalBy signalWith
-  grant-told h = go running refl (ltb 0 k && eqb (missing s k l) 0) refl
+  grant-facts h = go running refl (ltb 0 k && eqb (missing s k l) 0) refl
     where
       k : ℕ
       k = chosen p token
@@ -66,9 +66,9 @@ module _ (s : Settings) (running : Bool) (token : ℕ) (l : List Canister) (p : 
       go true e false q = absurd (omega (arith, rw (e, q) at h))
       go true e true q = rw (e, q) (refl, chosen-wants p token (rw (e, q) at h), eqb-true (missing s k l) 0 (and-right (ltb 0 k) (eqb (missing s k l) 0) q))
 
-  pub token-told : running ≡ true → 0 < given .token → p (given .token) ≡ true
+  pub token-facts : running ≡ true → 0 < given .token → p (given .token) ≡ true
   unfolding signalBy signalWith
-  token-told r h = go (ltb 0 k && eqb (missing s k l) 0) refl
+  token-facts r h = go (ltb 0 k && eqb (missing s k l) 0) refl
     where
       k : ℕ
       k = chosen p token

@@ -23,28 +23,28 @@ use Rattle.floor.specs.Signal.{missing}
 use Rattle.floor.specs.Bound.{bound}
 use Rattle.floor.specs.Live.{connected, connectedCount}
 use Rattle.floor.specs.Reports.{listedAt}
-use Rattle.floor.specs.Demand3.{Call, book, anywhere, stop, repair, round, Typed, outcome, floorAfter, runsAfter, changesRunning, Quiet, roundsIn}
-use Rattle.floor.specs.Together.{stops, repairs, placed, unplaced, Exchangeable, presses, booking, BothBooked}
-use Rattle.floor.specs.Fairness.{wants, Waiting, granted, grantsIn, Fair, grantCount, turnOf}
-use Rattle.floor.specs.Arrows.{beyond, FacesNearest, Chooses, Unpressed, Steady, Resting}
+use Rattle.floor.specs.Demand3.{Call, book, anywhere, stop, repair, round, InRange, outcome, floorAfter, runsAfter, changesRunning, Quiet, roundsIn}
+use Rattle.floor.specs.CommutingCalls.{stops, repairs, placed, unplaced, Exchangeable, runningChanges, booking, BothBooked}
+use Rattle.floor.specs.BoundedBypass.{wants, Waiting, granted, grantsIn, Fair, grantCount, turnOf}
+use Rattle.floor.specs.Arrows.{beyond, FacesNearest, Chooses, RunningUnchanged, Steady, Resting}
 use Rattle.floor.proofs.Calling.{settings, can, holds}
-use Rattle.floor.proofs.Shown.{Shows, refusalBy, valueBy, shows-refusal, shows-call}
-use Rattle.floor.proofs.Walked.{isTyped, all-typed, valueAfter, grantsBy, quietBy, unpressedBy, waitingBy, shows-list, grants-same, runs-same, quiet, unpressed, waiting}
-use Rattle.floor.proofs.Made.{Made, begun, fresh, book as put, stop as halt, repair as mend, rounds as run, floorOf, made, made-shows, list-shows, list-typed, counted, answers, booked, reportedIn, said, grants, runsAfter as ranAfter, given, Rows, hold, holdBy, by-values}
+use Rattle.floor.proofs.CallsByValue.{Shows, refusalBy, valueBy, shows-refusal, shows-call}
+use Rattle.floor.proofs.ListsByValue.{isInRange, all-in-range, valueAfter, grantsBy, quietBy, runningUnchangedBy, waitingBy, shows-list, grants-same, runs-same, quiet, running-unchanged, waiting}
+use Rattle.floor.proofs.TablesByValue.{Made, begun, fresh, book as put, stop as halt, repair as mend, rounds as run, floorOf, made, made-shows, list-shows, list-in-range, counted, answers, booked, reportedIn, replies, grants, runsAfter as ranAfter, given, Rows, hold, holdBy, by-values}
 use Rattle.floor.proofs.Rows.{view-settings}
 use Rattle.floor.proofs.Lists.{list-keeps}
 use Rattle.floor.proofs.Theorem.{demand3}
-use Rattle.floor.proofs.Fairness.{nobody-waits-twice}
+use Rattle.floor.proofs.BoundedBypass.{bounded-bypass}
 use Rattle.floor.proofs.Arrows.{arrows}
 use Rattle.floor.proofs.Grid.{each-side, side-pos}
 
 -- ---- the premises as tests, and what follows from them by the theorem alone
 -- the list cs on f, then the quiet list ds with rounds enough: tile t, which has a live path, is empty
-emptied-from : (f : Floor) → wellFormed f ≡ true → (cs ds : List Call) → All Typed cs → All Typed ds → Quiet (floorAfter f cs) ds
+emptied-from : (f : Floor) → wellFormed f ≡ true → (cs ds : List Call) → All InRange cs → All InRange ds → Quiet (floorAfter f cs) ds
     → bound (f .settings) (connectedCount (view (floorAfter f cs)) (runsAfter f cs)) ≤ roundsIn ds
     → (t : ℕ) → connected (f .settings) (runsAfter f cs) t ≡ true → membersOf (view (floorAfter (floorAfter f cs) ds)) t ≡ []
-emptied-from f w cs ds typed later q enough t live =
-    let P = demand3 f w cs typed in
+emptied-from f w cs ds in-range later q enough t live =
+    let P = demand3 f w cs in-range in
     let K : Floor → ℕ = λ g. bound (f .settings) (connectedCount (view g) (runsAfter f cs)) in
     let done : (g : Floor) → g ≡ P .now → Quiet g ds → K g ≤ roundsIn ds → membersOf (view (floorAfter g ds)) t ≡ [] =
     λ g e. subst (λ (x : Floor). Quiet x ds → K x ≤ roundsIn ds → membersOf (view (floorAfter x ds)) t ≡ []) (sym e) (λ q′ b. P .emptied ds later q′ b t (P .counts-live t .1 live)) in
@@ -55,14 +55,14 @@ unfoldable pub quietEnough : Model → List Call → ℕ → Bool
 quietEnough n ds t = quietBy n ds && (leb (bound (n .settings) (connectedCount n (runsOf n))) (roundsIn ds) && connected (n .settings) (runsOf n) t)
 
 unfoldable pub empties : Made → List Call → List Call → ℕ → Bool
-empties e cs ds t = (made e .0 && allOf isTyped cs) && (allOf isTyped ds && quietEnough (valueAfter (made e .1) cs) ds t)
+empties e cs ds t = (made e .0 && allOf isInRange cs) && (allOf isInRange ds && quietEnough (valueAfter (made e .1) cs) ds t)
 
 pub emptied : (e : Made) (cs ds : List Call) (t : ℕ) → empties e cs ds t ≡ true → membersOf (view (floorAfter (floorAfter (floorOf e) cs) ds)) t ≡ []
 unfolding empties quietEnough
 emptied e cs ds t h =
-    let first = made e .0 && allOf isTyped cs in
+    let first = made e .0 && allOf isInRange cs in
     let rest = and-right first _ h in
-    go (list-shows e cs (and-left first _ h)) (list-typed e cs (and-left first _ h)) (all-typed ds (and-left (allOf isTyped ds) _ rest)) (and-right (allOf isTyped ds) _ rest)
+    go (list-shows e cs (and-left first _ h)) (list-in-range e cs (and-left first _ h)) (all-in-range ds (and-left (allOf isInRange ds) _ rest)) (and-right (allOf isInRange ds) _ rest)
   where
     f : Floor
     f = floorOf e
@@ -70,17 +70,17 @@ emptied e cs ds t h =
     n : Model
     n = valueAfter (made e .1) cs
 
-    go : Shows f (made e .1) → All Typed cs → All Typed ds → quietEnough n ds t ≡ true → membersOf (view (floorAfter (floorAfter f cs) ds)) t ≡ []
-    go E typed later k =
-        let N = shows-list f (made e .1) E cs typed in
-        let same : n .settings ≡ f .settings = ap (λ (x : Model). x .settings) (sym (N .value)) ∙ list-keeps f (E .well) cs typed .1 .same-settings ∙ view-settings f in
-        let runs : runsOf n ≡ runsAfter f cs = fun-ext (λ u. sym (runs-same f (made e .1) E cs typed u)) in
+    go : Shows f (made e .1) → All InRange cs → All InRange ds → quietEnough n ds t ≡ true → membersOf (view (floorAfter (floorAfter f cs) ds)) t ≡ []
+    go E in-range later k =
+        let N = shows-list f (made e .1) E cs in-range in
+        let same : n .settings ≡ f .settings = ap (λ (x : Model). x .settings) (sym (N .value)) ∙ list-keeps f (E .well) cs in-range .1 .same-settings ∙ view-settings f in
+        let runs : runsOf n ≡ runsAfter f cs = fun-ext (λ u. sym (runs-same f (made e .1) E cs in-range u)) in
         let carry : (P : Settings → Model → (ℕ → Bool) → Type 0) → P (n .settings) n (runsOf n) → P (f .settings) (view (floorAfter f cs)) (runsAfter f cs) =
         λ P p. subst (λ (r : ℕ → Bool). P (f .settings) (view (floorAfter f cs)) r) runs
         (subst (λ (x : Model). P (f .settings) x (runsOf n)) (sym (N .value)) (subst (λ (s : Settings). P s n (runsOf n)) same p)) in
         let k′ = and-right (quietBy n ds) _ k in
         let enough = leb (bound (n .settings) (connectedCount n (runsOf n))) (roundsIn ds) in
-        emptied-from f (E .well) cs ds typed later (quiet (floorAfter f cs) n N ds later (and-left (quietBy n ds) _ k))
+        emptied-from f (E .well) cs ds in-range later (quiet (floorAfter f cs) n N ds later (and-left (quietBy n ds) _ k))
         (carry (λ s x r. bound s (connectedCount x r) ≤ roundsIn ds) (leb-true _ (roundsIn ds) (and-left enough _ k′))) t (carry (λ s x r. connected s r t ≡ true) (and-right enough _ k′))
 
 -- n rounds
@@ -89,18 +89,18 @@ rounds zero = []
 rounds (suc n) = round ∷ rounds n
 
 -- all that is asked of a call: a booking's number has 32 bits
-typed-book : (t : ℕ) (c : Canister) → c .number < 2 ^ 32 → Typed (book t c)
-typed-book t c h = h
+in-range-book : (t : ℕ) (c : Canister) → c .number < 2 ^ 32 → InRange (book t c)
+in-range-book t c h = h
 
-pub typed-stop : (t : ℕ) → Typed (stop t)
-typed-stop t = tt
+pub in-range-stop : (t : ℕ) → InRange (stop t)
+in-range-stop t = tt
 
-pub typed-repair : (t : ℕ) → Typed (repair t)
-typed-repair t = tt
+pub in-range-repair : (t : ℕ) → InRange (repair t)
+in-range-repair t = tt
 
-pub typed-rounds : (n : ℕ) → All Typed (rounds n)
-typed-rounds zero = tt
-typed-rounds (suc n) = (tt, typed-rounds n)
+pub in-range-rounds : (n : ℕ) → All InRange (rounds n)
+in-range-rounds zero = tt
+in-range-rounds (suc n) = (tt, in-range-rounds n)
 
 -- ---- the first trial: W 2, hopper 1, canister 5 at (0, 0) on tile 0; after five rounds tile 0 is empty
 unfoldable pub one : Made
@@ -143,13 +143,13 @@ history-test = refl
 histories : hold history ≡ true
 histories = by-values history history-test
 
-typed : All Typed mixed
-unfolding mixed isTyped allOf can
-typed = all-typed mixed refl
+in-range : All InRange mixed
+unfolding mixed isInRange allOf can
+in-range = all-in-range mixed refl
 
-later : All Typed further
-unfolding further isTyped allOf can
-later = all-typed further refl
+later : All InRange further
+unfolding further isInRange allOf can
+later = all-in-range further refl
 
 mixed-test : empties swift mixed further 0 ≡ true
 unfolding holds holdBy swift can mixed further quietBy quietEnough empties
@@ -160,7 +160,7 @@ mixed-empty = emptied swift mixed further 0 mixed-test
 
 -- ---- [14]: calls that may change places; two bookings that are accepted on two tiles; the answers of a list with the rounds' reports
 stop-repair : (t u : ℕ) → t ≢ u → Exchangeable (stop t) (repair u)
-stop-repair t u n = presses n stops repairs
+stop-repair t u n = runningChanges n stops repairs
 
 book-stop : (t u : ℕ) (c : Canister) → t ≢ u → c .number < 2 ^ 32 → Exchangeable (book t c) (stop u)
 book-stop t u c n h = booking n (placed c) h stops
@@ -175,8 +175,8 @@ both-booked = (refl, refl)
 unfoldable heard : Rows
 heard =
     let calls = book 0 (can 6 0 0) ∷ rounds 4 in
-    (said (λ x. x .0) calls one, 34 ∷ replicate 4 0)
-    ∷ (said (λ x. length (listedAt (x .2) 0)) calls one, 0 ∷ 0 ∷ 0 ∷ 0 ∷ 1 ∷ [])
+    (replies (λ x. x .0) calls one, 34 ∷ replicate 4 0)
+    ∷ (replies (λ x. length (listedAt (x .2) 0)) calls one, 0 ∷ 0 ∷ 0 ∷ 0 ∷ 1 ∷ [])
     ∷ []
 
 heard-test : holdBy heard ≡ true
@@ -220,10 +220,10 @@ unfolding holds holdBy crowd wants waitingBy
 west-test = refl
 
 west-waits : Waiting (floorOf crowd) (stop 4 ∷ rounds 5) 4 1
-west-waits = waiting (floorOf crowd) (made crowd .1) crowd-shows (stop 4 ∷ rounds 5) (typed-stop 4, typed-rounds 5) 4 1 west-test
+west-waits = waiting (floorOf crowd) (made crowd .1) crowd-shows (stop 4 ∷ rounds 5) (in-range-stop 4, in-range-rounds 5) 4 1 west-test
 
 west-fair : Fair 1 (grantsIn (floorOf crowd) (stop 4 ∷ rounds 5) 4)
-west-fair = nobody-waits-twice (floorOf crowd) (crowd-shows .well) .fair (stop 4 ∷ rounds 5) (typed-stop 4, typed-rounds 5) 4 1 west-waits
+west-fair = bounded-bypass (floorOf crowd) (crowd-shows .well) .fair (stop 4 ∷ rounds 5) (in-range-stop 4, in-range-rounds 5) 4 1 west-waits
 
 unfair : ¬ (Fair 4 (1 ∷ 2 ∷ 1 ∷ []))
 unfair h = none (h 1 [] (2 ∷ []) [] (omega arith) (omega arith) refl)
@@ -242,12 +242,12 @@ unfolding holds holdBy crowd wants waitingBy
 east-test = (refl, refl)
 
 east-waits : Waiting (floorOf crowd) (rounds 3) 4 4
-east-waits = waiting (floorOf crowd) (made crowd .1) crowd-shows (rounds 3) (typed-rounds 3) 4 4 (east-test .0)
+east-waits = waiting (floorOf crowd) (made crowd .1) crowd-shows (rounds 3) (in-range-rounds 3) 4 4 (east-test .0)
 
 east-three : grantCount (grantsIn (floorOf crowd) (rounds 3) 4) ≤ 3
 east-three =
-    let e = grants-same (floorOf crowd) (made crowd .1) crowd-shows (rounds 3) (typed-rounds 3) 4 ∙ east-test .1 in
-    nobody-waits-twice (floorOf crowd) (crowd-shows .well) .three (rounds 3) (typed-rounds 3) 4 4 east-waits (subst (λ (l : List ℕ). ¬ (List·Memᴰ {A = ℕ} 4 l)) (sym e) not-east)
+    let e = grants-same (floorOf crowd) (made crowd .1) crowd-shows (rounds 3) (in-range-rounds 3) 4 ∙ east-test .1 in
+    bounded-bypass (floorOf crowd) (crowd-shows .well) .three (rounds 3) (in-range-rounds 3) 4 4 east-waits (subst (λ (l : List ℕ). ¬ (List·Memᴰ {A = ℕ} 4 l)) (sym e) not-east)
 
 -- W 3, hopper 0: the canister on tile 2 wants into tile 1; tile 1 stopped and repaired at once, it no longer does
 unfoldable queue : Made
@@ -265,7 +265,7 @@ queue-wants = ap (λ (x : Model). wants x 1 4) (queue-shows .value) ∙ queue-te
 
 ends-repaired : (k : ℕ) → wants (view (floorAfter (floorOf queue) (stop 1 ∷ repair 1 ∷ []))) 1 k ≡ false
 ends-repaired =
-    nobody-waits-twice (floorOf queue) (queue-shows .well) .stop-ends 1 (shows-refusal (floorOf queue) (made queue .1) queue-shows (stop 1) ∙ queue-test .1 .1) (repair 1 ∷ []) (typed-repair 1, tt) refl
+    bounded-bypass (floorOf queue) (queue-shows .well) .stop-ends 1 (shows-refusal (floorOf queue) (made queue .1) queue-shows (stop 1) ∙ queue-test .1 .1) (repair 1 ∷ []) (in-range-repair 1, tt) refl
 
 -- the grant by the value
 grantBy : Model → ℕ → ℕ
@@ -273,7 +273,7 @@ grantBy m t = cond (wants m t (turnOf m t) && eqb (missing (m .settings) (turnOf
 
 granted-by : (f : Floor) (m : Model) → Shows f m → (t : ℕ) → runsOf m t ≡ true → granted f t ≡ grantBy m t
 unfolding view grantBy
-granted-by f m s t = subst (λ (x : Model). runsOf x t ≡ true → granted f t ≡ grantBy x t) (s .value) (nobody-waits-twice f (s .well) .grants t)
+granted-by f m s t = subst (λ (x : Model). runsOf x t ≡ true → granted f t ≡ grantBy x t) (s .value) (bounded-bypass f (s .well) .grants t)
 
 crowd-test : (runsOf (made crowd .1) 4 ≡ true) × ((grantBy (made crowd .1) 4 ≡ 1) × ((made (run 1 crowd) .0 ≡ true) × (wants (made (run 1 crowd) .1) 4 4 ≡ true)))
 unfolding holds holdBy crowd wants turnOf grantBy
@@ -285,7 +285,7 @@ crowd-grants = granted-by (floorOf crowd) (made crowd .1) crowd-shows 4 (crowd-t
 crowd-turn : wants (view (floorOf (run 1 crowd))) 4 (turnOf (view (floorOf (run 1 crowd))) 4) ≡ true
 crowd-turn =
     let E = made-shows (run 1 crowd) (crowd-test .1 .1 .0) in
-    nobody-waits-twice (floorOf (run 1 crowd)) (E .well) .turn-wants 4 4 (ap (λ (x : Model). wants x 4 4) (E .value) ∙ crowd-test .1 .1 .1)
+    bounded-bypass (floorOf (run 1 crowd)) (E .well) .turn-wants 4 4 (ap (λ (x : Model). wants x 4 4) (E .value) ∙ crowd-test .1 .1 .1)
 
 -- ---- [3]: 2 × 2, hopper 3. After four rounds arrows rest: a booking, a refused stop and rounds leave them
 unfoldable pub square : Made
@@ -302,10 +302,10 @@ pub four-tiles : total (floorOf square .settings) ≡ 4
 unfolding view
 four-tiles = ap (λ (x : Model). total (x .settings)) (square-shows .value) ∙ square-test .1
 
-pub unpressed-rounds : (n : ℕ) (f : Floor) → Unpressed f (rounds n)
+pub running-unchanged-rounds : (n : ℕ) (f : Floor) → RunningUnchanged f (rounds n)
 unfolding changesRunning
-unpressed-rounds zero f = tt
-unpressed-rounds (suc n) f = (refl, unpressed-rounds n (outcome f round .floor))
+running-unchanged-rounds zero f = tt
+running-unchanged-rounds (suc n) f = (refl, running-unchanged-rounds n (outcome f round .floor))
 
 abbrev pub settled : Floor
 settled = floorAfter (floorOf square) (rounds 4)
@@ -314,24 +314,24 @@ abbrev pub rest : Model
 rest = valueAfter (made square .1) (rounds 4)
 
 pub settled-shows : Shows settled rest
-settled-shows = shows-list (floorOf square) (made square .1) square-shows (rounds 4) (typed-rounds 4)
+settled-shows = shows-list (floorOf square) (made square .1) square-shows (rounds 4) (in-range-rounds 4)
 
 abbrev busy : List Call
 busy = book 0 (can 5 0 0) ∷ stop 3 ∷ rounds 2
 
-typed-busy : All Typed busy
+in-range-busy : All InRange busy
 unfolding can
-typed-busy = (typed-book 0 (can 5 0 0) (omega arith), (typed-stop 3, typed-rounds 2))
+in-range-busy = (in-range-book 0 (can 5 0 0) (omega arith), (in-range-stop 3, in-range-rounds 2))
 
-busy-test : (unpressedBy rest busy ≡ true) × (eqb (nextOf (valueAfter rest busy) 0) 0 ≡ false)
-unfolding holds holdBy square can unpressedBy
+busy-test : (runningUnchangedBy rest busy ≡ true) × (eqb (nextOf (valueAfter rest busy) 0) 0 ≡ false)
+unfolding holds holdBy square can runningUnchangedBy
 busy-test = (refl, refl)
 
-busy-unpressed : Unpressed settled busy
-busy-unpressed = unpressed settled rest settled-shows busy typed-busy (busy-test .0)
+busy-running-unchanged : RunningUnchanged settled busy
+busy-running-unchanged = running-unchanged settled rest settled-shows busy in-range-busy (busy-test .0)
 
 rested : (t : ℕ) → nextOf (view (floorAfter settled busy)) t ≡ nextOf (view settled) t
-rested = arrows (floorOf square) (square-shows .well) .1 .rests (rounds 4) (typed-rounds 4) (unpressed-rounds 4 (floorOf square)) (omega (arith, four-tiles)) .stays busy typed-busy busy-unpressed
+rested = arrows (floorOf square) (square-shows .well) .1 .rests (rounds 4) (in-range-rounds 4) (running-unchanged-rounds 4 (floorOf square)) (omega (arith, four-tiles)) .stays busy in-range-busy busy-running-unchanged
 
 -- tile 0 has two ways at distance 1; it has the later one, east, since tile 1 was stopped once, and keeps it
 unfoldable mended : Made
@@ -400,13 +400,13 @@ abbrev third : Floor
 third = floorAfter (floorOf square) (rounds 3)
 
 third-steady : Steady third
-third-steady = arrows (floorOf square) (square-shows .well) .1 .steady (rounds 3) (typed-rounds 3) (unpressed-rounds 3 (floorOf square)) (omega (arith, four-tiles))
+third-steady = arrows (floorOf square) (square-shows .well) .1 .steady (rounds 3) (in-range-rounds 3) (running-unchanged-rounds 3 (floorOf square)) (omega (arith, four-tiles))
 
 third-rests : Resting settled
 unfolding floorAfter
-third-rests = let A = arrows third (list-keeps (floorOf square) (square-shows .well) (rounds 3) (typed-rounds 3) .0) .0 in subst Resting (A .is-after) (A .rests third-steady)
+third-rests = let A = arrows third (list-keeps (floorOf square) (square-shows .well) (rounds 3) (in-range-rounds 3) .0) .0 in subst Resting (A .is-after) (A .rests third-steady)
 
 busy-faces : FacesNearest (view (floorAfter settled busy)) 0 (nextOf (view (floorAfter settled busy)) 0)
 busy-faces =
-    let E = shows-list settled rest settled-shows busy typed-busy in
-    third-rests .faces busy typed-busy busy-unpressed 0 (subst (λ (x : Model). nextOf x 0 ≢ 0) (sym (E .value)) (eqb-false (nextOf (valueAfter rest busy) 0) 0 (busy-test .1)))
+    let E = shows-list settled rest settled-shows busy in-range-busy in
+    third-rests .faces busy in-range-busy busy-running-unchanged 0 (subst (λ (x : Model). nextOf x 0 ≢ 0) (sym (E .value)) (eqb-false (nextOf (valueAfter rest busy) 0) 0 (busy-test .1)))

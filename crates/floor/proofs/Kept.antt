@@ -23,9 +23,9 @@ use Rattle.floor.specs.Calls.{afterRound, delivered}
 use Rattle.floor.proofs.Sound.{Inside, Apart, Faces, Sound}
 use Rattle.floor.proofs.Tables.{off-floor, run-on}
 use Rattle.floor.proofs.Routing.{Formed, Routed, routed-form, arrow-iff}
-use Rattle.floor.proofs.Nearest.{graphOf, route-routed, laid, formed}
+use Rattle.floor.proofs.Nearest.{graphOf, route-routed, routable, formed}
 use Rattle.floor.proofs.Geometry.{apart-sym}
-use Rattle.floor.proofs.Fields.{stays, comes, round-whole, went, round-delivered, round-counter, delivered-length, round-running, round-runs, round-distance, round-next, round-token, round-members, round-hopper}
+use Rattle.floor.proofs.Fields.{stays, comes, round-whole, deliveredTo, round-delivered, round-counter, delivered-length, round-running, round-runs, round-distance, round-next, round-token, round-members, round-hopper}
 use Rattle.floor.proofs.Passing.{token-wants, token-still, arrow-at}
 use Rattle.floor.proofs.Insertion.{insert-each-perm, insert-each-rising}
 use Rattle.floor.proofs.Safety.{stays-rising, safe-inside, safe-apart}
@@ -44,7 +44,7 @@ module _ (m : Model) (S : Sound m) where
   routed = route-routed m (S .len)
 
   pub new-form : Formed (graphOf m) (distanceOf (route m))
-  new-form = routed-form (graphOf m) (laid m S) (formed m S) routed
+  new-form = routed-form (graphOf m) (routable m S) (formed m S) routed
 
   pub hopper-arrow : (t : ℕ) → isHopper (m .settings) t ≡ true → nextOf (route m) t ≡ 0
   hopper-arrow t h = routed .fixed t (inl h) .1 ∙ S .hopper-next t h
@@ -75,14 +75,14 @@ module _ (m : Model) (S : Sound m) where
 
   new-spare : (k : ℕ) → length (hoppersOf (m .settings)) ≤ k → getD (afterRound m .counters .delivered) k 0 ≡ 0
   new-spare k h =
-      let no : went m k ≡ [] = List·getD-eq-default (delivered m) [] (omega (arith, delivered-length m (S .len))) in
+      let no : deliveredTo m k ≡ [] = List·getD-eq-default (delivered m) [] (omega (arith, delivered-length m (S .len))) in
       round-counter m (S .four) few k ∙ omega (arith, S .spare k h, ap (λ (l : List ℕ). length l) no)
 
-  total-delivered : sum (afterRound m .counters .delivered) ≡ sum (m .counters .delivered) + length (cat 4 (went m))
+  total-delivered : sum (afterRound m .counters .delivered) ≡ sum (m .counters .delivered) + length (cat 4 (deliveredTo m))
   total-delivered =
       let old : ℕ → ℕ = λ k. getD (m .counters .delivered) k 0 in
-      ap sum (round-delivered m) ∙ sum-tab-add 4 old (λ k. length (went m k))
-      ∙ omega (arith, ap sum (filled 4 old 0 (m .counters .delivered) (S .four) (λ i h. refl)), cat-length 4 (went m))
+      ap sum (round-delivered m) ∙ sum-tab-add 4 old (λ k. length (deliveredTo m k))
+      ∙ omega (arith, ap sum (filled 4 old 0 (m .counters .delivered) (S .four) (λ i h. refl)), cat-length 4 (deliveredTo m))
 
   pub round-sound : Sound (afterRound m)
   unfolding afterRound move raised signal route
@@ -104,7 +104,7 @@ module _ (m : Model) (S : Sound m) where
         next-iff = λ t h r.
             subst (λ (a : ℕ). a ≡ 0 ↔ distanceOf (afterRound m) t ≡ 255) (sym (round-next m w t))
             (subst (λ (d : ℕ). nextOf (route m) t ≡ 0 ↔ d ≡ 255) (sym (round-distance m w t))
-            (arrow-iff (graphOf m) (laid m S) (formed m S) routed (S .hopper-next) (S .stop-next) t h (sym (round-runs m w t) ∙ r)));
+            (arrow-iff (graphOf m) (routable m S) (formed m S) routed (S .hopper-next) (S .stop-next) t h (sym (round-runs m w t) ∙ r)));
         stop-distance = λ t r. round-distance m w t ∙ F .stopped t (sym (round-runs m w t) ∙ r);
         stop-next = λ t r. round-next m w t ∙ stop-arrow t (sym (round-runs m w t) ∙ r);
         stop-token = λ t r. round-token m w t ∙ stop-turn t (sym (round-runs m w t) ∙ r);
@@ -114,13 +114,13 @@ module _ (m : Model) (S : Sound m) where
         spaced = round-members m w (λ _. Pairs (Apart (spacing (m .settings)))) (λ _. tt)
             (λ t _ _. pairs-perm (Apart (spacing (m .settings))) (apart-sym (spacing (m .settings))) (Permᴰ·symm (insert-each-perm (comes m t) (stays m t))) (safe-apart m S t));
         rising = round-members m w (λ _. Pairs (λ c e. c .number < e .number)) (λ _. tt) (λ t h _. insert-each-rising (comes m t) (stays m t) (stays-rising m S t) (moved-differ m S t h));
-        positive = all-left (λ n. 0 < n) N (cat 4 (went m)) (all-perm (λ n. 0 < n) out (S .positive));
-        below = all-left (λ n. n ≤ m .counters .last) N (cat 4 (went m)) (all-perm (λ n. n ≤ m .counters .last) out (S .below));
-        unique = pairs-left (λ x y. x ≢ y) N (cat 4 (went m)) (pairs-perm (λ x y. x ≢ y) (λ x y n e. n (sym e)) out (S .unique));
-        four = ap (λ (l : List ℕ). length l) (round-delivered m) ∙ tab-length 4 (λ k. getD (m .counters .delivered) k 0 + length (went m k));
+        positive = all-left (λ n. 0 < n) N (cat 4 (deliveredTo m)) (all-perm (λ n. 0 < n) out (S .positive));
+        below = all-left (λ n. n ≤ m .counters .last) N (cat 4 (deliveredTo m)) (all-perm (λ n. n ≤ m .counters .last) out (S .below));
+        unique = pairs-left (λ x y. x ≢ y) N (cat 4 (deliveredTo m)) (pairs-perm (λ x y. x ≢ y) (λ x y n e. n (sym e)) out (S .unique));
+        four = ap (λ (l : List ℕ). length l) (round-delivered m) ∙ tab-length 4 (λ k. getD (m .counters .delivered) k 0 + length (deliveredTo m k));
         spare = new-spare;
-        counted = omega (arith, S .counted, total-delivered, length-perm (round-numbers m S), length-append N (cat 4 (went m)));
+        counted = omega (arith, S .counted, total-delivered, length-perm (round-numbers m S), length-append N (cat 4 (deliveredTo m)));
         booked-last = S .booked-last;
         last-fits = S .last-fits;
-        laid-out = S .laid-out;
+        layouts-sound = S .layouts-sound;
       }

@@ -12,17 +12,17 @@ use Rattle.floor.specs.Settings.{total}
 use Rattle.floor.specs.Layouts.{setOf}
 use Rattle.floor.specs.Model.{Model, nextOf, membersOf, runsOf}
 use Rattle.floor.specs.Memory.{view}
-use Rattle.floor.specs.Demand3.{Call, book, anywhere, stop, repair, round, keep, forget, recall, list, Typed, floorAfter, recallSet, disturbs}
+use Rattle.floor.specs.Demand3.{Call, book, anywhere, stop, repair, round, keep, forget, recall, list, InRange, floorAfter, recallSet, disturbs}
 use Rattle.floor.specs.Named.{needed, recallCalls}
-use Rattle.floor.specs.Fairness.{wants, Waiting, grantsIn, Fair}
-use Rattle.floor.specs.Arrows.{Unpressed}
+use Rattle.floor.specs.BoundedBypass.{wants, Waiting, grantsIn, Fair}
+use Rattle.floor.specs.Arrows.{RunningUnchanged}
 use Rattle.floor.proofs.Calling.{can, named, holds}
-use Rattle.floor.proofs.Shown.{Shows, refusalBy, shows-refusal}
-use Rattle.floor.proofs.Walked.{isTyped, valueAfter, disturbsBy, quietBy, unpressedBy, waitingBy, call-disturbs, shows-list, unpressed, waiting}
-use Rattle.floor.proofs.Made.{Made, called, fresh, book as put, rounds as run, stop as halt, repair as mend, floorOf, made, made-shows, list-shows, list-typed, answers, runsAfter as ranAfter, Seen, Rows, hold, holdBy, by-values}
-use Rattle.floor.proofs.Fairness.{nobody-waits-twice}
+use Rattle.floor.proofs.CallsByValue.{Shows, refusalBy, shows-refusal}
+use Rattle.floor.proofs.ListsByValue.{isInRange, valueAfter, disturbsBy, quietBy, runningUnchangedBy, waitingBy, call-disturbs, shows-list, running-unchanged, waiting}
+use Rattle.floor.proofs.TablesByValue.{Made, called, fresh, book as put, rounds as run, stop as halt, repair as mend, floorOf, made, made-shows, list-shows, list-in-range, answers, runsAfter as ranAfter, Seen, Rows, hold, holdBy, by-values}
+use Rattle.floor.proofs.BoundedBypass.{bounded-bypass}
 use Rattle.floor.proofs.Arrows.{arrows}
-use Rattle.floor.proofs.Instances.{quietEnough, empties, emptied, rounds, typed-stop, typed-repair, typed-rounds, one, swift, crowd, crowd-shows, square, square-shows, four-tiles, unpressed-rounds, settled, rest, settled-shows}
+use Rattle.floor.proofs.Instances.{quietEnough, empties, emptied, rounds, in-range-stop, in-range-repair, in-range-rounds, one, swift, crowd, crowd-shows, square, square-shows, four-tiles, running-unchanged-rounds, settled, rest, settled-shows}
 
 -- ---- [8]: A is kept while tile 0 runs, B while it is stopped. A recall of A repairs it, one of B stops it
 abbrev A : ℕ
@@ -76,13 +76,13 @@ endings-test : (empties swift recalling between 0 ≡ true) × (endings (disturb
 unfolding holds holdBy swift can recalling between quietBy quietEnough empties
 endings-test = (refl, refl)
 
-recalling-made : (made swift .0 && allOf isTyped recalling) ≡ true
+recalling-made : (made swift .0 && allOf isInRange recalling) ≡ true
 unfolding holds holdBy swift can recalling
 recalling-made = refl
 
 which-end : endings (disturbs (floorAfter (floorOf swift) recalling)) ≡ 0 ∷ 1 ∷ 0 ∷ 0 ∷ 0 ∷ 1 ∷ 1 ∷ []
 which-end =
-    let N = shows-list (floorOf swift) (made swift .1) (list-shows swift recalling recalling-made) recalling (list-typed swift recalling recalling-made) in
+    let N = shows-list (floorOf swift) (made swift .1) (list-shows swift recalling recalling-made) recalling (list-in-range swift recalling recalling-made) in
     ap endings (fun-ext (call-disturbs (floorAfter (floorOf swift) recalling) (valueAfter (made swift .1) recalling) N)) ∙ endings-test .1
 
 recalls-empty : membersOf (view (floorAfter (floorAfter (floorOf swift) recalling) between)) 0 ≡ []
@@ -128,18 +128,18 @@ row-calls = ap codes (recall-calls (floorOf row) (made row .1) (made-shows row (
 abbrev meanwhile : List Call
 meanwhile = keep A ∷ stop 0 ∷ recall A ∷ rounds 5
 
-typed-meanwhile : All Typed meanwhile
-typed-meanwhile = (tt, (typed-stop 0, (tt, typed-rounds 5)))
+in-range-meanwhile : All InRange meanwhile
+in-range-meanwhile = (tt, (in-range-stop 0, (tt, in-range-rounds 5)))
 
 recall-test : waitingBy (made crowd .1) meanwhile 4 1 ≡ true
 unfolding holds holdBy crowd wants waitingBy
 recall-test = refl
 
 recall-waits : Waiting (floorOf crowd) meanwhile 4 1
-recall-waits = waiting (floorOf crowd) (made crowd .1) crowd-shows meanwhile typed-meanwhile 4 1 recall-test
+recall-waits = waiting (floorOf crowd) (made crowd .1) crowd-shows meanwhile in-range-meanwhile 4 1 recall-test
 
 recall-fair : Fair 1 (grantsIn (floorOf crowd) meanwhile 4)
-recall-fair = nobody-waits-twice (floorOf crowd) (crowd-shows .well) .fair meanwhile typed-meanwhile 4 1 recall-waits
+recall-fair = bounded-bypass (floorOf crowd) (crowd-shows .well) .fair meanwhile in-range-meanwhile 4 1 recall-waits
 
 -- W 3, hopper 0: A without tile 1, which runs now; the canister on tile 2 wants into it
 unfoldable lane : Made
@@ -160,22 +160,22 @@ unfolding recallSet view
 recall-ends =
     let E = lane-shows in
     let three : total (floorOf lane .settings) ≡ 3 = ap (λ (x : Model). total (x .settings)) (E .value) ∙ lane-test .1 .1 .1 .0 in
-    nobody-waits-twice (floorOf lane) (E .well) .recall-ends A 1 (shows-refusal (floorOf lane) (made lane .1) E (recall A) ∙ lane-test .1 .1 .0) (omega (arith, three))
-    (ap (λ (x : Model). bit (setOf (x .layouts) A) 1) (E .value) ∙ lane-test .1 .1 .1 .1) (repair 1 ∷ []) (typed-repair 1, tt) refl
+    bounded-bypass (floorOf lane) (E .well) .recall-ends A 1 (shows-refusal (floorOf lane) (made lane .1) E (recall A) ∙ lane-test .1 .1 .0) (omega (arith, three))
+    (ap (λ (x : Model). bit (setOf (x .layouts) A) 1) (E .value) ∙ lane-test .1 .1 .1 .1) (repair 1 ∷ []) (in-range-repair 1, tt) refl
 
 -- arrows rest through keeping, forgetting and a recall that makes nothing
 abbrev calm : List Call
 calm = keep A ∷ recall A ∷ forget A ∷ rounds 2
 
-typed-calm : All Typed calm
-typed-calm = (tt, (tt, (tt, typed-rounds 2)))
+in-range-calm : All InRange calm
+in-range-calm = (tt, (tt, (tt, in-range-rounds 2)))
 
-calm-test : unpressedBy rest calm ≡ true
-unfolding holds holdBy square unpressedBy
+calm-test : runningUnchangedBy rest calm ≡ true
+unfolding holds holdBy square runningUnchangedBy
 calm-test = refl
 
-calm-unpressed : Unpressed settled calm
-calm-unpressed = unpressed settled rest settled-shows calm typed-calm calm-test
+calm-running-unchanged : RunningUnchanged settled calm
+calm-running-unchanged = running-unchanged settled rest settled-shows calm in-range-calm calm-test
 
 calm-rested : (t : ℕ) → nextOf (view (floorAfter settled calm)) t ≡ nextOf (view settled) t
-calm-rested = arrows (floorOf square) (square-shows .well) .1 .rests (rounds 4) (typed-rounds 4) (unpressed-rounds 4 (floorOf square)) (omega (arith, four-tiles)) .stays calm typed-calm calm-unpressed
+calm-rested = arrows (floorOf square) (square-shows .well) .1 .rests (rounds 4) (in-range-rounds 4) (running-unchanged-rounds 4 (floorOf square)) (omega (arith, four-tiles)) .stays calm in-range-calm calm-running-unchanged

@@ -22,7 +22,7 @@ use Rattle.floor.specs.Memory.{zeroLayout, usedLayouts, isZeroLayout, la
 use Rattle.floor.specs.Well.{layoutsWell, placeOk, nameAt}
 pub use Rattle.floor.specs.Well.{placeTest}
 use Rattle.floor.proofs.Rows.{used-named}
-use Rattle.floor.proofs.Laying.{Rises, laid-of, laid-is}
+use Rattle.floor.proofs.SoundLayouts.{Rises, sound-layouts-of, sound-layouts-is}
 
 -- what the test says of a place without a name, and of one with a name
 free-place : (s : Settings) (x : Layout) (above : ℕ) → x .name ≡ 0 → placeOk s x above ≡ true ↔ ((x .set ≡ 0) × (above ≡ 0))
@@ -134,11 +134,11 @@ layouts-code f e = same-test (layoutsSound s (usedLayouts l) && (eqb (length l) 
 
     into : (layoutsSound s (usedLayouts l) && (eqb (length l) 8 && Z)) ≡ true → allBelow (placeTest s l) 8 ≡ true
     into h =
-        let L = laid-of s (usedLayouts l) (and-left (layoutsSound s (usedLayouts l)) _ h) in
+        let L = sound-layouts-of s (usedLayouts l) (and-left (layoutsSound s (usedLayouts l)) _ h) in
         let F : Filled s l = record { each = L .each; rise = L .rise; rest = and-right (eqb (length l) 8) Z (and-right (layoutsSound s (usedLayouts l)) _ h) } in
         below-of (placeTest s l) 8 (λ k i. filled-tests s l F k (omega arith))
 
     out : allBelow (placeTest s l) 8 ≡ true → (layoutsSound s (usedLayouts l) && (eqb (length l) 8 && Z)) ≡ true
     out h =
         let F = tests-filled s l (λ k i. below-at (placeTest s l) 8 h k (omega arith)) in
-        and-true (laid-is s (usedLayouts l) (record { eight = omega (arith, used-named l .1, e); each = F .each; rise = F .rise })) (and-true (eq-eqb (length l) 8 e) (F .rest))
+        and-true (sound-layouts-is s (usedLayouts l) (record { eight = omega (arith, used-named l .1, e); each = F .each; rise = F .rise })) (and-true (eq-eqb (length l) 8 e) (F .rest))

@@ -12,7 +12,7 @@ use Rattle.floor.specs.Memory.{zeroFloor, zeroLayout, layoutPlaces, rela
 use Rattle.floor.specs.Calls.{freshAnswer, keepAnswer, forgetAnswer, recallAnswer, roundAnswer}
 use Rattle.floor.specs.Demand3.{keep as keeping, forget as forgetting, recall as recalling}
 use Rattle.floor.proofs.Calling.{got, several, settings, named, refused, holds}
-use Rattle.floor.proofs.Made.{Made, begun, fresh, book, stop, repair, keep, forget, recall, rounds, Seen, laid, whole, counted, answered, answers, laying, given, Rows, hold, holdBy, by-values}
+use Rattle.floor.proofs.TablesByValue.{Made, begun, fresh, book, stop, repair, keep, forget, recall, rounds, Seen, layoutsRead, whole, counted, answered, answers, readWith, given, Rows, hold, holdBy, by-values}
 
 -- A, B and so on by their number from 0 on
 unfoldable letter : ℕ → ℕ
@@ -24,15 +24,15 @@ many zero e = e
 many (suc n) e = many n (keep (letter n) e)
 
 -- these letters, each with all three tiles
-unfoldable held : List ℕ → List ℕ
-held l = join (map (λ n. letter n ∷ 7 ∷ []) l)
+unfoldable layoutRows : List ℕ → List ℕ
+layoutRows l = join (map (λ n. letter n ∷ 7 ∷ []) l)
 
 unfoldable layout : ℕ → ℕ → Layout
 layout name s = record { name = name; set = s }
 
 -- with these layouts; zeros after them
 unfoldable with : List Layout → Made → Seen
-with l e = laying (layoutPlaces 8 l) e
+with l e = readWith (layoutPlaces 8 l) e
 
 -- a fresh floor of three tiles, hopper 0, in memory
 unfoldable three : Floor
@@ -69,19 +69,19 @@ table =
     ∷ (tried ((65 ∷ 0 ∷ 65 ∷ replicate 5 0) ∷ (0 ∷ 65 ∷ replicate 6 0) ∷ (replicate 7 65 ++ (97 ∷ [])) ∷ (64 ∷ replicate 7 0) ∷ (91 ∷ replicate 7 0) ∷ (65 ∷ 32 ∷ replicate 6 0) ∷ []), 44 ∷ 44 ∷ 44 ∷ 44 ∷ 44 ∷ 44 ∷ [])
     ∷ (answered (keeping (2 ^ 64 + A)) f, 44 ∷ [])
     -- a fresh floor has none; by rising name: A, AB, B; the first letter is the highest byte
-    ∷ (laid f, 0 ∷ [])
-    ∷ (laid (keep (named (65 ∷ 66 ∷ [])) (keep A (keep B f))), 0 ∷ (65 * 2 ^ 56) ∷ 7 ∷ (65 * 2 ^ 56 + 66 * 2 ^ 48) ∷ 7 ∷ (66 * 2 ^ 56) ∷ 7 ∷ [])
+    ∷ (layoutsRead f, 0 ∷ [])
+    ∷ (layoutsRead (keep (named (65 ∷ 66 ∷ [])) (keep A (keep B f))), 0 ∷ (65 * 2 ^ 56) ∷ 7 ∷ (65 * 2 ^ 56 + 66 * 2 ^ 48) ∷ 7 ∷ (66 * 2 ^ 56) ∷ 7 ∷ [])
     -- the set of tiles that ran when it was kept; a held name is replaced
-    ∷ (laid (keep A (stop 1 f)), 0 ∷ A ∷ 5 ∷ [])
-    ∷ (laid (keep B (stop 1 (keep B (keep A f)))), 0 ∷ A ∷ 7 ∷ B ∷ 5 ∷ [])
+    ∷ (layoutsRead (keep A (stop 1 f)), 0 ∷ A ∷ 5 ∷ [])
+    ∷ (layoutsRead (keep B (stop 1 (keep B (keep A f)))), 0 ∷ A ∷ 7 ∷ B ∷ 5 ∷ [])
     -- eight names, and a ninth; a held one of eight is replaced; after one is forgotten there is room
-    ∷ (laid full, 0 ∷ held (tab 8 (λ n. n)))
+    ∷ (layoutsRead full, 0 ∷ layoutRows (tab 8 (λ n. n)))
     ∷ (answered (keeping (letter 8)) full, 46 ∷ [])
-    ∷ (laid (keep (letter 3) (stop 1 full)), 0 ∷ held (0 ∷ 1 ∷ 2 ∷ []) ++ (letter 3 ∷ 5 ∷ held (4 ∷ 5 ∷ 6 ∷ 7 ∷ [])))
-    ∷ (laid (keep (letter 8) (forget (letter 3) full)), 0 ∷ held (0 ∷ 1 ∷ 2 ∷ 4 ∷ 5 ∷ 6 ∷ 7 ∷ 8 ∷ []))
+    ∷ (layoutsRead (keep (letter 3) (stop 1 full)), 0 ∷ layoutRows (0 ∷ 1 ∷ 2 ∷ []) ++ (letter 3 ∷ 5 ∷ layoutRows (4 ∷ 5 ∷ 6 ∷ 7 ∷ [])))
+    ∷ (layoutsRead (keep (letter 8) (forget (letter 3) full)), 0 ∷ layoutRows (0 ∷ 1 ∷ 2 ∷ 4 ∷ 5 ∷ 6 ∷ 7 ∷ 8 ∷ []))
     -- forgetting frees its place, the first and the last too
-    ∷ (laid (forget A (keep B (keep A f))), 0 ∷ B ∷ 7 ∷ [])
-    ∷ (laid (forget B (keep B (keep A f))), 0 ∷ A ∷ 7 ∷ [])
+    ∷ (layoutsRead (forget A (keep B (keep A f))), 0 ∷ B ∷ 7 ∷ [])
+    ∷ (layoutsRead (forget B (keep B (keep A f))), 0 ∷ A ∷ 7 ∷ [])
     ∷ (whole 3 going, goes)
     ∷ (whole 3 (forget A (keep A going)), goes)
     -- the orders: 30, 44, then 45 or 46; the floor of a refusal
@@ -100,14 +100,14 @@ table =
     ∷ (with (layout A 7 ∷ layout B 7 ∷ []) f, 0 ∷ []) ∷ (with (tab 8 (λ n. layout (letter n) 7)) f, 0 ∷ [])
     ∷ (with (layout B 7 ∷ layout A 7 ∷ []) f, 30 ∷ []) ∷ (with (layout A 7 ∷ layout A 7 ∷ []) f, 30 ∷ []) ∷ (with (layout 97 7 ∷ []) f, 30 ∷ [])
     ∷ (with (layout A 8 ∷ []) f, 30 ∷ []) ∷ (with (layout A 9 ∷ []) f, 30 ∷ []) ∷ (with (layout A 6 ∷ []) f, 30 ∷ [])
-    ∷ (laying (set (replicate 8 zeroLayout) 0 (layout 0 7)) f, 30 ∷ []) ∷ (laying (set (replicate 8 zeroLayout) 1 (layout A 7)) f, 30 ∷ []) ∷ (laying (replicate 7 zeroLayout) f, 30 ∷ [])
+    ∷ (readWith (set (replicate 8 zeroLayout) 0 (layout 0 7)) f, 30 ∷ []) ∷ (readWith (set (replicate 8 zeroLayout) 1 (layout A 7)) f, 30 ∷ []) ∷ (readWith (replicate 7 zeroLayout) f, 30 ∷ [])
     ∷ (given (keepAnswer (relaid three (layoutPlaces 8 (layout B 7 ∷ layout A 7 ∷ []))) A .refusal ∷ roundAnswer (relaid three (layoutPlaces 8 (layout A 6 ∷ []))) .refusal ∷ []), 30 ∷ 30 ∷ [])
     -- hoppers 0 and 3: a set needs both
     ∷ (with (layout A 9 ∷ []) ends, 0 ∷ []) ∷ (with (layout A 15 ∷ []) ends, 0 ∷ []) ∷ (with (layout A 7 ∷ []) ends, 30 ∷ []) ∷ (with (layout A 14 ∷ []) ends, 30 ∷ [])
     ∷ []
 
 computed : holdBy table ≡ true
-unfolding holds holdBy letter many held layout with three ends going goes table
+unfolding holds holdBy letter many layoutRows layout with three ends going goes table
 computed = refl
 
 layout-samples : hold table ≡ true

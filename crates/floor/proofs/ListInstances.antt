@@ -13,21 +13,21 @@ use Rattle.floor.specs.Model.{Model, nextOf, membersOf, numbersOn, runsO
 use Rattle.floor.specs.Memory.{view}
 use Rattle.floor.specs.Live.{LivePath, connected}
 use Rattle.floor.specs.Bookings.{answered}
-use Rattle.floor.specs.Demand3.{Call, stop, repair, round, list, Typed, floorAfter, bookedIn, reportedAll, runsAfter, disturbs, Quiet, Promises}
-use Rattle.floor.specs.Together.{stops, presses, listTo, saidIn}
-use Rattle.floor.specs.Fairness.{wants, Waiting, grantsIn, Fair}
-use Rattle.floor.specs.Arrows.{Unpressed}
+use Rattle.floor.specs.Demand3.{Call, stop, repair, round, list, InRange, floorAfter, bookedIn, reportedAll, runsAfter, disturbs, Quiet, Promises}
+use Rattle.floor.specs.CommutingCalls.{stops, runningChanges, listTo, repliesIn}
+use Rattle.floor.specs.BoundedBypass.{wants, Waiting, grantsIn, Fair}
+use Rattle.floor.specs.Arrows.{RunningUnchanged}
 use Rattle.floor.proofs.Calling.{can, holds}
-use Rattle.floor.proofs.Shown.{Shows, listBy, shows-list-after}
-use Rattle.floor.proofs.Walked.{isTyped, all-typed, valueAfter, bookedBy, disturbsBy, quietBy, unpressedBy, waitingBy, call-disturbs, shows-list, booked-same, runs-same, quiet, unpressed, waiting}
-use Rattle.floor.proofs.Made.{Made, begun, fresh, book as put, floorOf, made, made-shows, list-shows, list-typed, answers, booked, reportedIn, runsAfter as ranAfter, Rows, hold, holdBy, by-values}
+use Rattle.floor.proofs.CallsByValue.{Shows, listBy, shows-list-after}
+use Rattle.floor.proofs.ListsByValue.{isInRange, all-in-range, valueAfter, bookedBy, disturbsBy, quietBy, runningUnchangedBy, waitingBy, call-disturbs, shows-list, booked-same, runs-same, quiet, running-unchanged, waiting}
+use Rattle.floor.proofs.TablesByValue.{Made, begun, fresh, book as put, floorOf, made, made-shows, list-shows, list-in-range, answers, booked, reportedIn, runsAfter as ranAfter, Rows, hold, holdBy, by-values}
 use Rattle.floor.proofs.Theorem.{demand3}
-use Rattle.floor.proofs.Together.{two-phones}
-use Rattle.floor.proofs.Fairness.{nobody-waits-twice}
+use Rattle.floor.proofs.CommutingCalls.{commuting-calls}
+use Rattle.floor.proofs.BoundedBypass.{bounded-bypass}
 use Rattle.floor.proofs.Arrows.{arrows}
 use Rattle.floor.proofs.AnywhereSamples.{small}
 use Rattle.floor.proofs.ListSamples.{entry, elsewhere}
-use Rattle.floor.proofs.Instances.{quietEnough, empties, emptied, rounds, square, square-shows, four-tiles, typed-rounds, unpressed-rounds, settled, rest, settled-shows}
+use Rattle.floor.proofs.Instances.{quietEnough, empties, emptied, rounds, square, square-shows, four-tiles, in-range-rounds, running-unchanged-rounds, settled, rest, settled-shows}
 
 -- ---- demand 3: W 2, hopper 1, U 9, l 8, v 1: places 0 and 1, so M is 2 and the bound 3 for one canister
 unfoldable first : Made
@@ -74,13 +74,13 @@ further-empty : membersOf (view (floorAfter (floorAfter (floorOf first) before) 
 further-empty = emptied first before further 0 further-test
 
 -- the premises apart
-before-made : (made first .0 && allOf isTyped before) ≡ true
+before-made : (made first .0 && allOf isInRange before) ≡ true
 unfolding holds holdBy small first can entry elsewhere before
 before-made = refl
 
-typed-further : allOf isTyped further ≡ true
+in-range-further : allOf isInRange further ≡ true
 unfolding holds holdBy can entry elsewhere further
-typed-further = refl
+in-range-further = refl
 
 before-test : (bookedBy (made first .1) before ≡ 5 ∷ []) × ((quietBy (valueAfter (made first .1) before) further ≡ true)
     × ((runsOf (valueAfter (made first .1) before) 1 ≡ true) × ((numbersOn (made first .1) ≡ []) × (made first .1 .counters .booked ≡ 0))))
@@ -90,17 +90,17 @@ before-test = (refl, (refl, (refl, (refl, refl))))
 first-shows : Shows (floorOf first) (made first .1)
 first-shows = list-shows first before before-made
 
-typed-before : All Typed before
-typed-before = list-typed first before before-made
+in-range-before : All InRange before
+in-range-before = list-in-range first before before-made
 
 P : Promises (floorOf first) before
-P = demand3 (floorOf first) (first-shows .well) before typed-before
+P = demand3 (floorOf first) (first-shows .well) before in-range-before
 
 before-shows : Shows (floorAfter (floorOf first) before) (valueAfter (made first .1) before)
-before-shows = shows-list (floorOf first) (made first .1) first-shows before typed-before
+before-shows = shows-list (floorOf first) (made first .1) first-shows before in-range-before
 
 before-booked : bookedIn (floorOf first) before ≡ 5 ∷ []
-before-booked = booked-same (floorOf first) (made first .1) first-shows before typed-before ∙ before-test .0
+before-booked = booked-same (floorOf first) (made first .1) first-shows before in-range-before ∙ before-test .0
 
 -- 5 alone was booked, and is counted
 five-counted : floorAfter (floorOf first) before .counters .booked ≡ 1
@@ -110,7 +110,7 @@ five-counted =
     ap (λ (g : Floor). g .counters .booked) (sym (P .is-now)) ∙ P .booked ∙ (λ i. none i + length (before-booked i))
 
 -- after both lists it was reported: with what stands on the floor that is all
-all-made : (made first .0 && allOf isTyped (before ++ further)) ≡ true
+all-made : (made first .0 && allOf isInRange (before ++ further)) ≡ true
 unfolding holds holdBy small first can entry elsewhere before further
 all-made = refl
 
@@ -121,21 +121,21 @@ all-booked = refl
 five-kept : List·Permᴰ (5 ∷ []) (numbersOn (view (floorAfter (floorOf first) (before ++ further))) ++ reportedAll (floorOf first) (before ++ further))
 five-kept =
     let f = floorOf first in
-    let typed = list-typed first (before ++ further) all-made in
-    let R = demand3 f (first-shows .well) (before ++ further) typed in
+    let in-range = list-in-range first (before ++ further) all-made in
+    let R = demand3 f (first-shows .well) (before ++ further) in-range in
     let none : numbersOn (view f) ≡ [] = ap numbersOn (first-shows .value) ∙ before-test .1 .1 .1 .0 in
-    let five : bookedIn f (before ++ further) ≡ 5 ∷ [] = booked-same f (made first .1) first-shows (before ++ further) typed ∙ all-booked in
+    let five : bookedIn f (before ++ further) ≡ 5 ∷ [] = booked-same f (made first .1) first-shows (before ++ further) in-range ∙ all-booked in
     subst (λ (g : Floor). List·Permᴰ (5 ∷ []) (numbersOn (view g) ++ reportedAll f (before ++ further))) (R .is-now)
     (subst (λ (l : List ℕ). List·Permᴰ l (numbersOn (view (R .now)) ++ reportedAll f (before ++ further))) (λ i. none i ++ five i) (R .kept))
 
 further-quiet : Quiet (P .now) further
 further-quiet =
     subst (λ (g : Floor). Quiet g further) (sym (P .is-now))
-    (quiet (floorAfter (floorOf first) before) (valueAfter (made first .1) before) before-shows further (all-typed further typed-further) (before-test .1 .0))
+    (quiet (floorAfter (floorOf first) before) (valueAfter (made first .1) before) before-shows further (all-in-range further in-range-further) (before-test .1 .0))
 
 -- the hopper runs after it too
 further-runs : runsAfter (floorOf first) (before ++ further) 1 ≡ true
-further-runs = P .runs-same further further-quiet 1 ∙ runs-same (floorOf first) (made first .1) first-shows before typed-before 1 ∙ before-test .1 .1 .0
+further-runs = P .runs-same further further-quiet 1 ∙ runs-same (floorOf first) (made first .1) first-shows before in-range-before 1 ∙ before-test .1 .1 .0
 
 -- a list call with one accepted entry is an accepted booking; 65 entries aren't, whatever is written in them
 half-test : (made first .0 ≡ true) × ((disturbsBy (made first .1) (list half) ≡ true) × (disturbsBy (made first .1) (list claimed) ≡ false))
@@ -158,14 +158,14 @@ row = fresh 3 1 0
 unfoldable later : List Call
 later = round ∷ list (entry 1 5 0 0 ∷ entry 2 0 0 0 ∷ []) ∷ stop 1 ∷ round ∷ []
 
-row-made : (made row .0 && allOf isTyped (stop 1 ∷ [])) ≡ true
+row-made : (made row .0 && allOf isInRange (stop 1 ∷ [])) ≡ true
 unfolding holds holdBy row
 row-made = refl
 
 abbrev cut : Model
 cut = valueAfter (made row .1) (stop 1 ∷ [])
 
-row-test : (allOf isTyped later ≡ true) × ((quietBy cut later ≡ true) × ((connected (made row .1 .settings) (runsOf cut) 0 ≡ true) × (connected (made row .1 .settings) (runsOf cut) 2 ≡ false)))
+row-test : (allOf isInRange later ≡ true) × ((quietBy cut later ≡ true) × ((connected (made row .1 .settings) (runsOf cut) 0 ≡ true) × (connected (made row .1 .settings) (runsOf cut) 2 ≡ false)))
 unfolding holds holdBy row can entry later quietBy
 row-test = (refl, (refl, (refl, refl)))
 
@@ -179,7 +179,7 @@ cut-shows : Shows (floorAfter (floorOf row) (stop 1 ∷ [])) cut
 cut-shows = shows-list (floorOf row) (made row .1) row-shows (stop 1 ∷ []) (tt, tt)
 
 later-quiet : Quiet (Q .now) later
-later-quiet = subst (λ (g : Floor). Quiet g later) (sym (Q .is-now)) (quiet (floorAfter (floorOf row) (stop 1 ∷ [])) cut cut-shows later (all-typed later (row-test .0)) (row-test .1 .0))
+later-quiet = subst (λ (g : Floor). Quiet g later) (sym (Q .is-now)) (quiet (floorAfter (floorOf row) (stop 1 ∷ [])) cut cut-shows later (all-in-range later (row-test .0)) (row-test .1 .0))
 
 cut-connected : (t : ℕ) → connected (floorOf row .settings) (runsAfter (floorOf row) (stop 1 ∷ [])) t ≡ connected (made row .1 .settings) (runsOf cut) t
 unfolding view
@@ -198,47 +198,47 @@ three = put 8 0 0 7 (put 7 0 0 5 (put 6 0 0 3 (fresh 3 3 4)))
 unfoldable brought : List Call
 brought = list (entry 1 9 0 0 ∷ entry 1 9 70 0 ∷ []) ∷ rounds 5
 
-three-test : (made three .0 ≡ true) × ((allOf isTyped brought ≡ true) × ((wants (made three .1) 4 1 ≡ false) × (waitingBy (made three .1) brought 4 1 ≡ true)))
+three-test : (made three .0 ≡ true) × ((allOf isInRange brought ≡ true) × ((wants (made three .1) 4 1 ≡ false) × (waitingBy (made three .1) brought 4 1 ≡ true)))
 unfolding holds holdBy three can entry brought wants waitingBy
 three-test = (refl, (refl, (refl, refl)))
 
 three-shows : Shows (floorOf three) (made three .1)
 three-shows = made-shows three (three-test .0)
 
-typed-brought : All Typed brought
-typed-brought = all-typed brought (three-test .1 .0)
+in-range-brought : All InRange brought
+in-range-brought = all-in-range brought (three-test .1 .0)
 
 not-yet : wants (view (floorOf three)) 4 1 ≡ false
 not-yet = ap (λ (m : Model). wants m 4 1) (three-shows .value) ∙ three-test .1 .1 .0
 
 brought-waits : Waiting (floorOf three) brought 4 1
-brought-waits = waiting (floorOf three) (made three .1) three-shows brought typed-brought 4 1 (three-test .1 .1 .1)
+brought-waits = waiting (floorOf three) (made three .1) three-shows brought in-range-brought 4 1 (three-test .1 .1 .1)
 
 brought-fair : Fair 1 (grantsIn (floorOf three) brought 4)
-brought-fair = nobody-waits-twice (floorOf three) (three-shows .well) .fair brought typed-brought 4 1 brought-waits
+brought-fair = bounded-bypass (floorOf three) (three-shows .well) .fair brought in-range-brought 4 1 brought-waits
 
 -- ---- [3]: arrows rest through list calls, one with an accepted entry and one of 65
 unfoldable busy : List Call
 busy = list (entry 0 5 0 0 ∷ entry 0 6 39 39 ∷ []) ∷ round ∷ list (elsewhere 65) ∷ round ∷ []
 
-busy-test : (allOf isTyped busy ≡ true) × (unpressedBy rest busy ≡ true)
-unfolding holds holdBy square can entry elsewhere busy unpressedBy
+busy-test : (allOf isInRange busy ≡ true) × (runningUnchangedBy rest busy ≡ true)
+unfolding holds holdBy square can entry elsewhere busy runningUnchangedBy
 busy-test = (refl, refl)
 
-typed-busy : All Typed busy
-typed-busy = all-typed busy (busy-test .0)
+in-range-busy : All InRange busy
+in-range-busy = all-in-range busy (busy-test .0)
 
-busy-unpressed : Unpressed settled busy
-busy-unpressed = unpressed settled rest settled-shows busy typed-busy (busy-test .1)
+busy-running-unchanged : RunningUnchanged settled busy
+busy-running-unchanged = running-unchanged settled rest settled-shows busy in-range-busy (busy-test .1)
 
 busy-rested : (t : ℕ) → nextOf (view (floorAfter settled busy)) t ≡ nextOf (view settled) t
-busy-rested = arrows (floorOf square) (square-shows .well) .1 .rests (rounds 4) (typed-rounds 4) (unpressed-rounds 4 (floorOf square)) (omega (arith, four-tiles)) .stays busy typed-busy busy-unpressed
+busy-rested = arrows (floorOf square) (square-shows .well) .1 .rests (rounds 4) (in-range-rounds 4) (running-unchanged-rounds 4 (floorOf square)) (omega (arith, four-tiles)) .stays busy in-range-busy busy-running-unchanged
 
 -- ---- [14]: two stops change places before a list call: its entries come back with the same answers
 unfoldable asked : List Booking
 asked = entry 2 5 0 0 ∷ entry 1 6 0 0 ∷ []
 
-asked-test : (allOf isTyped (stop 1 ∷ stop 2 ∷ list asked ∷ []) ≡ true) × (listBy (valueAfter (made row .1) (stop 1 ∷ stop 2 ∷ [])) (list asked) ≡ answered (entry 2 5 0 0) 31 ∷ answered (entry 1 6 0 0) 31 ∷ [])
+asked-test : (allOf isInRange (stop 1 ∷ stop 2 ∷ list asked ∷ []) ≡ true) × (listBy (valueAfter (made row .1) (stop 1 ∷ stop 2 ∷ [])) (list asked) ≡ answered (entry 2 5 0 0) 31 ∷ answered (entry 1 6 0 0) 31 ∷ [])
 unfolding holds holdBy row can entry asked
 asked-test = (refl, refl)
 
@@ -246,13 +246,13 @@ none-before : (f : Floor) → floorAfter f [] ≡ f
 unfolding floorAfter
 none-before f = refl
 
-asked-said : map (λ x. x .3) (saidIn (floorOf row) (stop 2 ∷ stop 1 ∷ list asked ∷ [])) ≡ [] ∷ [] ∷ (answered (entry 2 5 0 0) 31 ∷ answered (entry 1 6 0 0) 31 ∷ []) ∷ []
-unfolding saidIn listTo
-asked-said =
+asked-reply : map (λ x. x .3) (repliesIn (floorOf row) (stop 2 ∷ stop 1 ∷ list asked ∷ [])) ≡ [] ∷ [] ∷ (answered (entry 2 5 0 0) 31 ∷ answered (entry 1 6 0 0) 31 ∷ []) ∷ []
+unfolding repliesIn listTo
+asked-reply =
     let f = floorOf row in
     let two = stop 1 ∷ stop 2 ∷ [] in
-    let typed = all-typed (stop 1 ∷ stop 2 ∷ list asked ∷ []) (asked-test .0) in
-    let X = two-phones f .in-lists [] (stop 1) (stop 2) (list asked ∷ []) (presses (omega arith) stops stops) in
+    let in-range = all-in-range (stop 1 ∷ stop 2 ∷ list asked ∷ []) (asked-test .0) in
+    let X = commuting-calls f .in-lists [] (stop 1) (stop 2) (list asked ∷ []) (runningChanges (omega arith) stops stops) in
     let last : listTo (floorAfter f two) (list asked) ≡ answered (entry 2 5 0 0) 31 ∷ answered (entry 1 6 0 0) 31 ∷ [] =
-    shows-list-after (floorAfter f two) (valueAfter (made row .1) two) (shows-list f (made row .1) row-shows two (tt, (tt, tt))) (list asked) (typed .1 .1 .0) ∙ asked-test .1 in
+    shows-list-after (floorAfter f two) (valueAfter (made row .1) two) (shows-list f (made row .1) row-shows two (tt, (tt, tt))) (list asked) (in-range .1 .1 .0) ∙ asked-test .1 in
     ap (map (λ x. x .3)) (X .exchanged) ∙ ap (λ (g : Floor). [] ∷ [] ∷ listTo (floorAfter g two) (list asked) ∷ []) (X .is-here ∙ none-before f) ∙ ap (λ (k : List Booking). [] ∷ [] ∷ k ∷ []) last

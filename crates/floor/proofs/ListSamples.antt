@@ -11,7 +11,7 @@ use Rattle.floor.specs.Memory.{zeroFloor}
 use Rattle.floor.specs.Bookings.{floorSingly, entriesSingly, listAnswer, listAfter}
 use Rattle.floor.specs.Demand3.{list}
 use Rattle.floor.proofs.Calling.{fresh as freshFloor, can, flat, sameFloor, Table, holds}
-use Rattle.floor.proofs.Made.{called, fresh, stop, on, counted, entries, Rows, hold, holdBy, by-values}
+use Rattle.floor.proofs.TablesByValue.{called, fresh, stop, on, counted, entries, Rows, hold, holdBy, by-values}
 
 -- canister number n at (a, b) on tile t; 99 stands where the answer comes
 unfoldable pub entry : ℕ → ℕ → ℕ → ℕ → Booking
@@ -26,8 +26,8 @@ unfoldable mixed : List Booking
 mixed = entry 0 5 0 0 ∷ entry 0 6 39 39 ∷ entry 0 6 40 0 ∷ entry 0 6 0 40 ∷ entry 1 7 0 0 ∷ entry 0 8 0 40 ∷ []
 
 -- an entry's answer; all of it
-unfoldable told : Booking → List ℕ
-told b = b .answer ∷ []
+unfoldable entryAnswer : Booking → List ℕ
+entryAnswer b = b .answer ∷ []
 
 unfoldable all : Booking → List ℕ
 all b = b .tile ∷ flat (b .canister ∷ []) ++ (b .answer ∷ [])
@@ -35,22 +35,22 @@ all b = b .tile ∷ flat (b .canister ∷ []) ++ (b .answer ∷ [])
 unfoldable rows : Rows
 rows =
     let e = fresh 2 1 1 in
-    (entries told mixed e, 0 ∷ 0 ∷ 34 ∷ 0 ∷ 33 ∷ 5 ∷ 0 ∷ [])
+    (entries entryAnswer mixed e, 0 ∷ 0 ∷ 34 ∷ 0 ∷ 33 ∷ 5 ∷ 0 ∷ [])
     ∷ (on 0 (called (list mixed) e), 0 ∷ 5 ∷ 0 ∷ 0 ∷ 6 ∷ 40 ∷ 0 ∷ 8 ∷ 0 ∷ 40 ∷ [])
     ∷ (counted (called (list mixed) e), 0 ∷ 8 ∷ 3 ∷ 0 ∷ 0 ∷ 0 ∷ 0 ∷ [])
     -- tiles and canisters stay, of a refused entry too
     ∷ (entries all (entry 7 5 1 2 ∷ entry 0 9 3 4 ∷ []) e, 0 ∷ 7 ∷ 5 ∷ 1 ∷ 2 ∷ 4 ∷ 0 ∷ 9 ∷ 3 ∷ 4 ∷ 0 ∷ [])
     -- in the other order the lower number is refused
-    ∷ (entries told (entry 0 6 40 0 ∷ entry 0 5 0 0 ∷ []) e, 0 ∷ 0 ∷ 33 ∷ [])
-    ∷ (entries told (entry 0 5 0 0 ∷ entry 0 0 0 0 ∷ entry 0 5 71 0 ∷ []) (stop 0 e), 0 ∷ 31 ∷ 6 ∷ 7 ∷ [])
+    ∷ (entries entryAnswer (entry 0 6 40 0 ∷ entry 0 5 0 0 ∷ []) e, 0 ∷ 0 ∷ 33 ∷ [])
+    ∷ (entries entryAnswer (entry 0 5 0 0 ∷ entry 0 0 0 0 ∷ entry 0 5 71 0 ∷ []) (stop 0 e), 0 ∷ 31 ∷ 6 ∷ 7 ∷ [])
     -- no entry; 64 and 65 entries
-    ∷ (entries told [] e, 0 ∷ [])
-    ∷ (entries told (elsewhere 64) e, 0 ∷ replicate 64 4)
-    ∷ (entries told (elsewhere 65) e, 42 ∷ replicate 65 99)
+    ∷ (entries entryAnswer [] e, 0 ∷ [])
+    ∷ (entries entryAnswer (elsewhere 64) e, 0 ∷ replicate 64 4)
+    ∷ (entries entryAnswer (elsewhere 65) e, 42 ∷ replicate 65 99)
     ∷ []
 
 rows-test : holdBy rows ≡ true
-unfolding holds holdBy can entry elsewhere mixed told all rows
+unfolding holds holdBy can entry elsewhere mixed entryAnswer all rows
 rows-test = refl
 
 list-rows : hold rows ≡ true

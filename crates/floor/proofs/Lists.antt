@@ -27,19 +27,19 @@ use Rattle.floor.specs.Well.{wellFormed}
 use Rattle.floor.specs.Route.{route}
 use Rattle.floor.specs.Signal.{signal, signalOf, shownOf}
 use Rattle.floor.specs.Move.{move, moveTile, arrivals, deliveredBy}
-use Rattle.floor.specs.Calls.{refusalOf, answer, bookTests, booked, bookAnswer, stopTests, stopped, stopAnswer, repairTests, repaired, repairAnswer, keepTests, keptUnder, keepAnswer, heldTests, forgotten, forgetAnswer, recalled, recallAnswer, afterRound, delivered, deliveryOf, noDelivery, reportOf, roundAnswer}
+use Rattle.floor.specs.Calls.{refusalOf, answer, bookTests, booked, bookAnswer, stopTests, stopped, stopAnswer, repairTests, repaired, repairAnswer, keepTests, keptUnder, keepAnswer, nameHeldTests, forgotten, forgetAnswer, recalled, recallAnswer, afterRound, delivered, deliveryOf, noDelivery, reportOf, roundAnswer}
 use Rattle.floor.specs.Anywhere.{anywhereTests, placedAt, anywhereAnswer}
 use Rattle.floor.specs.Bookings.{single, floorSingly, entriesSingly, tooLong, acceptedIn, listAnswer, listAfter}
 use Rattle.floor.specs.Reports.{listed, listedAt}
-use Rattle.floor.specs.Demand3.{Call, book, anywhere, stop, repair, round, keep, forget, recall, list, Typed, outcome, floorAfter, bookedIn, reportedIn, recallSet, recallMakes, runsBy, latest, runsAfter, isRound, changesRunning, disturbs, Quiet, roundsIn}
+use Rattle.floor.specs.Demand3.{Call, book, anywhere, stop, repair, round, keep, forget, recall, list, InRange, outcome, floorAfter, bookedIn, reportedIn, recallSet, recallMakes, runsBy, latest, runsAfter, isRound, changesRunning, disturbs, Quiet, roundsIn}
 use Rattle.floor.proofs.Sound.{Sound}
 use Rattle.floor.proofs.Pack.{well-sound}
 use Rattle.floor.proofs.Capacity.{sound-well, view-packed}
 use Rattle.floor.proofs.Deliveries.{delivered-few}
-use Rattle.floor.proofs.Fields.{went, delivered-length, round-runs}
+use Rattle.floor.proofs.Fields.{deliveredTo, delivered-length, round-runs}
 use Rattle.floor.proofs.Clearing.{rounds}
 use Rattle.floor.proofs.Calls.{Keeps, none, Accepted, book-keeps, anywhere-accepts, anywhere-keeps, stop-keeps, repair-keeps, round-keeps, same-floor, keeps-join, book-runs, stop-runs, repair-runs}
-use Rattle.floor.proofs.Laying.{keep-keeps, forget-keeps}
+use Rattle.floor.proofs.SoundLayouts.{keep-keeps, forget-keeps}
 use Rattle.floor.proofs.Stages.{recall-keeps, recall-runs, recall-none}
 
 -- one list of calls after another
@@ -60,7 +60,7 @@ reported-both f (c ∷ cs) ds k = ap (λ l. outcome f c .reported k ++ l) (repor
 
 -- from f to g, with the numbers that came and went
 abbrev pub KeepsWell : Floor → Floor → List ℕ → (ℕ → List ℕ) → Type 0
-KeepsWell f g came gone = (wellFormed g ≡ true) × Keeps (view f) (view g) came gone
+KeepsWell f g added removed = (wellFormed g ≡ true) × Keeps (view f) (view g) added removed
 
 -- the first `count` of the report's four numbers are all that were delivered
 pub listed-all : (l : List ℕ) → length l ≤ 4 → take (length l) (tab 4 (λ k. getD l k 0)) ≡ l
@@ -73,12 +73,12 @@ listed-all (a ∷ b ∷ c ∷ d ∷ []) h = refl
 listed-all (a ∷ b ∷ c ∷ d ∷ e ∷ l) h = absurd (omega arith)
 
 -- each hopper's part of the report, beyond the last one too
-pub report-at : (m : Model) → Sound m → (k : ℕ) → getD (reportOf m .deliveries) k noDelivery ≡ deliveryOf (went m k)
+pub report-at : (m : Model) → Sound m → (k : ℕ) → getD (reportOf m .deliveries) k noDelivery ≡ deliveryOf (deliveredTo m k)
 unfolding reportOf deliveryOf tab
 report-at m S k = go (decLe (suc k) 4)
   where
     each : ℕ → Delivery
-    each k = deliveryOf (went m k)
+    each k = deliveryOf (deliveredTo m k)
 
     go : Dec (k < 4) → getD (tab 4 each) k noDelivery ≡ each k
     go (yes h) = tab-at 4 each k noDelivery h
@@ -94,8 +94,8 @@ module _ (f : Floor) (w : wellFormed f ≡ true) where
   unchanged : KeepsWell f f [] none
   unchanged = (w, same-floor (view f) S)
 
-  packed : (n : Model) (came : List ℕ) (gone : ℕ → List ℕ) → Keeps (view f) n came gone → KeepsWell f (pack n) came gone
-  packed n came gone K = (sound-well n (K .well), subst (λ (x : Model). Keeps (view f) x came gone) (sym (view-packed n (K .well))) K)
+  packed : (n : Model) (added : List ℕ) (removed : ℕ → List ℕ) → Keeps (view f) n added removed → KeepsWell f (pack n) added removed
+  packed n added removed K = (sound-well n (K .well), subst (λ (x : Model). Keeps (view f) x added removed) (sym (view-packed n (K .well))) K)
 
   -- the answer of a call with tests: accepted or not
   module _ (tests : List (Bool × ℕ)) (pos : All (λ x. 0 < x .1) tests) where
@@ -110,10 +110,10 @@ module _ (f : Floor) (w : wellFormed f ≡ true) where
         go true e = yes′ (passed e)
         go false e = no′
 
-    answer-keeps : (n : Model) (came : Bool → List ℕ) → came false ≡ [] → (Accepted tests → Keeps (view f) n (came true) none)
-        → KeepsWell f (cond (eqb (refusalOf f tests) 0) (pack n) f) (came (eqb (refusalOf f tests) 0)) none
-    answer-keeps n came e K =
-        by-answer (λ b. KeepsWell f (cond b (pack n) f) (came b) none) (λ T. packed n (came true) none (K T)) (subst (λ (l : List ℕ). KeepsWell f f l none) (sym e) unchanged)
+    answer-keeps : (n : Model) (added : Bool → List ℕ) → added false ≡ [] → (Accepted tests → Keeps (view f) n (added true) none)
+        → KeepsWell f (cond (eqb (refusalOf f tests) 0) (pack n) f) (added (eqb (refusalOf f tests) 0)) none
+    answer-keeps n added e K =
+        by-answer (λ b. KeepsWell f (cond b (pack n) f) (added b) none) (λ T. packed n (added true) none (K T)) (subst (λ (l : List ℕ). KeepsWell f f l none) (sym e) unchanged)
 
     -- how a tile runs after it; `same` tells whether the call named that tile
     answer-runs : (n : Model) (t : ℕ) (same r : Bool) → Sound (view f) → (Accepted tests → Sound n) → (Accepted tests → runsOf n t ≡ cond same r (runsOf (view f) t))
@@ -135,12 +135,12 @@ module _ (f : Floor) (w : wellFormed f ≡ true) where
   unfolding roundAnswer
   round-report = rw round-accepted
 
-  pub round-reported : outcome f round .reported ≡ went (view f)
+  pub round-reported : outcome f round .reported ≡ deliveredTo (view f)
   unfolding outcome listedAt deliveryOf
   round-reported = fun-ext reported
     where
-      reported : (k : ℕ) → listedAt (roundAnswer f .report) k ≡ went (view f) k
-      reported k = ap (λ (r : Report). listedAt r k) round-report ∙ ap listed (report-at (view f) S k) ∙ listed-all (went (view f) k) (delivered-few (view f) S k)
+      reported : (k : ℕ) → listedAt (roundAnswer f .report) k ≡ deliveredTo (view f) k
+      reported k = ap (λ (r : Report). listedAt r k) round-report ∙ ap listed (report-at (view f) S k) ∙ listed-all (deliveredTo (view f) k) (delivered-few (view f) S k)
 
   pub view-round : (c : Call) → isRound c ≡ true → view (outcome f c .floor) ≡ afterRound (view f)
   view-round (book t c) e = absurd (false≢true e)
@@ -179,7 +179,7 @@ pub list-made : (f : Floor) (l : List Booking) → tooLong (length l) ≡ false
 unfolding outcome listAnswer listAfter
 list-made f l e = (rw e, rw e, rw e, refl)
 
-singly-keeps : (f : Floor) → wellFormed f ≡ true → (l : List Booking) → Typed (list l) → KeepsWell f (floorSingly f l) (acceptedIn (entriesSingly f l)) none
+singly-keeps : (f : Floor) → wellFormed f ≡ true → (l : List Booking) → InRange (list l) → KeepsWell f (floorSingly f l) (acceptedIn (entriesSingly f l)) none
 unfolding floorSingly entriesSingly
 singly-keeps f w [] h = unchanged f w
 singly-keeps f w (b ∷ l) h =
@@ -189,20 +189,20 @@ singly-keeps f w (b ∷ l) h =
     (J .0, keeps-join (view f) (view g) (view (floorSingly g l)) (cond (eqb (single f b .refusal) 0) (b .canister .number ∷ []) []) none (acceptedIn (entriesSingly g l)) none (K .1) (J .1))
 
 -- what a booking keeps of a well-formed floor, a list of bookings keeps
-module _ (P : Floor → Type 0) (step : (g : Floor) → wellFormed g ≡ true → (t : ℕ) (c : Canister) → Typed (book t c) → P g → P (outcome g (book t c) .floor)) where
-  each-booking : (f : Floor) → wellFormed f ≡ true → (l : List Booking) → Typed (list l) → P f → P (floorSingly f l)
+module _ (P : Floor → Type 0) (step : (g : Floor) → wellFormed g ≡ true → (t : ℕ) (c : Canister) → InRange (book t c) → P g → P (outcome g (book t c) .floor)) where
+  each-booking : (f : Floor) → wellFormed f ≡ true → (l : List Booking) → InRange (list l) → P f → P (floorSingly f l)
   unfolding floorSingly outcome
   each-booking f w [] h p = p
   each-booking f w (b ∷ l) h p = each-booking (single f b .floor) (booking-keeps f w (b .tile) (b .canister) (h .0) .0) l (h .1) (step f w (b .tile) (b .canister) (h .0) p)
 
-  pub through-list : (f : Floor) → wellFormed f ≡ true → (l : List Booking) → Typed (list l) → P f → P (outcome f (list l) .floor)
+  pub through-list : (f : Floor) → wellFormed f ≡ true → (l : List Booking) → InRange (list l) → P f → P (outcome f (list l) .floor)
   through-list f w l h p = go (by-test (tooLong (length l)))
     where
       go : (tooLong (length l) ≡ true) ⊎ (tooLong (length l) ≡ false) → P (outcome f (list l) .floor)
       go (inl e) = subst P (sym (list-refused f l e .1)) p
       go (inr e) = subst P (sym (list-made f l e .1)) (each-booking f w l h p)
 
-list-call-keeps : (f : Floor) → wellFormed f ≡ true → (l : List Booking) → Typed (list l) → KeepsWell f (outcome f (list l) .floor) (outcome f (list l) .booked) (outcome f (list l) .reported)
+list-call-keeps : (f : Floor) → wellFormed f ≡ true → (l : List Booking) → InRange (list l) → KeepsWell f (outcome f (list l) .floor) (outcome f (list l) .booked) (outcome f (list l) .reported)
 list-call-keeps f w l h = go (by-test (tooLong (length l)))
   where
     go : (tooLong (length l) ≡ true) ⊎ (tooLong (length l) ≡ false) → KeepsWell f (outcome f (list l) .floor) (outcome f (list l) .booked) (outcome f (list l) .reported)
@@ -232,8 +232,8 @@ none-accepted f (b ∷ l) h = go (eqb (single f b .refusal) 0) refl h (none-acce
 
 -- ---- one call
 module _ (f : Floor) (w : wellFormed f ≡ true) where
-  pub call-keeps : (c : Call) → Typed c → KeepsWell f (outcome f c .floor) (outcome f c .booked) (outcome f c .reported)
-  unfolding outcome anywhereAnswer stopAnswer repairAnswer keepAnswer forgetAnswer recallAnswer answer anywhereTests stopTests repairTests keepTests heldTests
+  pub call-keeps : (c : Call) → InRange c → KeepsWell f (outcome f c .floor) (outcome f c .booked) (outcome f c .reported)
+  unfolding outcome anywhereAnswer stopAnswer repairAnswer keepAnswer forgetAnswer recallAnswer answer anywhereTests stopTests repairTests keepTests nameHeldTests
   call-keeps (book t c) h = booking-keeps f w t c h
   call-keeps (anywhere t number) h =
       answer-keeps f w (anywhereTests (view f) t number) (omega arith) (booked (view f) t (placedAt (view f) t number)) (λ b. cond b (number ∷ []) []) refl (λ T. anywhere-keeps (view f) (S f w) t number T h)
@@ -241,15 +241,15 @@ module _ (f : Floor) (w : wellFormed f ≡ true) where
   call-keeps (repair t) h = answer-keeps f w (repairTests (view f) t) (omega arith) (withTile (view f) t (repaired (tileOf (view f) t))) (λ _. []) refl (repair-keeps (view f) (S f w) t)
   call-keeps round h =
       subst (λ (g : Floor). KeepsWell f g [] (outcome f round .reported)) (sym (round-floor f w))
-      (subst (λ (l : ℕ → List ℕ). KeepsWell f (pack (afterRound (view f))) [] l) (sym (round-reported f w)) (packed f w (afterRound (view f)) [] (went (view f)) (round-keeps (view f) (S f w))))
+      (subst (λ (l : ℕ → List ℕ). KeepsWell f (pack (afterRound (view f))) [] l) (sym (round-reported f w)) (packed f w (afterRound (view f)) [] (deliveredTo (view f)) (round-keeps (view f) (S f w))))
   call-keeps (keep name) h = answer-keeps f w (keepTests (view f .layouts) name) (omega arith) (keptUnder (view f) name) (λ _. []) refl (keep-keeps (view f) (S f w) name)
-  call-keeps (forget name) h = answer-keeps f w (heldTests (view f .layouts) name) (omega arith) (forgotten (view f) name) (λ _. []) refl (λ _. forget-keeps (view f) (S f w) name)
-  call-keeps (recall name) h = answer-keeps f w (heldTests (view f .layouts) name) (omega arith) (recalled (view f) (setOf (view f .layouts) name)) (λ _. []) refl (recall-keeps (view f) (S f w) name)
+  call-keeps (forget name) h = answer-keeps f w (nameHeldTests (view f .layouts) name) (omega arith) (forgotten (view f) name) (λ _. []) refl (λ _. forget-keeps (view f) (S f w) name)
+  call-keeps (recall name) h = answer-keeps f w (nameHeldTests (view f .layouts) name) (omega arith) (recalled (view f) (setOf (view f .layouts) name)) (λ _. []) refl (recall-keeps (view f) (S f w) name)
   call-keeps (list l) h = list-call-keeps f w l h
 
   -- which tiles run after it
-  pub call-runs : (c : Call) → Typed c → (t : ℕ) → runsOf (view (outcome f c .floor)) t ≡ runsBy f c t (runsOf (view f) t)
-  unfolding outcome anywhereAnswer stopAnswer repairAnswer keepAnswer forgetAnswer recallAnswer answer anywhereTests stopTests repairTests keepTests heldTests keptUnder forgotten runsBy recallMakes recallSet view
+  pub call-runs : (c : Call) → InRange c → (t : ℕ) → runsOf (view (outcome f c .floor)) t ≡ runsBy f c t (runsOf (view f) t)
+  unfolding outcome anywhereAnswer stopAnswer repairAnswer keepAnswer forgetAnswer recallAnswer answer anywhereTests stopTests repairTests keepTests nameHeldTests keptUnder forgotten runsBy recallMakes recallSet view
   call-runs (book u c) h t = booking-runs f w u c h t
   call-runs (anywhere u number) h t =
       answer-runs f w (anywhereTests (view f) u number) (omega arith) (booked (view f) u (placedAt (view f) u number)) t false true (S f w) (λ T. anywhere-keeps (view f) (S f w) u number T h .well)
@@ -263,11 +263,11 @@ module _ (f : Floor) (w : wellFormed f ≡ true) where
       by-answer f w (keepTests (view f .layouts) name) (omega arith) (λ b. runsOf (view (cond b (pack (keptUnder (view f) name)) f)) t ≡ runsOf (view f) t)
       (λ T. ap (λ (x : Model). runsOf x t) (view-packed (keptUnder (view f) name) (keep-keeps (view f) (S f w) name T .well))) refl
   call-runs (forget name) h t =
-      by-answer f w (heldTests (view f .layouts) name) (omega arith) (λ b. runsOf (view (cond b (pack (forgotten (view f) name)) f)) t ≡ runsOf (view f) t)
+      by-answer f w (nameHeldTests (view f .layouts) name) (omega arith) (λ b. runsOf (view (cond b (pack (forgotten (view f) name)) f)) t ≡ runsOf (view f) t)
       (λ T. ap (λ (x : Model). runsOf x t) (view-packed (forgotten (view f) name) (forget-keeps (view f) (S f w) name .well))) refl
   call-runs (recall name) h t =
       let set = setOf (view f .layouts) name in
-      by-answer f w (heldTests (view f .layouts) name) (omega arith)
+      by-answer f w (nameHeldTests (view f .layouts) name) (omega arith)
       (λ b. runsOf (view (cond b (pack (recalled (view f) set)) f)) t ≡ cond (b && (ltb t (total (f .settings)) && cond (bit set t) (not (runsOf (view f) t)) (runsOf (view f) t))) (bit set t) (runsOf (view f) t))
       (λ T. ap (λ (x : Model). runsOf x t) (view-packed (recalled (view f) set) (recall-keeps (view f) (S f w) name T .well)) ∙ recall-runs (view f) (S f w) set t) refl
   call-runs (list l) h t = through-list (λ g. runsOf (view g) t ≡ runsOf (view f) t) (λ g k u c n e. booking-runs g k u c n t ∙ e) f w l h refl
@@ -284,8 +284,8 @@ module _ (f : Floor) (w : wellFormed f ≡ true) where
   call-refused (repair t) r h = refused (repairTests (view f) t) (withTile (view f) t (repaired (tileOf (view f) t))) h
   call-refused round r h = absurd (true≢false r)
   call-refused (keep name) r h = refused (keepTests (view f .layouts) name) (keptUnder (view f) name) h
-  call-refused (forget name) r h = refused (heldTests (view f .layouts) name) (forgotten (view f) name) h
-  call-refused (recall name) r h = refused (heldTests (view f .layouts) name) (recalled (view f) (setOf (view f .layouts) name)) h
+  call-refused (forget name) r h = refused (nameHeldTests (view f .layouts) name) (forgotten (view f) name) h
+  call-refused (recall name) r h = refused (nameHeldTests (view f .layouts) name) (recalled (view f) (setOf (view f .layouts) name)) h
   call-refused (list l) r h = go (by-test (tooLong (length l)))
     where
       go : (tooLong (length l) ≡ true) ⊎ (tooLong (length l) ≡ false) → outcome f (list l) .floor ≡ f
@@ -305,8 +305,8 @@ module _ (f : Floor) (w : wellFormed f ≡ true) where
       (λ T. (keptUnder (view f) name .layouts, view-packed (keptUnder (view f) name) (keep-keeps (view f) (S f w) name T .well))) (view f .layouts, refl)
 
   pub relaid-forget : (name : ℕ) → Relaid (forget name)
-  unfolding outcome forgetAnswer answer heldTests forgotten
-  relaid-forget name = by-answer f w (heldTests (view f .layouts) name) (omega arith) (λ b. (l : List Layout) × (view (cond b (pack (forgotten (view f) name)) f) ≡ withLayouts (view f) l))
+  unfolding outcome forgetAnswer answer nameHeldTests forgotten
+  relaid-forget name = by-answer f w (nameHeldTests (view f .layouts) name) (omega arith) (λ b. (l : List Layout) × (view (cond b (pack (forgotten (view f) name)) f) ≡ withLayouts (view f) l))
       (λ T. (forgotten (view f) name .layouts, view-packed (forgotten (view f) name) (forget-keeps (view f) (S f w) name .well))) (view f .layouts, refl)
 
   not-made : (name t : ℕ) → ltb t (total (f .settings)) ≡ true → recallMakes f name t ≡ false → cond (bit (setOf (view f .layouts) name) t) (not (runsOf (view f) t)) (runsOf (view f) t) ≡ false
@@ -315,8 +315,8 @@ module _ (f : Floor) (w : wellFormed f ≡ true) where
 
   -- a recall that makes no stop and no repair
   pub relaid-recall : (name : ℕ) → changesRunning f (recall name) ≡ false → Relaid (recall name)
-  unfolding changesRunning outcome recallAnswer answer heldTests view
-  relaid-recall name q = go (eqb (refusalOf f (heldTests (view f .layouts) name)) 0) refl
+  unfolding changesRunning outcome recallAnswer answer nameHeldTests view
+  relaid-recall name q = go (eqb (refusalOf f (nameHeldTests (view f .layouts) name)) 0) refl
     where
       set : ℕ
       set = setOf (view f .layouts) name
@@ -324,10 +324,10 @@ module _ (f : Floor) (w : wellFormed f ≡ true) where
       idle : Bool
       idle = allBelow (λ t. not (recallMakes f name t)) (total (f .settings))
 
-      go : (b : Bool) → eqb (refusalOf f (heldTests (view f .layouts) name)) 0 ≡ b → (l : List Layout) × (view (cond b (pack (recalled (view f) set)) f) ≡ withLayouts (view f) l)
+      go : (b : Bool) → eqb (refusalOf f (nameHeldTests (view f .layouts) name)) 0 ≡ b → (l : List Layout) × (view (cond b (pack (recalled (view f) set)) f) ≡ withLayouts (view f) l)
       go false e = (view f .layouts, refl)
       go true e =
-          let T = passed f w (heldTests (view f .layouts) name) (omega arith) e in
+          let T = passed f w (nameHeldTests (view f .layouts) name) (omega arith) e in
           let all : idle ≡ true = not-false idle (rw e at q) in (
             view f .layouts,
             view-packed (recalled (view f) set) (recall-keeps (view f) (S f w) name T .well)
@@ -357,7 +357,7 @@ module _ (f : Floor) (w : wellFormed f ≡ true) where
   quiet-call (list l) r q = (view f .layouts, ap view (quiet-list l q))
 
 -- ---- lists
-pub list-keeps : (f : Floor) → wellFormed f ≡ true → (cs : List Call) → All Typed cs → KeepsWell f (floorAfter f cs) (bookedIn f cs) (reportedIn f cs)
+pub list-keeps : (f : Floor) → wellFormed f ≡ true → (cs : List Call) → All InRange cs → KeepsWell f (floorAfter f cs) (bookedIn f cs) (reportedIn f cs)
 unfolding floorAfter bookedIn reportedIn
 list-keeps f w [] h = unchanged f w
 list-keeps f w (c ∷ cs) h =
@@ -367,7 +367,7 @@ list-keeps f w (c ∷ cs) h =
     (J .0, keeps-join (view f) (view g) (view (floorAfter g cs)) (outcome f c .booked) (outcome f c .reported) (bookedIn g cs) (reportedIn g cs) (K .1) (J .1))
 
 -- the history of a tile tells how it runs now
-pub list-runs : (f : Floor) → wellFormed f ≡ true → (cs : List Call) → All Typed cs → (t : ℕ) → latest f cs t (runsOf (view f) t) ≡ runsOf (view (floorAfter f cs)) t
+pub list-runs : (f : Floor) → wellFormed f ≡ true → (cs : List Call) → All InRange cs → (t : ℕ) → latest f cs t (runsOf (view f) t) ≡ runsOf (view (floorAfter f cs)) t
 unfolding latest floorAfter
 list-runs f w [] h t = refl
 list-runs f w (c ∷ cs) h t =
@@ -430,7 +430,7 @@ rounds-relaid zero m l = refl
 rounds-relaid (suc n) m l = ap (rounds n) (round-relaid m l) ∙ rounds-relaid n (afterRound m) l
 
 -- a quiet list is its rounds, but for the layouts
-pub quiet-rounds : (f : Floor) → wellFormed f ≡ true → (cs : List Call) → All Typed cs → Quiet f cs → (l : List Layout) × (view (floorAfter f cs) ≡ withLayouts (rounds (roundsIn cs) (view f)) l)
+pub quiet-rounds : (f : Floor) → wellFormed f ≡ true → (cs : List Call) → All InRange cs → Quiet f cs → (l : List Layout) × (view (floorAfter f cs) ≡ withLayouts (rounds (roundsIn cs) (view f)) l)
 unfolding floorAfter rounds
 quiet-rounds f w [] h q = (view f .layouts, refl)
 quiet-rounds f w (c ∷ cs) h q =

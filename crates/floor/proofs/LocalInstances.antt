@@ -27,13 +27,13 @@ use Rattle.floor.specs.Local.{AlikeAround, AlikeAhead}
 use Rattle.floor.specs.Numbering.{Numbered}
 use Rattle.floor.specs.Capacity.{perAxis, Capacity}
 use Rattle.floor.proofs.Calling.{several, settings, can, holds}
-use Rattle.floor.proofs.Shown.{Shows}
-use Rattle.floor.proofs.Made.{Made, begun, fresh, book as put, stop as halt, rounds as run, floorOf, made, made-shows, holdBy}
+use Rattle.floor.proofs.CallsByValue.{Shows}
+use Rattle.floor.proofs.TablesByValue.{Made, begun, fresh, book as put, stop as halt, rounds as run, floorOf, made, made-shows, holdBy}
 use Rattle.floor.proofs.Locality.{local-steps, local-reasons}
 use Rattle.floor.proofs.Numbering.{numbered}
-use Rattle.floor.proofs.First.{capacity}
+use Rattle.floor.proofs.FreshAndWidths.{capacity}
 use Rattle.floor.proofs.AnywhereSamples.{small}
-use Rattle.floor.proofs.TogetherInstances.{narrow}
+use Rattle.floor.proofs.CommutingInstances.{narrow}
 
 -- ---- demand 2. W 5, hopper 0: 5 on tile 1 and 6 on tile 2. In one floor 7 is on tile 3 and tile 4 is stopped; the other has neither
 unfoldable queue : Made

@@ -9,7 +9,7 @@ use native.Mathlib.Decide.{decLe}
 use lib.Dec.{ltb, eqb}
 use lib.ListN.{length, getD, replicate, List·getD-eq-default}
 use borrow.Author.Tests.{eqb-true, eqb-false, eq-eqb, ne-eqb, lt-ltb, le-ltb, ltb-true, not-true, not-false}
-use Rattle.laws.specs.Define.{tab, anyOf, allBelow, keep, bit}
+use Rattle.laws.specs.Define.{tab, anyOf, allBelow, filter, bit}
 use Rattle.laws.specs.Every.{All}
 use Rattle.laws.proofs.Lists.{all-imp}
 use Rattle.laws.proofs.Tests.{by-test, test-none}
@@ -20,26 +20,26 @@ use Rattle.floor.specs.declared.Tile.{Tile}
 use Rattle.floor.specs.declared.Layout.{Layout}
 use Rattle.floor.specs.declared.Floor.{Floor}
 use Rattle.floor.specs.Settings.{total, settingsRefusal}
-use Rattle.floor.specs.Layouts.{held, setOf, keepIn, forgetIn}
+use Rattle.floor.specs.Layouts.{nameHeld, setOf, keepIn, forgetIn}
 use Rattle.floor.specs.Model.{TileState, Model, noTile, tileOf, runs, runsOf, withLayouts}
 use Rattle.floor.specs.Memory.{zeroTile, zeroLayout, zeroFloor, headOf, stateOf, view, head, layoutPlaces, build, pack, retiled, relaid}
 use Rattle.floor.specs.Well.{wellFormed}
 use Rattle.floor.specs.Route.{route}
 use Rattle.floor.specs.Signal.{signal}
 use Rattle.floor.specs.Move.{move}
-use Rattle.floor.specs.Calls.{refusalOf, answer, freshFloor, freshAnswer, bookTests, booked, bookAnswer, stopTests, stopped, stopAnswer, repairTests, repaired, repairAnswer, keepTests, runningSet, keptUnder, keepAnswer, heldTests, forgotten, forgetAnswer, recallTile, recalled, recallAnswer, afterRound, roundAnswer}
+use Rattle.floor.specs.Calls.{refusalOf, answer, freshFloor, freshAnswer, bookTests, booked, bookAnswer, stopTests, stopped, stopAnswer, repairTests, repaired, repairAnswer, keepTests, runningSet, keptUnder, keepAnswer, nameHeldTests, forgotten, forgetAnswer, recallTile, recalled, recallAnswer, afterRound, roundAnswer}
 use Rattle.floor.specs.Anywhere.{anywhereTests, placedAt, anywhereAnswer}
 use Rattle.floor.specs.Bookings.{single, floorSingly, tooLong, listAnswer}
 use Rattle.floor.specs.Demand3.{Call, book, anywhere, stop, repair, round, forget, recall, list, outcome, floorAfter, recallSet, recallMakes, runsBy, changesRunning, disturbs}
 use Rattle.floor.specs.Named.{needed, recallCalls, AllAccepted, Recalling, SameButLayouts, Keeping, Forgetting, changesLayouts, NamedLayouts}
 use Rattle.floor.proofs.Rows.{fits-layouts, layouts-back, view-at, view-settings}
 use Rattle.floor.proofs.Pack.{pack-heads, well-sound, well-fits, well-few, well-lengths, well-head}
-use Rattle.floor.proofs.First.{pack-view-well}
+use Rattle.floor.proofs.FreshAndWidths.{pack-view-well}
 use Rattle.floor.proofs.Calls.{Accepted}
-use Rattle.floor.proofs.Laying.{Rises, laid-of, below-bit}
+use Rattle.floor.proofs.SoundLayouts.{Rises, sound-layouts-of, below-bit}
 use Rattle.floor.proofs.Lists.{call-runs}
 use Rattle.floor.proofs.Recalling.{recall-made, recall-counts}
-use Rattle.floor.proofs.Forms.{accepted, went, keep-pos, held-pos, keepForm, keep-answers, forgetForm, forget-answers, recallForm, recall-answers}
+use Rattle.floor.proofs.GuardedCalls.{accepted, applied, keep-pos, name-held-pos, keepForm, keep-answers, forgetForm, forget-answers, recallForm, recall-answers}
 
 -- ---- in memory: other layouts
 packed-relaid : (m : Model) (l : List Layout) → pack (withLayouts m l) ≡ relaid (pack m) (layoutPlaces 8 l)
@@ -50,9 +50,9 @@ pub pack-relaid : (f : Floor) → wellFormed f ≡ true → (l : List Layout) �
 pack-relaid f w l = packed-relaid (view f) l ∙ ap (λ (x : Floor). relaid x (layoutPlaces 8 l)) (pack-view-well f w)
 
 -- the same layouts
-pub pack-laid : (f : Floor) → wellFormed f ≡ true → (n : Model) → n .layouts ≡ view f .layouts → pack n .layouts ≡ f .layouts
+pub pack-layouts : (f : Floor) → wellFormed f ≡ true → (n : Model) → n .layouts ≡ view f .layouts → pack n .layouts ≡ f .layouts
 unfolding pack build view
-pack-laid f w n e = ap (layoutPlaces 8) e ∙ layouts-back (f .layouts) (fits-layouts f (well-fits f w))
+pack-layouts f w n e = ap (layoutPlaces 8) e ∙ layouts-back (f .layouts) (fits-layouts f (well-fits f w))
 
 -- ---- in memory: a recall
 recall-members : (set t : ℕ) (x : TileState) → recallTile set t x .members ≡ x .members
@@ -186,8 +186,8 @@ recall-stays f w name t q = head-stays f w (recallSet f name) t q
 recall-is : (f : Floor) (name : ℕ) → outcome f (recall name) .refusal ≡ 0 → (wellFormed f ≡ true) × (outcome f (recall name) .floor ≡ retiled f (tab 64 (recalledHead f (recallSet f name))))
 unfolding recallSet
 recall-is f name e =
-    let A = accepted f (heldTests (view f .layouts) name) (held-pos name (view f)) (sym (recall-answers name .number f) ∙ e) in
-    (A .0, recall-answers name .floor f ∙ went (recallForm name) f (view f) (A .0) refl (A .1) .is ∙ sym (pack-recalled f (A .0) (setOf (view f .layouts) name)))
+    let A = accepted f (nameHeldTests (view f .layouts) name) (name-held-pos name (view f)) (sym (recall-answers name .number f) ∙ e) in
+    (A .0, recall-answers name .floor f ∙ applied (recallForm name) f (view f) (A .0) refl (A .1) .is ∙ sym (pack-recalled f (A .0) (setOf (view f .layouts) name)))
 
 recalls : (f : Floor) (name : ℕ) → outcome f (recall name) .refusal ≡ 0 → Recalling f name
 recalls f name e = record {
@@ -230,16 +230,16 @@ or-again : (a c : Bool) → (a || c) ≡ (a || (a || c))
 or-again true c = refl
 or-again false c = refl
 
-keep-held : (x : Layout) (l : List Layout) (o : ℕ) → held (keepIn x l) o ≡ (eqb (x .name) o || held l o)
-unfolding keepIn held anyOf
-keep-held x [] o = refl
-keep-held x (y ∷ l) o = go (by-test (eqb (x .name) (y .name))) (ltb (x .name) (y .name)) (keep-held x l o)
+keep-name-held : (x : Layout) (l : List Layout) (o : ℕ) → nameHeld (keepIn x l) o ≡ (eqb (x .name) o || nameHeld l o)
+unfolding keepIn nameHeld anyOf
+keep-name-held x [] o = refl
+keep-name-held x (y ∷ l) o = go (by-test (eqb (x .name) (y .name))) (ltb (x .name) (y .name)) (keep-name-held x l o)
   where
-    go : (eqb (x .name) (y .name) ≡ true) ⊎ (eqb (x .name) (y .name) ≡ false) → (b : Bool) → held (keepIn x l) o ≡ (eqb (x .name) o || held l o)
-        → held (cond (eqb (x .name) (y .name)) (x ∷ l) (cond b (x ∷ y ∷ l) (y ∷ keepIn x l))) o ≡ (eqb (x .name) o || (eqb (y .name) o || held l o))
-    go (inl e) b ih = rw (e, sym (by-names (x .name) (y .name) o e)) (or-again (eqb (x .name) o) (held l o))
+    go : (eqb (x .name) (y .name) ≡ true) ⊎ (eqb (x .name) (y .name) ≡ false) → (b : Bool) → nameHeld (keepIn x l) o ≡ (eqb (x .name) o || nameHeld l o)
+        → nameHeld (cond (eqb (x .name) (y .name)) (x ∷ l) (cond b (x ∷ y ∷ l) (y ∷ keepIn x l))) o ≡ (eqb (x .name) o || (eqb (y .name) o || nameHeld l o))
+    go (inl e) b ih = rw (e, sym (by-names (x .name) (y .name) o e)) (or-again (eqb (x .name) o) (nameHeld l o))
     go (inr e) true ih = rw e
-    go (inr e) false ih = rw (e, ih) (or-swap (eqb (y .name) o) (eqb (x .name) o) (held l o))
+    go (inr e) false ih = rw (e, ih) (or-swap (eqb (y .name) o) (eqb (x .name) o) (nameHeld l o))
 
 keep-set : (x : Layout) (l : List Layout) (o : ℕ) → setOf (keepIn x l) o ≡ cond (eqb (x .name) o) (x .set) (setOf l o)
 unfolding keepIn setOf
@@ -264,7 +264,7 @@ keeps f name e = record {
   after = outcome f (Call.keep name) .floor;
   is-after = refl;
   ran = λ t l. ap (λ (s : ℕ). bit s t) (sets name ∙ rw (eq-eqb name name refl)) ∙ kept-ran (view f) t (omega (arith, ap total (view-settings f)));
-  names = λ o. ap (λ (m : Model). held (m .layouts) o) v ∙ keep-held (record { name = name; set = runningSet (view f) }) (view f .layouts) o;
+  names = λ o. ap (λ (m : Model). nameHeld (m .layouts) o) v ∙ keep-name-held (record { name = name; set = runningSet (view f) }) (view f .layouts) o;
   sets = sets;
 }
   where
@@ -272,30 +272,30 @@ keeps f name e = record {
     A = accepted f (keepTests (view f .layouts) name) (keep-pos name (view f)) (sym (keep-answers name .number f) ∙ e)
 
     v : view (outcome f (Call.keep name) .floor) ≡ keptUnder (view f) name
-    v = ap view (keep-answers name .floor f) ∙ went (keepForm name) f (view f) (A .0) refl (A .1) .sees
+    v = ap view (keep-answers name .floor f) ∙ applied (keepForm name) f (view f) (A .0) refl (A .1) .sees
 
     sets : (o : ℕ) → setOf (view (outcome f (Call.keep name) .floor) .layouts) o ≡ cond (eqb name o) (runningSet (view f)) (setOf (view f .layouts) o)
     sets o = ap (λ (m : Model). setOf (m .layouts) o) v ∙ keep-set (record { name = name; set = runningSet (view f) }) (view f .layouts) o
 
 -- ---- what is held after forgetting
-forget-held : (name : ℕ) (l : List Layout) (o : ℕ) → held (forgetIn name l) o ≡ (not (eqb name o) && held l o)
-unfolding forgetIn keep held anyOf
-forget-held name [] o = none (eqb name o)
+forget-name-held : (name : ℕ) (l : List Layout) (o : ℕ) → nameHeld (forgetIn name l) o ≡ (not (eqb name o) && nameHeld l o)
+unfolding forgetIn filter nameHeld anyOf
+forget-name-held name [] o = none (eqb name o)
   where
     none : (b : Bool) → false ≡ (not b && false)
     none true = refl
     none false = refl
-forget-held name (y ∷ l) o = go (by-test (eqb (y .name) name)) (by-test (eqb name o)) (forget-held name l o)
+forget-name-held name (y ∷ l) o = go (by-test (eqb (y .name) name)) (by-test (eqb name o)) (forget-name-held name l o)
   where
-    go : (eqb (y .name) name ≡ true) ⊎ (eqb (y .name) name ≡ false) → (eqb name o ≡ true) ⊎ (eqb name o ≡ false) → held (forgetIn name l) o ≡ (not (eqb name o) && held l o)
-        → held (cond (not (eqb (y .name) name)) (y ∷ forgetIn name l) (forgetIn name l)) o ≡ (not (eqb name o) && (eqb (y .name) o || held l o))
+    go : (eqb (y .name) name ≡ true) ⊎ (eqb (y .name) name ≡ false) → (eqb name o ≡ true) ⊎ (eqb name o ≡ false) → nameHeld (forgetIn name l) o ≡ (not (eqb name o) && nameHeld l o)
+        → nameHeld (cond (not (eqb (y .name) name)) (y ∷ forgetIn name l) (forgetIn name l)) o ≡ (not (eqb name o) && (eqb (y .name) o || nameHeld l o))
     go (inl e) (inl q) ih = rw (e, ih, q)
     go (inl e) (inr q) ih = rw (e, ih, q, by-names (y .name) name o e ∙ q)
     go (inr e) (inl q) ih = rw (e, ih, q, ne-eqb (y .name) o (λ p. eqb-false (y .name) name e (p ∙ sym (eqb-true name o q))))
     go (inr e) (inr q) ih = rw (e, ih, q)
 
 forget-set : (name : ℕ) (l : List Layout) (o : ℕ) → name ≢ o → setOf (forgetIn name l) o ≡ setOf l o
-unfolding forgetIn keep setOf
+unfolding forgetIn filter setOf
 forget-set name [] o n = refl
 forget-set name (y ∷ l) o n = go (by-test (eqb (y .name) name)) (forget-set name l o n)
   where
@@ -306,36 +306,36 @@ forget-set name (y ∷ l) o n = go (by-test (eqb (y .name) name)) (forget-set na
 
 -- names above it stay
 forget-none : (name : ℕ) (l : List Layout) → All (λ x. name < x .name) l → forgetIn name l ≡ l
-unfolding forgetIn keep
+unfolding forgetIn filter
 forget-none name [] h = refl
 forget-none name (y ∷ l) h = rw (ne-eqb (y .name) name (λ e. absurd (omega (arith, h .0)))) (ap (λ (k : List Layout). y ∷ k) (forget-none name l (h .1)))
 
-forget-frees : (name : ℕ) (l : List Layout) → Rises l → held l name ≡ true → length l ≡ suc (length (forgetIn name l))
-unfolding forgetIn keep held anyOf
+forget-frees : (name : ℕ) (l : List Layout) → Rises l → nameHeld l name ≡ true → length l ≡ suc (length (forgetIn name l))
+unfolding forgetIn filter nameHeld anyOf
 forget-frees name [] h e = absurd (false≢true e)
 forget-frees name (y ∷ l) h e = go (by-test (eqb (y .name) name)) (forget-frees name l (h .1))
   where
-    go : (eqb (y .name) name ≡ true) ⊎ (eqb (y .name) name ≡ false) → (held l name ≡ true → length l ≡ suc (length (forgetIn name l)))
+    go : (eqb (y .name) name ≡ true) ⊎ (eqb (y .name) name ≡ false) → (nameHeld l name ≡ true → length l ≡ suc (length (forgetIn name l)))
         → suc (length l) ≡ suc (length (cond (not (eqb (y .name) name)) (y ∷ forgetIn name l) (forgetIn name l)))
     go (inl q) ih = rw q (ap (λ (k : List Layout). suc (length k)) (sym (forget-none name l (all-imp (λ w. y .name < w .name) (λ w. name < w .name) l (λ w r. omega (arith, eqb-true (y .name) name q)) (h .0)))))
     go (inr q) ih = rw q (ap suc (ih (rw q at e)))
 
 forgets : (f : Floor) (name : ℕ) → outcome f (forget name) .refusal ≡ 0 → Forgetting f name
-unfolding forgotten heldTests
+unfolding forgotten nameHeldTests
 forgets f name e = record {
   after = outcome f (forget name) .floor;
   is-after = refl;
-  names = λ o. ap (λ (m : Model). held (m .layouts) o) v ∙ forget-held name (view f .layouts) o;
+  names = λ o. ap (λ (m : Model). nameHeld (m .layouts) o) v ∙ forget-name-held name (view f .layouts) o;
   sets = λ o n. ap (λ (m : Model). setOf (m .layouts) o) v ∙ forget-set name (view f .layouts) o n;
-  frees = forget-frees name (view f .layouts) (laid-of (view f .settings) (view f .layouts) (well-sound f (A .0) .laid-out) .rise) (not-false (held (view f .layouts) name) (A .1 .1 .0))
+  frees = forget-frees name (view f .layouts) (sound-layouts-of (view f .settings) (view f .layouts) (well-sound f (A .0) .layouts-sound) .rise) (not-false (nameHeld (view f .layouts) name) (A .1 .1 .0))
       ∙ sym (ap (λ (m : Model). suc (length (m .layouts))) v);
 }
   where
-    A : (wellFormed f ≡ true) × Accepted (heldTests (view f .layouts) name)
-    A = accepted f (heldTests (view f .layouts) name) (held-pos name (view f)) (sym (forget-answers name .number f) ∙ e)
+    A : (wellFormed f ≡ true) × Accepted (nameHeldTests (view f .layouts) name)
+    A = accepted f (nameHeldTests (view f .layouts) name) (name-held-pos name (view f)) (sym (forget-answers name .number f) ∙ e)
 
     v : view (outcome f (forget name) .floor) ≡ forgotten (view f) name
-    v = ap view (forget-answers name .floor f) ∙ went (forgetForm name) f (view f) (A .0) refl (A .1) .sees
+    v = ap view (forget-answers name .floor f) ∙ applied (forgetForm name) f (view f) (A .0) refl (A .1) .sees
 
 -- ---- what each call leaves, accepted or refused
 -- n: the floor as a value that it makes
@@ -347,22 +347,22 @@ by-call f tests n P yes′ no′ = go (eqb (refusalOf f tests) 0) refl
     go true e = yes′ (not-false (wellFormed f) (test-none (not (wellFormed f)) 30 tests (omega arith) (eqb-true (refusalOf f tests) 0 e) .0))
     go false e = no′
 
-laid-apart : (f : Floor) → wellFormed f ≡ true → (l : List Layout) → SameButLayouts f (pack (withLayouts (view f) l))
-laid-apart f w l = subst (SameButLayouts f) (sym (pack-relaid f w l)) (record { same-settings = refl; same-counters = refl; same-tiles = refl; same-canisters = refl })
+layouts-apart : (f : Floor) → wellFormed f ≡ true → (l : List Layout) → SameButLayouts f (pack (withLayouts (view f) l))
+layouts-apart f w l = subst (SameButLayouts f) (sym (pack-relaid f w l)) (record { same-settings = refl; same-counters = refl; same-tiles = refl; same-canisters = refl })
 
 unchanged : (f : Floor) → SameButLayouts f f
 unchanged f = record { same-settings = refl; same-counters = refl; same-tiles = refl; same-canisters = refl }
 
 keep-apart : (f : Floor) (name : ℕ) → SameButLayouts f (outcome f (Call.keep name) .floor)
 unfolding outcome keepAnswer answer keptUnder
-keep-apart f name = by-call f (keepTests (view f .layouts) name) (keptUnder (view f) name) (SameButLayouts f) (λ w. laid-apart f w (keptUnder (view f) name .layouts)) (unchanged f)
+keep-apart f name = by-call f (keepTests (view f .layouts) name) (keptUnder (view f) name) (SameButLayouts f) (λ w. layouts-apart f w (keptUnder (view f) name .layouts)) (unchanged f)
 
 forget-apart : (f : Floor) (name : ℕ) → SameButLayouts f (outcome f (forget name) .floor)
 unfolding outcome forgetAnswer answer forgotten
-forget-apart f name = by-call f (heldTests (view f .layouts) name) (forgotten (view f) name) (SameButLayouts f) (λ w. laid-apart f w (forgotten (view f) name .layouts)) (unchanged f)
+forget-apart f name = by-call f (nameHeldTests (view f .layouts) name) (forgotten (view f) name) (SameButLayouts f) (λ w. layouts-apart f w (forgotten (view f) name .layouts)) (unchanged f)
 
 stay : (f : Floor) (tests : List (Bool × ℕ)) (n : Model) → n .layouts ≡ view f .layouts → cond (eqb (refusalOf f tests) 0) (pack n) f .layouts ≡ f .layouts
-stay f tests n e = by-call f tests n (λ g. g .layouts ≡ f .layouts) (λ w. pack-laid f w n e) refl
+stay f tests n e = by-call f tests n (λ g. g .layouts ≡ f .layouts) (λ w. pack-layouts f w n e) refl
 
 booking-stays : (f : Floor) (b : Booking) → single f b .floor .layouts ≡ f .layouts
 unfolding bookAnswer answer booked
@@ -382,7 +382,7 @@ others-stay f (repair t) e = stay f (repairTests (view f) t) _ refl
 others-stay f round e = stay f [] (afterRound (view f)) refl
 others-stay f (Call.keep name) e = absurd (true≢false e)
 others-stay f (forget name) e = absurd (true≢false e)
-others-stay f (recall name) e = stay f (heldTests (view f .layouts) name) (recalled (view f) (setOf (view f .layouts) name)) refl
+others-stay f (recall name) e = stay f (nameHeldTests (view f .layouts) name) (recalled (view f) (setOf (view f .layouts) name)) refl
 others-stay f (list l) e = go (tooLong (length l))
   where
     go : (x : Bool) → cond x f (floorSingly f l) .layouts ≡ f .layouts

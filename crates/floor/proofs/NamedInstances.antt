@@ -12,16 +12,16 @@ use Rattle.laws.specs.Define.{bit}
 use Rattle.laws.specs.Every.{All}
 use Rattle.floor.specs.declared.Floor.{Floor}
 use Rattle.floor.specs.Settings.{total}
-use Rattle.floor.specs.Layouts.{nameNumber, letters, held, setOf}
+use Rattle.floor.specs.Layouts.{nameNumber, letters, nameHeld, setOf}
 use Rattle.floor.specs.Model.{Model, runsOf}
 use Rattle.floor.specs.Memory.{zeroSettings, zeroLayout, zeroFloor, view, headOf}
 use Rattle.floor.specs.Calls.{freshAnswer, runningSet}
 use Rattle.floor.specs.Demand3.{Call, book, anywhere, stop, repair, round, keep, forget, recall, outcome, floorAfter, recallSet, recallMakes, runsBy, latest, disturbs}
 use Rattle.floor.specs.Named.{recallCalls, AllAccepted, Recalling, SameButLayouts, Keeping, Forgetting, Before}
 use Rattle.floor.proofs.Calling.{settings, can, named, holds}
-use Rattle.floor.proofs.Shown.{Shows, refusalBy, shows-refusal}
-use Rattle.floor.proofs.Walked.{makesBy, disturbsBy, call-disturbs}
-use Rattle.floor.proofs.Made.{Made, fresh, book as put, rounds as run, stop as halt, repair as mend, keep as kept, floorOf, made, made-shows, holdBy}
+use Rattle.floor.proofs.CallsByValue.{Shows, refusalBy, shows-refusal}
+use Rattle.floor.proofs.ListsByValue.{makesBy, disturbsBy, call-disturbs}
+use Rattle.floor.proofs.TablesByValue.{Made, fresh, book as put, rounds as run, stop as halt, repair as mend, keep as kept, floorOf, made, made-shows, holdBy}
 use Rattle.floor.proofs.Named.{named-layouts}
 use Rattle.floor.proofs.Names.{spelling}
 use Rattle.floor.proofs.LayoutInstances.{neededBy, recall-calls}
@@ -141,7 +141,7 @@ still-none : recallCalls (floorOf still) B ≡ []
 still-none = still-recalling .ends .0 (call-disturbs (floorOf still) (made still .1) still-shows (recall B) ∙ still-test .1 .1 .1)
 
 -- ---- keeping: A, which is held, on the same floor, and B
-keep-test : ((refusalBy m (keep A) ≡ 0) × (refusalBy m (keep B) ≡ 0)) × ((runsOf m 1 ≡ true) × ((runsOf m 2 ≡ false) × ((runningSet m ≡ 27) × ((setOf (m .layouts) A ≡ 21) × ((held (m .layouts) A ≡ true) × (held (m .layouts) C ≡ false))))))
+keep-test : ((refusalBy m (keep A) ≡ 0) × (refusalBy m (keep B) ≡ 0)) × ((runsOf m 1 ≡ true) × ((runsOf m 2 ≡ false) × ((runningSet m ≡ 27) × ((setOf (m .layouts) A ≡ 21) × ((nameHeld (m .layouts) A ≡ true) × (nameHeld (m .layouts) C ≡ false))))))
 unfolding holds holdBy row
 keep-test = ((refl, refl), (refl, (refl, (refl, (refl, (refl, refl))))))
 
@@ -167,12 +167,12 @@ other-names : (eqb B A ≡ false) × (eqb B C ≡ false)
 unfolding holds
 other-names = (refl, refl)
 
-keep-names : (held (view withB .layouts) A ≡ true) × ((held (view withB .layouts) B ≡ true) × (held (view withB .layouts) C ≡ false))
+keep-names : (nameHeld (view withB .layouts) A ≡ true) × ((nameHeld (view withB .layouts) B ≡ true) × (nameHeld (view withB .layouts) C ≡ false))
 keep-names =
     let K = keeps B (keep-test .0 .1) in
-    let at : (o : ℕ) → held (view withB .layouts) o ≡ (eqb B o || held (m .layouts) o) =
-    λ o. subst (λ (g : Floor). held (view g .layouts) o ≡ (eqb B o || held (view f .layouts) o)) (K .is-after) (K .names o) ∙ ap (λ (x : Model). eqb B o || held (x .layouts) o) (shown .value) in
-    (at A ∙ ap (λ (b : Bool). eqb B A || b) (keep-test .1 .1 .1 .1 .1 .0) ∙ ap (λ (b : Bool). b || true) (other-names .0), (at B ∙ ap (λ (b : Bool). b || held (m .layouts) B) (eq-eqb B B refl), at C ∙ ap (λ (b : Bool). eqb B C || b) (keep-test .1 .1 .1 .1 .1 .1) ∙ ap (λ (b : Bool). b || false) (other-names .1)))
+    let at : (o : ℕ) → nameHeld (view withB .layouts) o ≡ (eqb B o || nameHeld (m .layouts) o) =
+    λ o. subst (λ (g : Floor). nameHeld (view g .layouts) o ≡ (eqb B o || nameHeld (view f .layouts) o)) (K .is-after) (K .names o) ∙ ap (λ (x : Model). eqb B o || nameHeld (x .layouts) o) (shown .value) in
+    (at A ∙ ap (λ (b : Bool). eqb B A || b) (keep-test .1 .1 .1 .1 .1 .0) ∙ ap (λ (b : Bool). b || true) (other-names .0), (at B ∙ ap (λ (b : Bool). b || nameHeld (m .layouts) B) (eq-eqb B B refl), at C ∙ ap (λ (b : Bool). eqb B C || b) (keep-test .1 .1 .1 .1 .1 .1) ∙ ap (λ (b : Bool). b || false) (other-names .1)))
 
 sets-at : (name : ℕ) → refusalBy m (keep name) ≡ 0 → (o : ℕ) → setOf (view (outcome f (keep name) .floor) .layouts) o ≡ cond (eqb name o) (runningSet m) (setOf (m .layouts) o)
 sets-at name e o =
@@ -201,7 +201,7 @@ n = made eight .1
 abbrev D : ℕ
 D = letter 68
 
-eight-test : (made eight .0 ≡ true) × ((refusalBy n (forget D) ≡ 0) × ((length (n .layouts) ≡ 8) × ((held (n .layouts) C ≡ true) × ((setOf (n .layouts) C ≡ 5) × (eqb D C ≡ false)))))
+eight-test : (made eight .0 ≡ true) × ((refusalBy n (forget D) ≡ 0) × ((length (n .layouts) ≡ 8) × ((nameHeld (n .layouts) C ≡ true) × ((setOf (n .layouts) C ≡ 5) × (eqb D C ≡ false)))))
 unfolding holds holdBy eight
 eight-test = (refl, (refl, (refl, (refl, (refl, refl)))))
 
@@ -214,11 +214,11 @@ F = named-layouts .0 g .forgetting D (shows-refusal g n eight-shows (forget D) �
 abbrev without : Floor
 without = outcome g (forget D) .floor
 
-forget-names : (held (view without .layouts) C ≡ true) × (held (view without .layouts) D ≡ false)
+forget-names : (nameHeld (view without .layouts) C ≡ true) × (nameHeld (view without .layouts) D ≡ false)
 forget-names =
-    let at : (o : ℕ) → held (view without .layouts) o ≡ (not (eqb D o) && held (n .layouts) o) =
-    λ o. subst (λ (h : Floor). held (view h .layouts) o ≡ (not (eqb D o) && held (view g .layouts) o)) (F .is-after) (F .names o) ∙ ap (λ (x : Model). not (eqb D o) && held (x .layouts) o) (eight-shows .value) in
-    (at C ∙ ap (λ (b : Bool). not b && held (n .layouts) C) (eight-test .1 .1 .1 .1 .1) ∙ eight-test .1 .1 .1 .0, at D ∙ ap (λ (b : Bool). not b && held (n .layouts) D) (eq-eqb D D refl))
+    let at : (o : ℕ) → nameHeld (view without .layouts) o ≡ (not (eqb D o) && nameHeld (n .layouts) o) =
+    λ o. subst (λ (h : Floor). nameHeld (view h .layouts) o ≡ (not (eqb D o) && nameHeld (view g .layouts) o)) (F .is-after) (F .names o) ∙ ap (λ (x : Model). not (eqb D o) && nameHeld (x .layouts) o) (eight-shows .value) in
+    (at C ∙ ap (λ (b : Bool). not b && nameHeld (n .layouts) C) (eight-test .1 .1 .1 .1 .1) ∙ eight-test .1 .1 .1 .0, at D ∙ ap (λ (b : Bool). not b && nameHeld (n .layouts) D) (eq-eqb D D refl))
 
 forget-sets : setOf (view without .layouts) C ≡ 5
 forget-sets =

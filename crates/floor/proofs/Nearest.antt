@@ -21,7 +21,7 @@ use Rattle.floor.specs.Route.{Heading, nearer, nearest, liesAt, kept, on
 use Rattle.floor.proofs.Sound.{Measured, Sound}
 use Rattle.floor.proofs.Grid.{at1, at2, at3, at4, each-side, chosen-side, side-pos}
 use Rattle.floor.proofs.Tables.{Whole, off-floor, run-on, table-each}
-use Rattle.floor.proofs.Routing.{Graph, Laid, Formed, Choice, Routed}
+use Rattle.floor.proofs.Routing.{Graph, Routable, Formed, Choice, Routed}
 
 -- ---- the nearest of four
 -- b is the nearest of the sides ks; `show k` is the old distance beyond side k
@@ -89,10 +89,10 @@ nearest-first show {j} mj l =
     let one : Heading = record { distance = show 1; side = 1 } in
     let two = nearer one (show 2) 2 in
     let three = nearer two (show 3) 3 in
-    nearer-first show 3 three (nearer-first show 2 two (nearer-first show 1 one alone)) .earlier j (side-pos mj) l
+    nearer-first show 3 three (nearer-first show 2 two (nearer-first show 1 one west-only)) .earlier j (side-pos mj) l
   where
-    alone : FirstOf show 1 (record { distance = show 1; side = 1 })
-    alone = record { upto = omega arith; least = λ j l k. let e : 1 ≡ j = omega arith in omega (arith, ap show e); earlier = λ j l k. absurd (omega arith) }
+    west-only : FirstOf show 1 (record { distance = show 1; side = 1 })
+    west-only = record { upto = omega arith; least = λ j l k. let e : 1 ≡ j = omega arith in omega (arith, ap show e); earlier = λ j l k. absurd (omega arith) }
 
 -- ---- the present arrow, own, kept where it is one of the nearest
 module _ (show : ℕ → ℕ) (own : ℕ) where
@@ -350,8 +350,8 @@ unfolding isHopper hoppersOf
 some-hopper s M = bits-some (s .hoppers) (total s) (M .hoppers-some)
 
 -- ---- a sound floor is laid out for routing, its distances are formed
-pub laid : (m : Model) → Sound m → Laid (graphOf m)
-laid m S = record {
+pub routable : (m : Model) → Sound m → Routable (graphOf m)
+routable m S = record {
   small = omega (arith, S .measured .few);
   hop-runs = S .hopper-runs;
   run-on = run-on m (S .len);

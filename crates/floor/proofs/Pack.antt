@@ -31,7 +31,7 @@ use Rattle.floor.proofs.Rows.{rows-length, placeAt, rows-place, rows-fi
 
 -- ---- a value that memory has room for, packed
 module _ (m : Model) (len : length (m .tiles) ≡ total (m .settings)) (few : total (m .settings) ≤ 64)
-    (small : (t : ℕ) → t < total (m .settings) → length (membersOf m t) ≤ 16) (laid : Placed (m .layouts)) where
+    (small : (t : ℕ) → t < total (m .settings) → length (membersOf m t) ≤ 16) (layouts-placed : Placed (m .layouts)) where
   abbrev g : ℕ → TileState
   g t = getD (m .tiles) t unused
 
@@ -68,12 +68,12 @@ module _ (m : Model) (len : length (m .tiles) ≡ total (m .settings)) (few : to
 
   pub view-pack : view (pack m) ≡ m
   unfolding view pack build
-  view-pack = ap (withLayouts (withTiles m (tab (total (m .settings)) (stateOf (pack m))))) (used-places 8 (m .layouts) (laid .0) (laid .1))
+  view-pack = ap (withLayouts (withTiles m (tab (total (m .settings)) (stateOf (pack m))))) (used-places 8 (m .layouts) (layouts-placed .0) (layouts-placed .1))
       ∙ ap (λ (ts : List TileState). withTiles m ts) (sym (filled (total (m .settings)) (stateOf (pack m)) unused (m .tiles) len (λ t h. sym (state-packed t h))))
 
   pub fits-pack : fits (pack m) ≡ true
   unfolding pack build tileFits headFits head isZeroTile
-  fits-pack = fits-of (pack m) (tab-length 64 (λ t. head (g t))) packed-length one (layouts-fit (m .layouts) (laid .0) (laid .1))
+  fits-pack = fits-of (pack m) (tab-length 64 (λ t. head (g t))) packed-length one (layouts-fit (m .layouts) (layouts-placed .0) (layouts-placed .1))
     where
       first : (t : ℕ) → headFits (m .settings) t (head (g t)) ≡ true
       first t = go (decLe (suc t) (total (m .settings)))
@@ -290,7 +290,7 @@ pub well-lengths : (f : Floor) → wellFormed f ≡ true → (length (f .tiles) 
 well-lengths f h = (fits-tiles f (well-fits f h), fits-canisters f (well-fits f h))
 
 pub well-placed : (f : Floor) → wellFormed f ≡ true → Placed (view f .layouts)
-well-placed f h = sound-named (view f .settings) (view f .layouts) (well-sound f h .laid-out)
+well-placed f h = sound-named (view f .settings) (view f .layouts) (well-sound f h .layouts-sound)
 
 pub well-head : (f : Floor) (t : ℕ) → wellFormed f ≡ true → t < total (f .settings) → head (stateOf f t) ≡ headOf f t
 well-head f t h on = head-state f (well-few f h) (well-fits f h) t on

@@ -17,14 +17,14 @@ use Rattle.floor.specs.Model.{TileState, Model, runsOf, distanceOf, next
 use Rattle.floor.specs.Route.{route}
 use Rattle.floor.specs.Signal.{Signal, requests, missing, signalBy, signalTile, shownOf, signalOf, grantOf}
 use Rattle.floor.specs.Move.{wayOf, leaving}
-use Rattle.floor.specs.Fairness.{wants}
+use Rattle.floor.specs.BoundedBypass.{wants}
 use Rattle.floor.proofs.Sound.{Sound}
 use Rattle.floor.proofs.GridBranches.{opposite-back}
 use Rattle.floor.proofs.Grid.{side-pos, opposite-side, requests-side, requests-at, neighbour-none, neighbour-back}
 use Rattle.floor.proofs.Routing.{Arrow, arrow}
 use Rattle.floor.proofs.Tables.{Whole, off-floor, run-on}
-use Rattle.floor.proofs.Nearest.{graphOf, route-running, route-token, route-members, route-routed, laid, formed}
-use Rattle.floor.proofs.Grants.{grant-told, token-told, token-stopped, grant-some}
+use Rattle.floor.proofs.Nearest.{graphOf, route-running, route-token, route-members, route-routed, routable, formed}
+use Rattle.floor.proofs.Grants.{grant-facts, token-facts, token-stopped, grant-some}
 use Rattle.floor.proofs.Borders.{leaving-nil}
 use Rattle.floor.proofs.Fields.{wayAt, leaves, comes}
 
@@ -53,8 +53,8 @@ module _ (m : Model) (w : Whole m) where
   wants-side t k h =
       requests-side (shownOf (route m) (neighbour (m .settings) 1 t)) (shownOf (route m) (neighbour (m .settings) 2 t)) (shownOf (route m) (neighbour (m .settings) 3 t)) (shownOf (route m) (neighbour (m .settings) 4 t)) k h
 
-  pub wants-told : (t k : ℕ) → wants m t k ≡ true → Wanting m t k
-  wants-told t k h = go (ltb 0 (length (membersOf m u))) refl
+  pub wants-facts : (t k : ℕ) → wants m t k ≡ true → Wanting m t k
+  wants-facts t k h = go (ltb 0 (length (membersOf m u))) refl
     where
       u : ℕ
       u = neighbour (m .settings) k t
@@ -84,8 +84,8 @@ module _ (m : Model) (w : Whole m) where
   -- the new token is none, or a side that wants
   pub token-wants : (t : ℕ) → runsOf m t ≡ true → 0 < signalOf (route m) t .token → Wanting m t (signalOf (route m) t .token)
   token-wants t r h =
-      wants-told t (signalOf (route m) t .token)
-      (subst (λ (x : Signal). 0 < x .token → wants m t (x .token) ≡ true) (sym (signal-is t)) (token-told (m .settings) (runsOf m t) (tokenOf m t) (membersOf m t) (wants m t) r) h)
+      wants-facts t (signalOf (route m) t .token)
+      (subst (λ (x : Signal). 0 < x .token → wants m t (x .token) ≡ true) (sym (signal-is t)) (token-facts (m .settings) (runsOf m t) (tokenOf m t) (membersOf m t) (wants m t) r) h)
 
   pub token-still : (t : ℕ) → runsOf m t ≡ false → signalOf (route m) t .token ≡ tokenOf m t
   token-still t r = ap (λ (x : Signal). x .token) (signal-is t) ∙ token-stopped (m .settings) (runsOf m t) (tokenOf m t) (membersOf m t) (wants m t) r
@@ -98,9 +98,9 @@ module _ (m : Model) (w : Whole m) where
 
   pub granting : (t : ℕ) → 0 < grantOf (route m) t → Granting t
   granting t h =
-      let told = subst (λ (x : Signal). 0 < x .grant → (runsOf m t ≡ true) × (wants m t (x .grant) ≡ true) × (missing (m .settings) (x .grant) (membersOf m t) ≡ 0)) (sym (signal-is t))
-      (grant-told (m .settings) (runsOf m t) (tokenOf m t) (membersOf m t) (wants m t)) h in
-      record { wanting = wants-told t (grantOf (route m) t) (told .1); wide = told .2; runs = told .0 }
+      let grant-is = subst (λ (x : Signal). 0 < x .grant → (runsOf m t ≡ true) × (wants m t (x .grant) ≡ true) × (missing (m .settings) (x .grant) (membersOf m t) ≡ 0)) (sym (signal-is t))
+      (grant-facts (m .settings) (runsOf m t) (tokenOf m t) (membersOf m t) (wants m t)) h in
+      record { wanting = wants-facts t (grantOf (route m) t) (grant-is .1); wide = grant-is .2; runs = grant-is .0 }
 
   -- an empty running tile that some side wants to enter grants one
   pub lets-in : (t k : ℕ) → runsOf m t ≡ true → membersOf m t ≡ [] → Wanting m t k → 0 < grantOf (route m) t
@@ -109,9 +109,9 @@ module _ (m : Model) (w : Whole m) where
       (grant-some (m .settings) (runsOf m t) (tokenOf m t) (membersOf m t) (wants m t) r e (wants-none t) k (W .side) (wants-of t k W))
 
 -- ---- ways
-way-told : (a b : ℕ) → 0 < wayOf a b → (wayOf a b ≡ a) × (a ≡ opposite b)
+way-facts : (a b : ℕ) → 0 < wayOf a b → (wayOf a b ≡ a) × (a ≡ opposite b)
 unfolding wayOf
-way-told a b h = go (eqb a (opposite b)) refl
+way-facts a b h = go (eqb a (opposite b)) refl
   where
     go : (c : Bool) → eqb a (opposite b) ≡ c → (cond (eqb a (opposite b)) a 0 ≡ a) × (a ≡ opposite b)
     go true e = rw e (refl, eqb-true a (opposite b) e)
@@ -123,7 +123,7 @@ way-of a b e = rw (eq-eqb a (opposite b) e)
 
 module _ (m : Model) (S : Sound m) where
   pub arrow-at : (t : ℕ) → 0 < nextOf (route m) t → Arrow (graphOf m) (distanceOf m) (distanceOf (route m)) (nextOf (route m)) t
-  arrow-at = arrow (graphOf m) (laid m S) (formed m S) (route-routed m (S .len)) (S .hopper-next) (S .stop-next)
+  arrow-at = arrow (graphOf m) (routable m S) (formed m S) (route-routed m (S .len)) (S .hopper-next) (S .stop-next)
 
   pub back : {k : ℕ} → List·Memᴰ k sides → (t : ℕ) → t < total (m .settings) → neighbour (m .settings) k t < total (m .settings) → neighbour (m .settings) (opposite k) (neighbour (m .settings) k t) ≡ t
   back = neighbour-back (m .settings) (S .measured .rows-pos)
@@ -140,7 +140,7 @@ module _ (m : Model) (S : Sound m) where
 
   way-at : (t : ℕ) → 0 < wayAt m t → (wayAt m t ≡ nextOf (route m) t) × (nextOf (route m) t ≡ opposite (grantOf (route m) (neighbour (m .settings) (nextOf (route m) t) t)))
   unfolding wayAt
-  way-at t = way-told (nextOf (route m) t) (grantOf (route m) (neighbour (m .settings) (nextOf (route m) t) t))
+  way-at t = way-facts (nextOf (route m) t) (grantOf (route m) (neighbour (m .settings) (nextOf (route m) t) t))
 
   pub moving : (t : ℕ) → 0 < wayAt m t → Moving t
   moving t h =

@@ -11,12 +11,12 @@ use Rattle.floor.specs.Live.{LivePath, here, step}
 use Rattle.floor.specs.Demand3.{floorAfter}
 use Rattle.floor.specs.Distances.{steps, ToNearest}
 use Rattle.floor.proofs.Calling.{several, holds}
-use Rattle.floor.proofs.Shown.{Shows}
-use Rattle.floor.proofs.Walked.{valueAfter, shows-list}
-use Rattle.floor.proofs.Made.{Made, begun, stop as halt, floorOf, made, made-shows, holdBy}
+use Rattle.floor.proofs.CallsByValue.{Shows}
+use Rattle.floor.proofs.ListsByValue.{valueAfter, shows-list}
+use Rattle.floor.proofs.TablesByValue.{Made, begun, stop as halt, floorOf, made, made-shows, holdBy}
 use Rattle.floor.proofs.Arrows.{arrows}
 use Rattle.floor.proofs.Distances.{distances}
-use Rattle.floor.proofs.Instances.{rounds, typed-rounds, unpressed-rounds}
+use Rattle.floor.proofs.Instances.{rounds, in-range-rounds, running-unchanged-rounds}
 
 -- a floor of five tiles after four rounds, C - 1
 module _ (e : Made) (h : made e .0 ≡ true) (five : total (made e .1 .settings) ≡ 5) where
@@ -28,14 +28,14 @@ module _ (e : Made) (h : made e .0 ≡ true) (five : total (made e .1 .settings)
   enough = ap (λ (x : Model). total (x .settings)) (first .value) ∙ five
 
   then : Shows (floorAfter (floorOf e) (rounds 4)) (valueAfter (made e .1) (rounds 4))
-  then = shows-list (floorOf e) (made e .1) first (rounds 4) (typed-rounds 4)
+  then = shows-list (floorOf e) (made e .1) first (rounds 4) (in-range-rounds 4)
 
   settled : ToNearest (valueAfter (made e .1) (rounds 4))
-  settled = subst ToNearest (then .value) (distances (floorOf e) (first .well) .settled (rounds 4) (typed-rounds 4) (unpressed-rounds 4 (floorOf e)) (omega (arith, enough)))
+  settled = subst ToNearest (then .value) (distances (floorOf e) (first .well) .settled (rounds 4) (in-range-rounds 4) (running-unchanged-rounds 4 (floorOf e)) (omega (arith, enough)))
 
   -- the next round changes no distance there
   steady : ToNearest (valueAfter (made e .1) (rounds 4))
-  steady = subst ToNearest (then .value) (distances (floorAfter (floorOf e) (rounds 4)) (then .well) .steady (arrows (floorOf e) (first .well) .1 .steady (rounds 4) (typed-rounds 4) (unpressed-rounds 4 (floorOf e)) (omega (arith, enough))))
+  steady = subst ToNearest (then .value) (distances (floorAfter (floorOf e) (rounds 4)) (then .well) .steady (arrows (floorOf e) (first .well) .1 .steady (rounds 4) (in-range-rounds 4) (running-unchanged-rounds 4 (floorOf e)) (omega (arith, enough))))
 
 -- ---- W 5, hoppers 0 and 4: tile 2 is two steps from either, tile 3 one from the second
 unfoldable line : Made

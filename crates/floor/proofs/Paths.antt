@@ -16,10 +16,10 @@ use Rattle.floor.specs.Settings.{total, isHopper}
 use Rattle.floor.specs.Grid.{neighbour}
 use Rattle.floor.specs.Live.{LivePath, here, step, reached, connected}
 use Rattle.floor.proofs.Grid.{opposite-side, neighbour-back}
-use Rattle.floor.proofs.Routing.{Graph, Laid, reach, reach-step, reach-each, reach-all}
+use Rattle.floor.proofs.Routing.{Graph, Routable, reach, reach-step, reach-each, reach-all}
 use Rattle.floor.proofs.Nearest.{graphBy}
 
-module _ (s : Settings) (run : ℕ → Bool) (L : Laid (graphBy s run)) where
+module _ (s : Settings) (run : ℕ → Bool) (L : Routable (graphBy s run)) where
   abbrev g : Graph
   g = graphBy s run
 

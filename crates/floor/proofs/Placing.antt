@@ -19,10 +19,10 @@ use Rattle.floor.specs.Well.{inside, wellFormed}
 use Rattle.floor.specs.Calls.{refusalOf, answer, bookTests, booked, bookAnswer}
 use Rattle.floor.specs.Anywhere.{clear, placeB, placeA, anywhereTests, placedAt, anywhereAnswer}
 use Rattle.floor.specs.Placing.{Free, LowestPlace, OthersPass, bookedAt, Placing, PlaceFound}
-use Rattle.floor.specs.Together.{unplaced}
+use Rattle.floor.specs.CommutingCalls.{unplaced}
 use Rattle.floor.proofs.Lowest.{at, clear-fact, lowest-is, found}
 use Rattle.floor.proofs.Calls.{anywhere-tests-passed, clear-any}
-use Rattle.floor.proofs.Forms.{accepted, booking-pos}
+use Rattle.floor.proofs.GuardedCalls.{accepted, booking-pos}
 
 -- ---- the place
 module _ (m : Model) (t : ℕ) where
@@ -182,25 +182,25 @@ module _ (f : Floor) (t number : ℕ) where
           go (inr e) = ap not e
           go (inl e) = absurd (omega (arith, ltb-true U (B (view f) t) k, there (view f) t a b (clear-free (view f) t a b (omega arith) (omega arith) e)))
 
-  told : r .refusal ≡ 0 → LowestPlace (view f) t (r .a) (r .b)
+  takes-lowest : r .refusal ≡ 0 → LowestPlace (view f) t (r .a) (r .b)
   unfolding anywhereAnswer placedAt
-  told h = rw h (lowest (view f) t (passes h .1))
+  takes-lowest h = rw h (lowest (view f) t (passes h .1))
 
-  untold : r .refusal ≢ 0 → (r .floor ≡ f) × (r .a ≡ 0) × (r .b ≡ 0)
+  refused-zeros : r .refusal ≢ 0 → (r .floor ≡ f) × (r .a ≡ 0) × (r .b ≡ 0)
   unfolding anywhereAnswer answer
-  untold h = let e = ne-eqb (r .refusal) 0 h in (rw e, rw e, rw e)
+  refused-zeros h = let e = ne-eqb (r .refusal) 0 h in (rw e, rw e, rw e)
 
   one-call : Placing f t number r
   unfolding refusal
   one-call = record {
-    takes = told;
+    takes = takes-lowest;
     as-booked = λ a b P.
         ap (λ (x : ℕ). bookedAt f t number x b) (a-one (view f) t a b P) ∙ ap (λ (y : ℕ). bookedAt f t number (A (view f) t) y) (b-one (view f) t a b P)
         ∙ outcome-same (there (view f) t a b (P .free));
     accepted = (λ h. let P = passes h in (P .0, A (view f) t, B (view f) t, lowest (view f) t (P .1) .free), λ P. only false 0 (P .0) (le-ltb U (B (view f) t) (there (view f) t (P .1) (P .2) (P .3))) refl);
     no-place = (forty-means, λ P. only true 40 (P .0) (lt-ltb U (B (view f) t) (no-free either (P .1))) refl);
     checks = same-checks;
-    refused = untold;
+    refused = refused-zeros;
   }
 
 pub placing : PlaceFound

@@ -16,12 +16,12 @@ use Rattle.floor.specs.Well.{wellFormed}
 use Rattle.floor.specs.Anywhere.{anywhereAnswer}
 use Rattle.floor.specs.Placing.{Free, LowestPlace, OthersPass, bookedAt}
 use Rattle.floor.specs.Demand3.{anywhere, outcome}
-use Rattle.floor.specs.Together.{placeTo}
+use Rattle.floor.specs.CommutingCalls.{placeTo}
 use Rattle.floor.proofs.Calling.{holds}
-use Rattle.floor.proofs.Shown.{Shows, refusalBy, placeBy, shows-refusal, shows-place}
-use Rattle.floor.proofs.Made.{Made, begun, book as put, floorOf, made, made-shows, holdBy}
+use Rattle.floor.proofs.CallsByValue.{Shows, refusalBy, placeBy, shows-refusal, shows-place}
+use Rattle.floor.proofs.TablesByValue.{Made, begun, book as put, floorOf, made, made-shows, holdBy}
 use Rattle.floor.proofs.Placing.{placing}
-use Rattle.floor.proofs.TogetherInstances.{narrow}
+use Rattle.floor.proofs.CommutingInstances.{narrow}
 
 -- ---- what the value tells of the call
 module _ (f : Floor) (m : Model) (s : Shows f m) (t number : ℕ) where

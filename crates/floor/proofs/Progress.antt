@@ -10,9 +10,9 @@ use native.Mathlib.Decide.{decLe}
 use lib.Dec.{ltb}
 use lib.ListN.{length, length-append, length-map}
 use borrow.Author.Tests.{ltb-true, lt-ltb, le-ltb, not-true}
-use Rattle.laws.specs.Define.{cat, keep, sum}
+use Rattle.laws.specs.Define.{cat, filter, sum}
 use Rattle.laws.proofs.Tests.{by-test, not-both}
-use Rattle.laws.proofs.Lists.{all-imp, all-keep, keep-split, sum-append, sum-perm, sum-cat-le, sum-cat-lt, sum-map-lt, sum-const, sum-find, sum-part, sum-scale, sum-mono, map-perm, map-append, map-map, length-perm}
+use Rattle.laws.proofs.Lists.{all-imp, all-filter, filter-split, sum-append, sum-perm, sum-cat-le, sum-cat-lt, sum-map-lt, sum-const, sum-find, sum-part, sum-scale, sum-mono, map-perm, map-append, map-map, length-perm}
 use Rattle.floor.specs.declared.Canister.{Canister}
 use Rattle.floor.specs.declared.Settings.{Settings}
 use Rattle.floor.specs.Sides.{opposite}
@@ -29,7 +29,7 @@ use Rattle.floor.proofs.Grid.{opposite-side, opposite-opposite, side-po
 use Rattle.floor.proofs.Geometry.{room, room-le, stay-room, shift-room, land-inside}
 use Rattle.floor.proofs.Routing.{Right, routed-form, right-same, right-stays, arrow-down, arrow-up, formed-runs}
 use Rattle.floor.proofs.Tables.{run-on}
-use Rattle.floor.proofs.Nearest.{graphOf, route-routed, laid, formed}
+use Rattle.floor.proofs.Nearest.{graphOf, route-routed, routable, formed}
 use Rattle.floor.proofs.Fields.{wayAt, stays, leaves, comes, round-members}
 use Rattle.floor.proofs.Passing.{Wanting, lets-in, Moving, moving, still-or, taking, back, arrow-at}
 use Rattle.floor.proofs.Insertion.{insert-each-perm}
@@ -37,14 +37,14 @@ use Rattle.floor.proofs.Safety.{stays-still, leaves-still}
 use Rattle.floor.proofs.Conservation.{moved-perm}
 
 -- ---- a list of marks is halved as the canisters are
-split-sum : {A : Type 0} (p : A → Bool) (f : A → ℕ) (l : List A) → sum (map f (keep (λ x. not (p x)) l)) + sum (map f (keep p l)) ≡ sum (map f l)
+split-sum : {A : Type 0} (p : A → Bool) (f : A → ℕ) (l : List A) → sum (map f (filter (λ x. not (p x)) l)) + sum (map f (filter p l)) ≡ sum (map f l)
 split-sum p f l =
-    let K = keep (λ x. not (p x)) l in
-    let J = keep p l in
-    omega (arith, sum-perm (map-perm f (keep-split p l)), ap sum (map-append f K J), sum-append (map f K) (map f J))
+    let K = filter (λ x. not (p x)) l in
+    let J = filter p l in
+    omega (arith, sum-perm (map-perm f (filter-split p l)), ap sum (map-append f K J), sum-append (map f K) (map f J))
 
-split-length : {A : Type 0} (p : A → Bool) (l : List A) → length (keep (λ x. not (p x)) l) + length (keep p l) ≡ length l
-split-length p l = omega (arith, length-perm (keep-split p l), length-append (keep (λ x. not (p x)) l) (keep p l))
+split-length : {A : Type 0} (p : A → Bool) (l : List A) → length (filter (λ x. not (p x)) l) + length (filter p l) ≡ length l
+split-length p l = omega (arith, length-perm (filter-split p l), length-append (filter (λ x. not (p x)) l) (filter p l))
 
 -- ---- the moves still ahead of a canister on tile t, by distances e and arrows a; none where no path leads to a hopper
 unfoldable pub ahead : Settings → (ℕ → ℕ) → (ℕ → ℕ) → ℕ → Canister → ℕ
@@ -102,10 +102,10 @@ module _ (m : Model) (S : Sound m) (w : ℕ → ℕ) (along : (u : ℕ) → Movi
       p = crosses (m .settings) (wayAt m u)
 
       J : List Canister
-      J = keep p (membersOf m u)
+      J = filter p (membersOf m u)
 
       K : List Canister
-      K = keep (λ c. not (p c)) (membersOf m u)
+      K = filter (λ c. not (p c)) (membersOf m u)
 
       go : (wayAt m u ≡ 0) ⊎ Moving m S u → sum (map (λ _. w (to u)) (leaves m u) ++ map (λ _. w u) (stays m u)) ≤ sum (map (λ _. w u) (membersOf m u))
       go (inl e) =
@@ -150,17 +150,17 @@ module _ (m : Model) (S : Sound m) (T : Right (graphOf m) (distanceOf m)) where
 
   pub same-distance : (t : ℕ) → distanceOf (route m) t ≡ e t
   same-distance t =
-      sym (right-same (graphOf m) (laid m S) (formed m S) (routed-form (graphOf m) (laid m S) (formed m S) (route-routed m (S .len))) T
-      (right-stays (graphOf m) (laid m S) (formed m S) (route-routed m (S .len)) T) t)
+      sym (right-same (graphOf m) (routable m S) (formed m S) (routed-form (graphOf m) (routable m S) (formed m S) (route-routed m (S .len))) T
+      (right-stays (graphOf m) (routable m S) (formed m S) (route-routed m (S .len)) T) t)
 
   down : (t : ℕ) → 0 < a t → (e t < total s) × (e t ≡ suc (e (neighbour s (a t) t)))
-  down = arrow-down (graphOf m) (laid m S) (formed m S) (route-routed m (S .len)) (S .hopper-next) (S .stop-next) T
+  down = arrow-down (graphOf m) (routable m S) (formed m S) (route-routed m (S .len)) (S .hopper-next) (S .stop-next) T
 
   up : (t : ℕ) → isHopper s t ≡ false → e t < total s → 0 < a t
-  up t n h = arrow-up (graphOf m) (laid m S) (formed m S) (route-routed m (S .len)) (S .hopper-next) (S .stop-next) t n (omega (arith, same-distance t))
+  up t n h = arrow-up (graphOf m) (routable m S) (formed m S) (route-routed m (S .len)) (S .hopper-next) (S .stop-next) t n (omega (arith, same-distance t))
 
   live-runs : (t : ℕ) → e t < total s → runsOf m t ≡ true
-  live-runs t h = formed-runs (graphOf m) (laid m S) (formed m S) t (omega (arith, S .measured .few))
+  live-runs t h = formed-runs (graphOf m) (routable m S) (formed m S) t (omega (arith, S .measured .few))
 
   -- a canister of a tile that moves has one move less ahead of it
   stay-less : (u : ℕ) (c : Canister) → Moving m S u → Inside s c → crosses s (wayAt m u) c ≡ false → suc (ahead s e a u (shift s (wayAt m u) c)) ≤ ahead s e a u c
@@ -187,14 +187,14 @@ module _ (m : Model) (S : Sound m) (T : Right (graphOf m) (distanceOf m)) where
   then-moves u M =
       let x = neighbour s (wayAt m u) u in
       let p = crosses s (wayAt m u) in
-      let K = keep (λ c. not (p c)) (membersOf m u) in
-      let J = keep p (membersOf m u) in
+      let K = filter (λ c. not (p c)) (membersOf m u) in
+      let J = filter p (membersOf m u) in
       let ks = sum-map-lt (λ c. ahead s e a u (shift s (wayAt m u) c)) (ahead s e a u) K
       (all-imp (λ c. Inside s c × (not (p c) ≡ true)) (λ c. suc (ahead s e a u (shift s (wayAt m u) c)) ≤ ahead s e a u c) K
-      (λ c q. stay-less u c M (q .0) (not-true (p c) (q .1))) (all-keep (Inside s) (λ c. not (p c)) (membersOf m u) (S .inside u))) in
+      (λ c q. stay-less u c M (q .0) (not-true (p c) (q .1))) (all-filter (Inside s) (λ c. not (p c)) (membersOf m u) (S .inside u))) in
       let js = sum-map-lt (λ c. ahead s e a x (land s (wayAt m u) c)) (ahead s e a u) J
       (all-imp (λ c. Inside s c × (p c ≡ true)) (λ c. suc (ahead s e a x (land s (wayAt m u) c)) ≤ ahead s e a u c) J
-      (λ c q. cross-less u c M (q .0)) (all-keep (Inside s) p (membersOf m u) (S .inside u))) in
+      (λ c q. cross-less u c M (q .0)) (all-filter (Inside s) p (membersOf m u) (S .inside u))) in
       rw (map-map (shift s (wayAt m u)) (ahead s e a u) K, map-map (land s (wayAt m u)) (ahead s e a x) J)
       (omega (
         arith,

@@ -20,14 +20,14 @@ use Rattle.floor.specs.Signal.{lack, missing}
 use Rattle.floor.specs.Calls.{reportOf}
 use Rattle.floor.specs.Reports.{listedAt}
 use Rattle.floor.specs.Demand3.{round}
-use Rattle.floor.specs.Fairness.{wants, turnOf}
+use Rattle.floor.specs.BoundedBypass.{wants, turnOf}
 use Rattle.floor.specs.Standing.{ahead, Shifts, Shifted, Fits, Standing, reasonAt, missingAt}
 use Rattle.floor.proofs.Calling.{several, settings, can, holds}
-use Rattle.floor.proofs.Shown.{valueBy, shows-report}
-use Rattle.floor.proofs.Made.{Made, fresh, book as put, stop as halt, rounds as run, floorOf, made, made-shows, holdBy}
+use Rattle.floor.proofs.CallsByValue.{valueBy, shows-report}
+use Rattle.floor.proofs.TablesByValue.{Made, fresh, book as put, stop as halt, rounds as run, floorOf, made, made-shows, holdBy}
 use Rattle.floor.proofs.Grid.{at1, at2, at3, at4}
 use Rattle.floor.proofs.Standing.{gap-test}
-use Rattle.floor.proofs.StandingInstances.{told as told-shown}
+use Rattle.floor.proofs.StandingInstances.{standing-of as standing-shown}
 
 -- ---- a floor that calls made, the round after it, and the numbers that it delivers
 abbrev before : Made → Model
@@ -40,8 +40,8 @@ abbrev listed : Made → ℕ → List ℕ
 listed e = listedAt (reportOf (before e))
 
 module _ (e : Made) (h : made e .0 ≡ true) where
-  told : Standing (before e) (after e) (listed e) (reasonAt (floorOf e)) (missingAt (floorOf e))
-  told = told-shown (floorOf e) (before e) (made-shows e h)
+  standing-here : Standing (before e) (after e) (listed e) (reasonAt (floorOf e)) (missingAt (floorOf e))
+  standing-here = standing-shown (floorOf e) (before e) (made-shows e h)
 
   -- the reason by the value, and what it says of the tile
   reason : (t : ℕ) → reasonAt (floorOf e) t ≡ getD (reportOf (before e) .reasons) t 0
@@ -49,10 +49,10 @@ module _ (e : Made) (h : made e .0 ≡ true) where
   reason t = ap (λ (r : Report). getD (r .reasons) t 0) (shows-report (floorOf e) (before e) (made-shows e h))
 
   says : (t r : ℕ) → getD (reportOf (before e) .reasons) t 0 ≡ r → t < total (before e .settings) → Fits (before e) (after e) (listed e) t r
-  says t r q on = subst (Fits (before e) (after e) (listed e) t) (reason t ∙ q) (told .fits t on)
+  says t r q on = subst (Fits (before e) (after e) (listed e) t) (reason t ∙ q) (standing-here .fits t on)
 
   earlier : (t r k : ℕ) → getD (reportOf (before e) .reasons) t 0 ≡ r → t < total (before e .settings) → 1 ≤ k → k < r → ¬ (Fits (before e) (after e) (listed e) t k)
-  earlier t r k q on p l = told .first t on k p (omega (arith, l, reason t ∙ q))
+  earlier t r k q on p l = standing-here .first t on k p (omega (arith, l, reason t ∙ q))
 
 -- ---- 3 × 2, hopper 3, tiles 1 and 5 stopped. Tile 2 moves into the hopper, and has the gap for neither 5 on tile 0 nor 6 on tile 4; the turn is west's
 unfoldable fork : Made
@@ -83,7 +83,7 @@ on-floor : (t : ℕ) → t < 6 → t < total (m .settings)
 on-floor t l = omega (arith, l, six-tiles)
 
 fork-one : (1 ≤ reasonAt f 5) × (reasonAt f 5 ≤ 6)
-fork-one = let a = told fork fork-made .one 5 (on-floor 5 (omega arith)) in (a .0, a .1)
+fork-one = let a = standing-here fork fork-made .one 5 (on-floor 5 (omega arith)) in (a .0, a .1)
 
 fork-stopped : runsOf m 1 ≡ false
 fork-stopped = says fork fork-made 1 1 (reasons .1 .0) (on-floor 1 (omega arith))
@@ -121,32 +121,32 @@ fork-first : reasonAt f 1 ≡ 1
 fork-first = go (ltb 1 (reasonAt f 1)) refl
   where
     go : (b : Bool) → ltb 1 (reasonAt f 1) ≡ b → reasonAt f 1 ≡ 1
-    go true q = absurd (told fork fork-made .first 1 (on-floor 1 (omega arith)) 1 (omega arith) (ltb-true 1 (reasonAt f 1) q) fork-stopped)
-    go false q = omega (arith, ltb-false 1 (reasonAt f 1) q, told fork fork-made .one 1 (on-floor 1 (omega arith)) .0)
+    go true q = absurd (standing-here fork fork-made .first 1 (on-floor 1 (omega arith)) 1 (omega arith) (ltb-true 1 (reasonAt f 1) q) fork-stopped)
+    go false q = omega (arith, ltb-false 1 (reasonAt f 1) q, standing-here fork fork-made .one 1 (on-floor 1 (omega arith)) .0)
 
 fork-ahead : runsOf m (ahead m n 4) ≡ true
-fork-ahead = told fork fork-made .runs 4 fork-arrow
+fork-ahead = standing-here fork fork-made .runs 4 fork-arrow
 
 -- 7 was delivered to the hopper north of tile 2; 6 stands where it stood
 fork-shifted : (membersOf m 2 ≢ []) × (nextOf n 2 ≢ 0) × Shifts (m .settings) n (listed fork) 3 2 (can 7 35 0)
 unfolding holds holdBy fork
-fork-shifted = let a = told fork fork-made .moved 2 .0 (reason fork fork-made 2 ∙ reasons .1 .1 .0) in (a .0, a .1, a .2 .0)
+fork-shifted = let a = standing-here fork fork-made .moved 2 .0 (reason fork fork-made 2 ∙ reasons .1 .1 .0) in (a .0, a .1, a .2 .0)
 
 fork-stood : List·Memᴰ (can 6 0 0) (membersOf n 4)
 unfolding holds holdBy fork
-fork-stood = told fork fork-made .stood 4 (λ q. absurd (omega (arith, q, reason fork fork-made 4 ∙ reasons .1 .1 .1 .1))) .0
+fork-stood = standing-here fork fork-made .stood 4 (λ q. absurd (omega (arith, q, reason fork fork-made 4 ∙ reasons .1 .1 .1 .1))) .0
 
 fork-not-both : ¬ (All (λ c. List·Memᴰ c (membersOf n 2)) (membersOf m 2))
-fork-not-both = told fork fork-made .not-both 2 fork-moved
+fork-not-both = standing-here fork fork-made .not-both 2 fork-moved
 
 fork-hopper : reasonAt f 3 ≡ 2
 unfolding holds holdBy fork
-fork-hopper = told fork fork-made .hopper 3 refl
+fork-hopper = standing-here fork fork-made .hopper 3 refl
 
 fork-none : ((reasonAt f 6 ≡ 0) × (missingAt f 6 ≡ 0)) × ((reasonAt f 63 ≡ 0) × (missingAt f 63 ≡ 0))
 fork-none =
-    let a = told fork fork-made .none 6 (omega (arith, six-tiles)) in
-    let b = told fork fork-made .none 63 (omega (arith, six-tiles)) in
+    let a = standing-here fork fork-made .none 6 (omega (arith, six-tiles)) in
+    let b = standing-here fork fork-made .none 63 (omega (arith, six-tiles)) in
     ((a .0, a .1), (b .0, b .1))
 
 -- beside reason 4 no millimetres are told
@@ -154,8 +154,8 @@ only-zero : (k : ℕ) → ¬ (0 < k) → k ≡ 0
 only-zero zero h = refl
 only-zero (suc k) h = absurd (h (omega arith))
 
-fork-untold : missingAt f 4 ≡ 0
-fork-untold = only-zero (missingAt f 4) (λ p. absurd (omega (arith, told fork fork-made .lacking 4 .1 p, reason fork fork-made 4 ∙ reasons .1 .1 .1 .1)))
+fork-no-millimetres : missingAt f 4 ≡ 0
+fork-no-millimetres = only-zero (missingAt f 4) (λ p. absurd (omega (arith, standing-here fork fork-made .lacking 4 .1 p, reason fork fork-made 4 ∙ reasons .1 .1 .1 .1)))
 
 -- ---- W 4, hopper 3: 5 on tile 1 has no arrow in the first round
 unfoldable bare : Made
@@ -180,17 +180,17 @@ far-five : reasonAt (floorOf far) 2 ≡ 5
 far-five = reason far (far-test .0) 2 ∙ far-test .1 .0
 
 far-short : missingAt (floorOf far) 2 ≡ 40
-far-short = told far (far-test .0) .short 2 far-five ∙ far-test .1 .1
+far-short = standing-here far (far-test .0) .short 2 far-five ∙ far-test .1 .1
 
 far-lacking : 0 < missingAt (floorOf far) 2
-far-lacking = told far (far-test .0) .lacking 2 .0 far-five
+far-lacking = standing-here far (far-test .0) .lacking 2 .0 far-five
 
-far-told : reasonAt (floorOf far) 2 ≡ 5
-far-told = told far (far-test .0) .lacking 2 .1 (omega (arith, far-short))
+far-millimetres : reasonAt (floorOf far) 2 ≡ 5
+far-millimetres = standing-here far (far-test .0) .lacking 2 .1 (omega (arith, far-short))
 
 far-below : (missingAt (floorOf far) 2 ≤ 40) × (missingAt (floorOf far) 2 < 100)
 unfolding holds holdBy far
-far-below = let a = told far (far-test .0) .below 2 in (a .0, a .1)
+far-below = let a = standing-here far (far-test .0) .below 2 in (a .0, a .1)
 
 -- ---- the gap test: U 100, l 30, r 10, so d 40
 abbrev s : Settings

@@ -20,7 +20,7 @@ use Rattle.floor.specs.Model.{Model, tileOf, runsOf, nextOf, tokenOf, me
 use Rattle.floor.specs.Route.{route}
 use Rattle.floor.specs.Signal.{Signal, lack, missing, granting, waiting, signalWith, signalBy, signalOf, grantOf}
 use Rattle.floor.specs.Reasons.{reasonTests, aheadOf}
-use Rattle.floor.specs.Fairness.{wants, turnOf}
+use Rattle.floor.specs.BoundedBypass.{wants, turnOf}
 use Rattle.floor.proofs.Sound.{Measured, Inside, Sound}
 use Rattle.floor.proofs.GridBranches.{opposite-five, five-opposite}
 use Rattle.floor.proofs.Grid.{opposite-sum}
@@ -54,23 +54,23 @@ which false false false false true = record { some = (omega arith, omega arith);
 which false false false false false = record { some = (omega arith, omega arith); one = λ h. absurd (omega arith); two = λ h. absurd (omega arith); three = λ h. absurd (omega arith); four = λ h. absurd (omega arith); five = λ h. absurd (omega arith); past-one = λ h. refl; past-two = λ h. refl; past-three = λ h. refl; past-four = λ h. refl; past-five = λ h. refl }
 
 -- ---- one tile's signal g: the turn before it passed on
-record Told (s : Settings) (running : Bool) (token : ℕ) (l : List Canister) (p : ℕ → Bool) (g : Signal) : Type 0 where
+record SignalFacts (s : Settings) (running : Bool) (token : ℕ) (l : List Canister) (p : ℕ → Bool) (g : Signal) : Type 0 where
   granted-turn : 0 < g .grant → (g .turn ≡ g .grant) × (g .missing ≡ 0)
   with-gap : running ≡ true → 0 < g .turn → g .missing ≡ 0 → g .grant ≡ g .turn
   turn-is : running ≡ true → g .turn ≡ chosen p token
   at-turn : running ≡ true → g .missing ≡ missing s (g .turn) l
   idle : running ≡ false → (g .turn ≡ token) × (g .missing ≡ 0)
 
-told : (s : Settings) (running : Bool) (token : ℕ) (l : List Canister) (p : ℕ → Bool) → Told s running token l p (signalBy s running token l p)
+signal-facts : (s : Settings) (running : Bool) (token : ℕ) (l : List Canister) (p : ℕ → Bool) → SignalFacts s running token l p (signalBy s running token l p)
 unfolding signalBy signalWith
-told s false token l p = record { granted-turn = λ h. absurd (omega arith); with-gap = λ r. not-both r refl; turn-is = λ r. not-both r refl; at-turn = λ r. not-both r refl; idle = λ r. (refl, refl) }
-told s true token l p = go (ltb 0 k && eqb (missing s k l) 0) refl
+signal-facts s false token l p = record { granted-turn = λ h. absurd (omega arith); with-gap = λ r. not-both r refl; turn-is = λ r. not-both r refl; at-turn = λ r. not-both r refl; idle = λ r. (refl, refl) }
+signal-facts s true token l p = go (ltb 0 k && eqb (missing s k l) 0) refl
   where
     k : ℕ
     k = chosen p token
 
     go : (b : Bool) → (ltb 0 k && eqb (missing s k l) 0) ≡ b
-        → Told s true token l p (cond b (granting p k (missing s k l)) (waiting k (missing s k l)))
+        → SignalFacts s true token l p (cond b (granting p k (missing s k l)) (waiting k (missing s k l)))
     go true e = record {
       granted-turn = λ h. (refl, eqb-true (missing s k l) 0 (and-right (ltb 0 k) (eqb (missing s k l) 0) e));
       with-gap = λ r h z. refl;
@@ -104,27 +104,27 @@ missing-le s M k (c ∷ l) i = omega (arith, lack-le s M k c (i .0), missing-le 
 -- ---- one round
 module _ (m : Model) (S : Sound m) where
   -- what Signal tells of any tile
-  tells : (u : ℕ) → Told (m .settings) (runsOf m u) (tokenOf m u) (membersOf m u) (wants m u) (signalOf (route m) u)
-  tells u = subst (Told (m .settings) (runsOf m u) (tokenOf m u) (membersOf m u) (wants m u)) (sym (signal-is m (S .len) u)) (told (m .settings) (runsOf m u) (tokenOf m u) (membersOf m u) (wants m u))
+  signal-facts-at : (u : ℕ) → SignalFacts (m .settings) (runsOf m u) (tokenOf m u) (membersOf m u) (wants m u) (signalOf (route m) u)
+  signal-facts-at u = subst (SignalFacts (m .settings) (runsOf m u) (tokenOf m u) (membersOf m u) (wants m u)) (sym (signal-is m (S .len) u)) (signal-facts (m .settings) (runsOf m u) (tokenOf m u) (membersOf m u) (wants m u))
 
   pub signal-most : (u : ℕ) → signalOf (route m) u .missing ≤ spacing (m .settings)
   signal-most u = go (by-test (runsOf m u))
     where
       go : (runsOf m u ≡ true) ⊎ (runsOf m u ≡ false) → signalOf (route m) u .missing ≤ spacing (m .settings)
-      go (inl r) = omega (arith, tells u .at-turn r, missing-le (m .settings) (S .measured) (signalOf (route m) u .turn) (membersOf m u) (S .inside u))
-      go (inr r) = omega (arith, tells u .idle r .1)
+      go (inl r) = omega (arith, signal-facts-at u .at-turn r, missing-le (m .settings) (S .measured) (signalOf (route m) u .turn) (membersOf m u) (S .inside u))
+      go (inr r) = omega (arith, signal-facts-at u .idle r .1)
 
   -- two bytes hold it
   pub signal-lacks : (u : ℕ) → signalOf (route m) u .missing < 2 ^ 16
   signal-lacks u = omega (arith, signal-most u, S .measured .short, S .measured .narrow)
 
-  -- of a running tile: by the words of specs/Fairness
+  -- of a running tile: by the words of specs/BoundedBypass
   pub turn-at : (u : ℕ) → runsOf m u ≡ true → signalOf (route m) u .turn ≡ turnOf m u
   unfolding turnOf
-  turn-at u r = tells u .turn-is r
+  turn-at u r = signal-facts-at u .turn-is r
 
   pub missing-at : (u : ℕ) → runsOf m u ≡ true → signalOf (route m) u .missing ≡ missing (m .settings) (turnOf m u) (membersOf m u)
-  missing-at u r = tells u .at-turn r ∙ ap (λ (k : ℕ). missing (m .settings) k (membersOf m u)) (turn-at u r)
+  missing-at u r = signal-facts-at u .at-turn r ∙ ap (λ (k : ℕ). missing (m .settings) k (membersOf m u)) (turn-at u r)
 
   module _ (t : ℕ) where
     -- the new arrow, the tile that it leads to, what Signal gave that one, and the reason
@@ -165,7 +165,7 @@ module _ (m : Model) (S : Sound m) where
     -- where the turn ahead is this tile's and nothing is missing, it moves
     must-move : 0 < k → k ≡ opposite (y .turn) → y .missing ≡ 0 → wayAt m t ≡ k
     unfolding wayAt
-    must-move h e z = way-of k (y .grant) (e ∙ ap opposite (sym (tells u .with-gap (ahead-runs h) (omega (arith, five-opposite k (y .turn) h e, arrow-le)) z)))
+    must-move h e z = way-of k (y .grant) (e ∙ ap opposite (sym (signal-facts-at u .with-gap (ahead-runs h) (omega (arith, five-opposite k (y .turn) h e, arrow-le)) z)))
 
     -- a tile that moves passes the first five tests, if it has canisters
     does-move : 0 < wayAt m t → (runsOf m t ≡ true) × (0 < k) × (k ≡ opposite (y .turn)) × (y .missing ≡ 0)
@@ -173,7 +173,7 @@ module _ (m : Model) (S : Sound m) where
         let M = moving m S t h in
         let g : grantOf (route m) u ≡ opposite k = subst (λ (j : ℕ). grantOf (route m) (neighbour (m .settings) j t) ≡ opposite j) (M .is) (M .meets) in
         let sum : k + opposite k ≡ 5 = subst (λ (j : ℕ). j + opposite j ≡ 5) (M .is) (opposite-sum (M .side)) in
-        let T = tells u .granted-turn (omega (arith, g, sum, arrow-le)) in
+        let T = signal-facts-at u .granted-turn (omega (arith, g, sum, arrow-le)) in
         (M .runs, omega (arith, M .is), opposite-five k (y .turn) arrow-le (omega (arith, T .0, g, sum)), T .1)
 
     pub reason-moves : reason ≡ 6 → (0 < length (membersOf m t)) × (0 < wayAt m t)

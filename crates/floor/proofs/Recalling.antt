@@ -16,16 +16,16 @@ use Rattle.floor.specs.Layouts.{setOf}
 use Rattle.floor.specs.Model.{Model, tileOf, runsOf, withTile}
 use Rattle.floor.specs.Memory.{view, pack}
 use Rattle.floor.specs.Well.{wellFormed}
-use Rattle.floor.specs.Calls.{refusalOf, answer, stopTests, stopped, stopAnswer, repairTests, repaired, repairAnswer, heldTests, recalled, recallAnswer}
+use Rattle.floor.specs.Calls.{refusalOf, answer, stopTests, stopped, stopAnswer, repairTests, repaired, repairAnswer, nameHeldTests, recalled, recallAnswer}
 use Rattle.floor.specs.Demand3.{Call, stop, repair, recall, outcome, floorAfter, recallSet, recallMakes, runsBy, latest}
 use Rattle.floor.specs.Named.{needed, recallCalls, AllAccepted}
 use Rattle.floor.proofs.Sound.{Sound}
 use Rattle.floor.proofs.Pack.{well-sound}
 use Rattle.floor.proofs.Capacity.{view-packed, sound-well}
-use Rattle.floor.proofs.First.{pack-view-well}
+use Rattle.floor.proofs.FreshAndWidths.{pack-view-well}
 use Rattle.floor.proofs.Calls.{Accepted}
-use Rattle.floor.proofs.Laying.{Covers}
-use Rattle.floor.proofs.Stages.{stage, stage-none, stage-all, stop-meets, repair-meets, by-tile, stage-keeps, held-set}
+use Rattle.floor.proofs.SoundLayouts.{Covers}
+use Rattle.floor.proofs.Stages.{stage, stage-none, stage-all, stop-meets, repair-meets, by-tile, stage-keeps, name-held-set}
 use Rattle.floor.proofs.Lists.{after-both, passed}
 
 -- lists of accepted calls, one after another
@@ -101,34 +101,34 @@ module _ (f : Floor) (w : wellFormed f ≡ true) (set : ℕ) (hop : Covers (view
 
 -- "Recall makes the stops and repairs needed, in rising tile number, and counts as these"
 pub recall-made : (f : Floor) → wellFormed f ≡ true → (name : ℕ) → outcome f (recall name) .refusal ≡ 0 → (floorAfter f (recallCalls f name) ≡ outcome f (recall name) .floor) × AllAccepted f (recallCalls f name)
-unfolding outcome recallAnswer answer recallCalls recallSet Made view heldTests
+unfolding outcome recallAnswer answer recallCalls recallSet Made view nameHeldTests
 recall-made f w name e =
     let S = well-sound f w in
-    let T = passed f w (heldTests (view f .layouts) name) (omega arith) (eq-eqb _ 0 e) in
-    let M = all-made f w (setOf (view f .layouts) name) (held-set (view f) S name T) in
+    let T = passed f w (nameHeldTests (view f .layouts) name) (omega arith) (eq-eqb _ 0 e) in
+    let M = all-made f w (setOf (view f .layouts) name) (name-held-set (view f) S name T) in
     (M .0 ∙ rw e, M .1)
 
 -- ---- what a list of accepted stops and repairs leaves running
 -- the call that one tile needs: b whether the set has it, r whether it runs; and whether it needs one
-abbrev press : Bool → Bool → ℕ → List Call
-press b r u = cond b (cond r [] (repair u ∷ [])) (cond r (stop u ∷ []) [])
+abbrev neededCall : Bool → Bool → ℕ → List Call
+neededCall b r u = cond b (cond r [] (repair u ∷ [])) (cond r (stop u ∷ []) [])
 
 abbrev makes : Bool → Bool → Bool
 makes b r = cond b (not r) r
 
-press-rest : (g : Floor) (b r : Bool) (u : ℕ) (cs : List Call) → AllAccepted g (press b r u ++ cs) → AllAccepted (floorAfter g (press b r u)) cs
+needed-rest : (g : Floor) (b r : Bool) (u : ℕ) (cs : List Call) → AllAccepted g (neededCall b r u ++ cs) → AllAccepted (floorAfter g (neededCall b r u)) cs
 unfolding floorAfter
-press-rest g true true u cs h = h
-press-rest g true false u cs h = h .1
-press-rest g false true u cs h = h .1
-press-rest g false false u cs h = h
+needed-rest g true true u cs h = h
+needed-rest g true false u cs h = h .1
+needed-rest g false true u cs h = h .1
+needed-rest g false false u cs h = h
 
-press-runs : (g : Floor) (b r : Bool) (u t : ℕ) (q : Bool) (cs : List Call) → AllAccepted g (press b r u ++ cs) → latest g (press b r u ++ cs) t q ≡ latest (floorAfter g (press b r u)) cs t (cond (eqb u t && makes b r) b q)
+needed-runs : (g : Floor) (b r : Bool) (u t : ℕ) (q : Bool) (cs : List Call) → AllAccepted g (neededCall b r u ++ cs) → latest g (neededCall b r u ++ cs) t q ≡ latest (floorAfter g (neededCall b r u)) cs t (cond (eqb u t && makes b r) b q)
 unfolding floorAfter latest runsBy
-press-runs g true true u t q cs h = rw (and-no (eqb u t))
-press-runs g true false u t q cs h = rw (eq-eqb (outcome g (repair u) .refusal) 0 (h .0), and-yes (eqb u t))
-press-runs g false true u t q cs h = rw (eq-eqb (outcome g (stop u) .refusal) 0 (h .0), and-yes (eqb u t))
-press-runs g false false u t q cs h = rw (and-no (eqb u t))
+needed-runs g true true u t q cs h = rw (and-no (eqb u t))
+needed-runs g true false u t q cs h = rw (eq-eqb (outcome g (repair u) .refusal) 0 (h .0), and-yes (eqb u t))
+needed-runs g false true u t q cs h = rw (eq-eqb (outcome g (stop u) .refusal) 0 (h .0), and-yes (eqb u t))
+needed-runs g false false u t q cs h = rw (and-no (eqb u t))
 
 module _ (f : Floor) (set t : ℕ) where
   abbrev there : ℕ → Bool
@@ -141,12 +141,12 @@ module _ (f : Floor) (set t : ℕ) where
   runs-off g u (suc n) q h a =
       let b = bit set u in
       let r = runsOf (view f) u in
-      press-runs g b r u t q (needed f set (suc u) n) a ∙ rw (ne-eqb u t (h u (omega arith) (omega arith))) (runs-off (floorAfter g (press b r u)) (suc u) n q (λ k i j. h k (omega arith) (omega arith)) (press-rest g b r u (needed f set (suc u) n) a))
+      needed-runs g b r u t q (needed f set (suc u) n) a ∙ rw (ne-eqb u t (h u (omega arith) (omega arith))) (runs-off (floorAfter g (neededCall b r u)) (suc u) n q (λ k i j. h k (omega arith) (omega arith)) (needed-rest g b r u (needed f set (suc u) n) a))
 
   runs-on : (g : Floor) (u n : ℕ) (q : Bool) → u ≤ t → t < u + n → AllAccepted g (needed f set u n) → latest g (needed f set u n) t q ≡ cond (there t) (bit set t) q
   unfolding needed latest
   runs-on g u zero q l m a = absurd (omega arith)
-  runs-on g u (suc n) q l m a = press-runs g b r u t q (needed f set (suc u) n) a ∙ go (ℕ-discrete u t) (λ d. runs-on (floorAfter g (press b r u)) (suc u) n q (omega (arith, d)) (omega arith) rest)
+  runs-on g u (suc n) q l m a = needed-runs g b r u t q (needed f set (suc u) n) a ∙ go (ℕ-discrete u t) (λ d. runs-on (floorAfter g (neededCall b r u)) (suc u) n q (omega (arith, d)) (omega arith) rest)
     where
       b : Bool
       b = bit set u
@@ -154,12 +154,12 @@ module _ (f : Floor) (set t : ℕ) where
       r : Bool
       r = runsOf (view f) u
 
-      rest : AllAccepted (floorAfter g (press b r u)) (needed f set (suc u) n)
-      rest = press-rest g b r u (needed f set (suc u) n) a
+      rest : AllAccepted (floorAfter g (neededCall b r u)) (needed f set (suc u) n)
+      rest = needed-rest g b r u (needed f set (suc u) n) a
 
-      go : Dec (u ≡ t) → (u ≢ t → latest (floorAfter g (press b r u)) (needed f set (suc u) n) t q ≡ cond (there t) (bit set t) q)
-          → latest (floorAfter g (press b r u)) (needed f set (suc u) n) t (cond (eqb u t && there u) b q) ≡ cond (there t) (bit set t) q
-      go (yes e) more = rw (eq-eqb u t e) (runs-off (floorAfter g (press b r u)) (suc u) n (cond (there u) b q) (λ k i j z. absurd (omega (arith, e))) rest ∙ ap (λ (k : ℕ). cond (there k) (bit set k) q) e)
+      go : Dec (u ≡ t) → (u ≢ t → latest (floorAfter g (neededCall b r u)) (needed f set (suc u) n) t q ≡ cond (there t) (bit set t) q)
+          → latest (floorAfter g (neededCall b r u)) (needed f set (suc u) n) t (cond (eqb u t && there u) b q) ≡ cond (there t) (bit set t) q
+      go (yes e) more = rw (eq-eqb u t e) (runs-off (floorAfter g (neededCall b r u)) (suc u) n (cond (there u) b q) (λ k i j z. absurd (omega (arith, e))) rest ∙ ap (λ (k : ℕ). cond (there k) (bit set k) q) e)
       go (no d) more = rw (ne-eqb u t d) (more d)
 
 -- "and counts as these in demand 3": of any tile, whatever stood before

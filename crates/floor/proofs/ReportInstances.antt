@@ -14,8 +14,8 @@ use Rattle.floor.specs.Memory.{view}
 use Rattle.floor.specs.Calls.{noDelivery, reportOf}
 use Rattle.floor.specs.Reports.{Lists}
 use Rattle.floor.proofs.Calling.{several, holds}
-use Rattle.floor.proofs.Shown.{shows-report}
-use Rattle.floor.proofs.Made.{Made, begun, book as put, rounds as run, floorOf, made, made-shows, holdBy}
+use Rattle.floor.proofs.CallsByValue.{shows-report}
+use Rattle.floor.proofs.TablesByValue.{Made, begun, book as put, rounds as run, floorOf, made, made-shows, holdBy}
 use Rattle.floor.proofs.Reports.{reports}
 use Rattle.floor.proofs.Instances.{one}
 
@@ -23,9 +23,9 @@ use Rattle.floor.proofs.Instances.{one}
 abbrev delivered : Made → List Delivery
 delivered e = reportOf (made e .1) .deliveries
 
-told : (e : Made) → made e .0 ≡ true → Lists (length (hoppersOf (made e .1 .settings))) (delivered e)
+lists-of : (e : Made) → made e .0 ≡ true → Lists (length (hoppersOf (made e .1 .settings))) (delivered e)
 unfolding view
-told e h =
+lists-of e h =
     let s = made-shows e h in
     subst (λ (x : Model). Lists (length (hoppersOf (x .settings))) (delivered e)) (s .value)
     (subst (λ (r : Report). Lists (length (hoppersOf (floorOf e .settings))) (r .deliveries)) (shows-report (floorOf e) (made e .1) s) (reports (floorOf e) (s .well)))
@@ -39,31 +39,31 @@ unfolding holds holdBy ends
 ends-made = refl
 
 ends-four : length (delivered ends) ≡ 4
-ends-four = told ends ends-made .four
+ends-four = lists-of ends ends-made .four
 
 ends-few : getD (delivered ends) 1 noDelivery .count ≤ 4
-ends-few = told ends ends-made .each 1 .few
+ends-few = lists-of ends ends-made .each 1 .few
 
 ends-rising : Pairs (λ x y. x < y) (5 ∷ 6 ∷ [])
 unfolding holds holdBy ends
-ends-rising = told ends ends-made .each 1 .rising
+ends-rising = lists-of ends ends-made .each 1 .rising
 
 ends-none-zero : All (λ n. 0 < n) (5 ∷ 6 ∷ [])
 unfolding holds holdBy ends
-ends-none-zero = told ends ends-made .each 1 .none-zero
+ends-none-zero = lists-of ends ends-made .each 1 .none-zero
 
 ends-zeros : drop 2 (getD (delivered ends) 1 noDelivery .numbers) ≡ 0 ∷ 0 ∷ []
 unfolding holds holdBy ends
-ends-zeros = told ends ends-made .each 1 .zeros
+ends-zeros = lists-of ends ends-made .each 1 .zeros
 
 -- nothing at the first; and zeros beyond the second
 ends-first : drop 0 (getD (delivered ends) 0 noDelivery .numbers) ≡ 0 ∷ 0 ∷ 0 ∷ 0 ∷ []
 unfolding holds holdBy ends
-ends-first = told ends ends-made .each 0 .zeros
+ends-first = lists-of ends ends-made .each 0 .zeros
 
 ends-beyond : getD (delivered ends) 2 noDelivery ≡ noDelivery
 unfolding holds holdBy ends
-ends-beyond = told ends ends-made .beyond 2 (omega arith)
+ends-beyond = lists-of ends ends-made .beyond 2 (omega arith)
 
 -- W 2, one hopper: zeros in the second place; no number listed where there is no fifth
 one-made : made one .0 ≡ true
@@ -72,7 +72,7 @@ one-made = refl
 
 one-beyond : getD (delivered one) 1 noDelivery ≡ noDelivery
 unfolding holds holdBy one
-one-beyond = told one one-made .beyond 1 (omega arith)
+one-beyond = lists-of one one-made .beyond 1 (omega arith)
 
 one-fifth : getD (delivered one) 4 noDelivery .count ≤ 4
-one-fifth = told one one-made .each 4 .few
+one-fifth = lists-of one one-made .each 4 .few

@@ -18,7 +18,7 @@ use Rattle.floor.specs.Reports.{Listing, Lists, Reports}
 use Rattle.floor.proofs.Sound.{Sound}
 use Rattle.floor.proofs.Pack.{well-sound}
 use Rattle.floor.proofs.Rows.{view-settings}
-use Rattle.floor.proofs.Fields.{went, delivered-length}
+use Rattle.floor.proofs.Fields.{deliveredTo, delivered-length}
 use Rattle.floor.proofs.Deliveries.{delivered-few, delivered-rising}
 use Rattle.floor.proofs.Calls.{round-keeps}
 use Rattle.floor.proofs.Lists.{round-report, report-at, listed-all}
@@ -39,28 +39,28 @@ unfolding deliveryOf tab
 spare = refl
 
 module _ (m : Model) (S : Sound m) where
-  went-positive : (k : ℕ) → All (λ n. 0 < n) (went m k)
-  went-positive k = go (decLe (suc k) 4)
+  delivered-positive : (k : ℕ) → All (λ n. 0 < n) (deliveredTo m k)
+  delivered-positive k = go (decLe (suc k) 4)
     where
       P : ℕ → Type 0
       P n = 0 < n
 
-      all : All P (cat 4 (went m))
-      all = all-right P (numbersOn (afterRound m)) (cat 4 (went m)) (all-perm P (Permᴰ·symm (round-keeps m S .nums)) (subst (All P) (sym (append-nil (numbersOn m))) (S .positive)))
+      all : All P (cat 4 (deliveredTo m))
+      all = all-right P (numbersOn (afterRound m)) (cat 4 (deliveredTo m)) (all-perm P (Permᴰ·symm (round-keeps m S .nums)) (subst (All P) (sym (append-nil (numbersOn m))) (S .positive)))
 
-      go : Dec (k < 4) → All P (went m k)
-      go (yes h) = cat-all P 4 (went m) k h all
+      go : Dec (k < 4) → All P (deliveredTo m k)
+      go (yes h) = cat-all P 4 (deliveredTo m) k h all
       go (no h) = subst (All P) (sym (List·getD-eq-default (delivered m) [] (omega (arith, delivered-length m (S .len), S .measured .hoppers-few)))) tt
 
-  listing : (k : ℕ) → Listing (deliveryOf (went m k))
+  listing : (k : ℕ) → Listing (deliveryOf (deliveredTo m k))
   unfolding deliveryOf
   listing k =
-      let l = went m k in
+      let l = deliveredTo m k in
       let few = delivered-few m S k in
       record {
         few = few;
         rising = subst (Pairs (λ x y. x < y)) (sym (listed-all l few)) (delivered-rising m S k);
-        none-zero = subst (All (λ n. 0 < n)) (sym (listed-all l few)) (went-positive k);
+        none-zero = subst (All (λ n. 0 < n)) (sym (listed-all l few)) (delivered-positive k);
         zeros = tail l few;
       }
 

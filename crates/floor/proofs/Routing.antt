@@ -21,7 +21,7 @@ pub record Graph : Type 0 where
   pub run : ℕ → Bool
 
 -- what routing needs of it
-pub record Laid (g : Graph) : Type 0 where
+pub record Routable (g : Graph) : Type 0 where
   pub small : g .size ≤ 255
   pub hop-runs : (t : ℕ) → g .hop t ≡ true → g .run t ≡ true
   pub run-on : (t : ℕ) → g .run t ≡ true → t < g .size
@@ -144,7 +144,7 @@ module _ (g : Graph) where
   stable-all k S zero t h = reach-hop k t h
   stable-all k S (suc n) t h = S t (reach-sub n k t (stable-all k S n) h)
 
-  module _ (L : Laid g) where
+  module _ (L : Routable g) where
     reach-on : (n t : ℕ) → reach n t ≡ true → t < g .size
     reach-on n t h = go (kind t)
       where

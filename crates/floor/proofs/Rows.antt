@@ -238,11 +238,11 @@ used-places zero (x ∷ l) h k = absurd (omega arith)
 used-places (suc n) [] h k = refl
 used-places (suc n) (x ∷ l) h k = rw (ne-eqb (x .name) 0 (h .0)) (ap (λ (k : List Layout). x ∷ k) (used-places n l (h .1) (omega arith)))
 
-pub laid-length : (n : ℕ) (l : List Layout) → length (layoutPlaces n l) ≡ n
+pub layout-places-length : (n : ℕ) (l : List Layout) → length (layoutPlaces n l) ≡ n
 unfolding layoutPlaces
-laid-length zero l = refl
-laid-length (suc n) [] = ap suc (laid-length n [])
-laid-length (suc n) (x ∷ l) = ap suc (laid-length n l)
+layout-places-length zero l = refl
+layout-places-length (suc n) [] = ap suc (layout-places-length n [])
+layout-places-length (suc n) (x ∷ l) = ap suc (layout-places-length n l)
 
 rest-places : (n : ℕ) (l : List Layout) → allOf isZeroLayout (drop (length l) (layoutPlaces n l)) ≡ true
 unfolding layoutPlaces allOf isZeroLayout
@@ -253,7 +253,7 @@ rest-places (suc n) (x ∷ l) = rest-places n l
 
 pub layouts-fit : (l : List Layout) → All (λ x. x .name ≢ 0) l → length l ≤ 8 → layoutsFit (layoutPlaces 8 l) ≡ true
 unfolding layoutsFit
-layouts-fit l h k = and-true (eq-eqb (length (layoutPlaces 8 l)) 8 (laid-length 8 l)) (rw (used-places 8 l h k) (rest-places 8 l))
+layouts-fit l h k = and-true (eq-eqb (length (layoutPlaces 8 l)) 8 (layout-places-length 8 l)) (rw (used-places 8 l h k) (rest-places 8 l))
 
 -- sound layouts have names, and are at most eight
 pub sound-named : (s : Settings) (l : List Layout) → layoutsSound s l ≡ true → Placed l

@@ -13,7 +13,7 @@ use Rattle.floor.specs.Memory.{zeroFloor, refilled}
 use Rattle.floor.specs.Calls.{freshAnswer, roundAnswer, readAnswer}
 use Rattle.floor.specs.Demand3.{stop as stopping, outcome}
 use Rattle.floor.proofs.Calling.{got, several, settings, can, refusedRound, holds}
-use Rattle.floor.proofs.Made.{Made, begun, fresh, book, stop, repair, rounds, floorOf, on, distances, next, reportedTo, grant, why, counted, liveCount, boundOf, answered, given, Rows, hold, holdBy, by-values}
+use Rattle.floor.proofs.TablesByValue.{Made, begun, fresh, book, stop, repair, rounds, floorOf, on, distances, next, reportedTo, grant, why, counted, liveCount, boundOf, answered, given, Rows, hold, holdBy, by-values}
 
 -- W, H, hopper, fill set; l 21, r 0, v 10: four along each axis
 unfoldable dense : ℕ → ℕ → ℕ → ℕ → Settings

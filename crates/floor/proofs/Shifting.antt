@@ -9,7 +9,7 @@ use native.Mathlib.Decide.{decLe}
 use lib.ListN.{length, getD, List·getD-eq-default}
 use Rattle.laws.specs.Define.{cat}
 use Rattle.laws.specs.Every.{All, Pairs}
-use Rattle.laws.proofs.Lists.{all-mem, all-of, mem-map, mem-keep, mem-perm, mem-cat, pairs-perm, pairs-between, cat-between}
+use Rattle.laws.proofs.Lists.{all-mem, all-of, mem-map, mem-filter, mem-perm, mem-cat, pairs-perm, pairs-between, cat-between}
 use Rattle.laws.proofs.SetBits.{bits-place}
 use Rattle.floor.specs.declared.Canister.{Canister}
 use Rattle.floor.specs.declared.Settings.{Settings}
@@ -24,7 +24,7 @@ use Rattle.floor.proofs.Sound.{Inside, Sound}
 use Rattle.floor.proofs.Grid.{side-pos, opposite-side, neighbour-other}
 use Rattle.floor.proofs.Geometry.{room, shift-number, land-number, shift-room, stay-room}
 use Rattle.floor.proofs.Borders.{Rising, staying-none}
-use Rattle.floor.proofs.Fields.{wayAt, stays, leaves, comes, went, round-settings, round-own, delivered-are, delivered-length}
+use Rattle.floor.proofs.Fields.{wayAt, stays, leaves, comes, deliveredTo, round-settings, round-own, delivered-are, delivered-length}
 use Rattle.floor.proofs.Passing.{Moving, taking, moves-from}
 use Rattle.floor.proofs.Insertion.{insert-each-perm}
 use Rattle.floor.proofs.Conservation.{round-numbers}
@@ -58,9 +58,9 @@ module _ (m : Model) (S : Sound m) where
   come-there t on n c h = subst (List·Memᴰ c) (sym (round-own m (S .len) t on n)) (mem-perm (Permᴰ·symm (insert-each-perm (comes m t) (stays m t))) c (Memᴰ·append-left (stays m t) h))
 
   -- what comes to a hopper is listed there
-  went-there : (u : ℕ) → u < total (m .settings) → isHopper (m .settings) u ≡ true → went m (hoppersBefore (m .settings) u) ≡ numbers (comes m u)
+  delivered-there : (u : ℕ) → u < total (m .settings) → isHopper (m .settings) u ≡ true → deliveredTo m (hoppersBefore (m .settings) u) ≡ numbers (comes m u)
   unfolding isHopper hoppersOf
-  went-there u on h =
+  delivered-there u on h =
       ap (λ (l : List (List ℕ)). getD l (hoppersBefore (m .settings) u) []) (delivered-are m (S .len))
       ∙ bits-place (λ t. numbers (comes m t)) [] (m .settings .hoppers) (total (m .settings)) u on h
 
@@ -78,7 +78,7 @@ module _ (m : Model) (S : Sound m) where
     arrive : comes m u ≡ leaves m t
     arrive = taking m S u (omega (arith, M .meets, side-pos (opposite-side (M .side)))) .takes ∙ ap (leaves m) (moves-from m S t M)
 
-    pub shifts : (c : Canister) → List·Memᴰ c (membersOf m t) → Shifts s (afterRound m) (went m) way t c
+    pub shifts : (c : Canister) → List·Memᴰ c (membersOf m t) → Shifts s (afterRound m) (deliveredTo m) way t c
     unfolding stays leaves staying leaving
     shifts c h = go (crosses s way c) refl
       where
@@ -86,14 +86,14 @@ module _ (m : Model) (S : Sound m) where
         here = not-hopper t (has h)
 
         over : crosses s way c ≡ true → List·Memᴰ (land s way c) (comes m u)
-        over e = subst (List·Memᴰ (land s way c)) (sym arrive) (mem-map (land s way) (mem-keep (crosses s way) (membersOf m t) e h))
+        over e = subst (List·Memᴰ (land s way c)) (sym arrive) (mem-map (land s way) (mem-filter (crosses s way) (membersOf m t) e h))
 
-        beyond : crosses s way c ≡ true → (b : Bool) → isHopper s u ≡ b → Shifts s (afterRound m) (went m) way t c
+        beyond : crosses s way c ≡ true → (b : Bool) → isHopper s u ≡ b → Shifts s (afterRound m) (deliveredTo m) way t c
         beyond e false q = landed e q (come-there u (M .to) q (land s way c) (over e))
-        beyond e true q = out-of e q (subst (List·Memᴰ (c .number)) (sym (went-there u (M .to) q)) (subst (λ (n : ℕ). List·Memᴰ n (numbers (comes m u))) (land-number s way c) (mem-map (λ (x : Canister). x .number) (over e))))
+        beyond e true q = out-of e q (subst (List·Memᴰ (c .number)) (sym (delivered-there u (M .to) q)) (subst (λ (n : ℕ). List·Memᴰ n (numbers (comes m u))) (land-number s way c) (mem-map (λ (x : Canister). x .number) (over e))))
 
-        go : (b : Bool) → crosses s way c ≡ b → Shifts s (afterRound m) (went m) way t c
-        go false e = stayed e (own-there t (M .on) here (shift s way c) (mem-map (shift s way) (mem-keep (λ x. not (crosses s way x)) (membersOf m t) (rw e) h)))
+        go : (b : Bool) → crosses s way c ≡ b → Shifts s (afterRound m) (deliveredTo m) way t c
+        go false e = stayed e (own-there t (M .on) here (shift s way c) (mem-map (shift s way) (mem-filter (λ x. not (crosses s way x)) (membersOf m t) (rw e) h)))
         go true e = beyond e (isHopper s u) refl
 
   -- ---- a tile that stands still
@@ -107,7 +107,7 @@ module _ (m : Model) (S : Sound m) where
 
   -- ---- no canister is both
   -- those on the floor and those delivered are all different
-  apart : Pairs (λ x y. x ≢ y) (numbersOn (afterRound m) ++ cat 4 (went m))
+  apart : Pairs (λ x y. x ≢ y) (numbersOn (afterRound m) ++ cat 4 (deliveredTo m))
   apart = pairs-perm (λ x y. x ≢ y) (λ x y n e. n (sym e)) (Permᴰ·symm (round-numbers m S)) (S .unique)
 
   number-there : (t : ℕ) (c : Canister) → List·Memᴰ c (membersOf (afterRound m) t) → List·Memᴰ (c .number) (numbersOn (afterRound m))
@@ -124,20 +124,20 @@ module _ (m : Model) (S : Sound m) where
       let f : ℕ → List ℕ = λ i. numbers (membersOf (afterRound m) i) in
       cat-between (λ x y. x ≢ y) (λ x y q z. q (sym z)) N f t u (full-on (afterRound m) (round-sound m S) t (has h)) (full-on (afterRound m) (round-sound m S) u (has p)) n (round-sound m S .unique) (mem-map (λ (x : Canister). x .number) h) (mem-map (λ (x : Canister). x .number) p)
 
-  went-few : (k : ℕ) {n : ℕ} → List·Memᴰ n (went m k) → k < 4
-  went-few k {n} h = go (decLe (suc k) 4)
+  hopper-few : (k : ℕ) {n : ℕ} → List·Memᴰ n (deliveredTo m k) → k < 4
+  hopper-few k {n} h = go (decLe (suc k) 4)
     where
       go : Dec (k < 4) → k < 4
       go (yes l) = l
       go (no l) =
-          let e : went m k ≡ [] = List·getD-eq-default (delivered m) [] (omega (arith, delivered-length m (S .len), S .measured .hoppers-few)) in
+          let e : deliveredTo m k ≡ [] = List·getD-eq-default (delivered m) [] (omega (arith, delivered-length m (S .len), S .measured .hoppers-few)) in
           absurd (omega (arith, has h, ap length e))
 
-  pub not-both : (k t : ℕ) (c : Canister) → List·Memᴰ k sides → List·Memᴰ c (membersOf m t) → List·Memᴰ c (membersOf (afterRound m) t) → ¬ (Shifts (m .settings) (afterRound m) (went m) k t c)
+  pub not-both : (k t : ℕ) (c : Canister) → List·Memᴰ k sides → List·Memᴰ c (membersOf m t) → List·Memᴰ c (membersOf (afterRound m) t) → ¬ (Shifts (m .settings) (afterRound m) (deliveredTo m) k t c)
   not-both k t c mk old h (stayed e p) =
       let q : shift (m .settings) k c ≡ c = rising-same (membersOf (afterRound m) t) (round-sound m S .rising t) (shift (m .settings) k c) c p h (shift-number (m .settings) k c) in
       let inside = all-mem (λ x. Inside (m .settings) x) old (S .inside t) in
       absurd (omega (arith, ap (room (m .settings) k) q, shift-room (m .settings) (S .measured) mk c, stay-room (m .settings) (S .measured) mk c inside e, S .measured .moving))
   not-both k t c mk old h (landed e n p) = two-tiles t (neighbour (m .settings) k t) c (land (m .settings) k c) (λ q. neighbour-other (m .settings) (S .measured .rows-pos) mk t (on-now (neighbour (m .settings) k t) (has p)) (sym q)) h p (sym (land-number (m .settings) k c))
   not-both k t c mk old h (out-of e n p) =
-      pairs-between (λ x y. x ≢ y) (numbersOn (afterRound m)) (cat 4 (went m)) apart (number-there t c h) (mem-cat 4 (went m) (hoppersBefore (m .settings) (neighbour (m .settings) k t)) (went-few _ p) p) refl
+      pairs-between (λ x y. x ≢ y) (numbersOn (afterRound m)) (cat 4 (deliveredTo m)) apart (number-there t c h) (mem-cat 4 (deliveredTo m) (hoppersBefore (m .settings) (neighbour (m .settings) k t)) (hopper-few _ p) p) refl

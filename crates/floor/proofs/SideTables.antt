@@ -85,15 +85,15 @@ both-at p h true = and-left (p true) (p false) h
 both-at p h false = and-right (p true) (p false) h
 
 -- the set is below 16, and tells each side up to 4
-told : Bool → Bool → Bool → Bool → Bool
-told w s n e = ltb (setOf w s n e) 16 && allBelow (λ k. same (inSet (setOf w s n e) k) (bySide false w s n e k)) 5
+sidesAgree : Bool → Bool → Bool → Bool → Bool
+sidesAgree w s n e = ltb (setOf w s n e) 16 && allBelow (λ k. same (inSet (setOf w s n e) k) (bySide false w s n e k)) 5
 
-all-told : both (λ w. both (λ s. both (λ n. both (told w s n)))) ≡ true
-unfolding both told allBelow same inSet bit
-all-told = refl
+all-sides-agree : both (λ w. both (λ s. both (λ n. both (sidesAgree w s n)))) ≡ true
+unfolding both sidesAgree allBelow same inSet bit
+all-sides-agree = refl
 
-told-at : (w s n e : Bool) → told w s n e ≡ true
-told-at w s n = both-at (told w s n) (both-at (λ n. both (told w s n)) (both-at (λ s. both (λ n. both (told w s n))) (both-at (λ w. both (λ s. both (λ n. both (told w s n)))) all-told w) s) n)
+sides-agree-at : (w s n e : Bool) → sidesAgree w s n e ≡ true
+sides-agree-at w s n = both-at (sidesAgree w s n) (both-at (λ n. both (sidesAgree w s n)) (both-at (λ s. both (λ n. both (sidesAgree w s n))) (both-at (λ w. both (λ s. both (λ n. both (sidesAgree w s n)))) all-sides-agree w) s) n)
 
 -- what is no side is in no set
 no-side-in : (x : ℕ) (w s n e : Bool) (k : ℕ) → 4 < k → inSet x k ≡ bySide false w s n e k
@@ -106,12 +106,12 @@ no-side-in x w s n e (suc (suc (suc (suc zero)))) h = absurd (omega arith)
 no-side-in x w s n e (suc (suc (suc (suc (suc k))))) h = refl
 
 pub set-of : (w s n e : Bool) → (setOf w s n e < 16) × (inSet (setOf w s n e) ≡ bySide false w s n e)
-unfolding told
-set-of w s n e = (ltb-true (setOf w s n e) 16 (and-left (ltb (setOf w s n e) 16) _ (told-at w s n e)), fun-ext (λ k. at k (decLe k 4)))
+unfolding sidesAgree
+set-of w s n e = (ltb-true (setOf w s n e) 16 (and-left (ltb (setOf w s n e) 16) _ (sides-agree-at w s n e)), fun-ext (λ k. at k (decLe k 4)))
   where
-    sides-told : allBelow (λ k. same (inSet (setOf w s n e) k) (bySide false w s n e k)) 5 ≡ true
-    sides-told = and-right (ltb (setOf w s n e) 16) _ (told-at w s n e)
+    sides-agree : allBelow (λ k. same (inSet (setOf w s n e) k) (bySide false w s n e k)) 5 ≡ true
+    sides-agree = and-right (ltb (setOf w s n e) 16) _ (sides-agree-at w s n e)
 
     at : (k : ℕ) → Dec (k ≤ 4) → inSet (setOf w s n e) k ≡ bySide false w s n e k
-    at k (yes h) = same-true _ _ (below-at (λ k. same (inSet (setOf w s n e) k) (bySide false w s n e k)) 5 sides-told k (omega arith))
+    at k (yes h) = same-true _ _ (below-at (λ k. same (inSet (setOf w s n e) k) (bySide false w s n e k)) 5 sides-agree k (omega arith))
     at k (no h) = no-side-in (setOf w s n e) w s n e k (omega arith)

@@ -79,4 +79,4 @@ pub record Sound (m : Model) : Type 0 where
   pub counted : m .counters .booked ≡ sum (m .counters .delivered) + length (numbersOn m)
   pub booked-last : m .counters .booked ≤ m .counters .last
   pub last-fits : m .counters .last < 2 ^ 32
-  pub laid-out : layoutsSound (m .settings) (m .layouts) ≡ true
+  pub layouts-sound : layoutsSound (m .settings) (m .layouts) ≡ true

@@ -14,12 +14,12 @@ use Rattle.laws.specs.Define.{tab, bit}
 use Rattle.laws.proofs.Tests.{by-test, not-both, same-test}
 use Rattle.laws.proofs.Tables.{tab-length, tab-at, tab-off, filled}
 use Rattle.floor.specs.Settings.{total, isHopper}
-use Rattle.floor.specs.Layouts.{held, setOf}
+use Rattle.floor.specs.Layouts.{nameHeld, setOf}
 use Rattle.floor.specs.Model.{TileState, Model, noTile, tileOf, runs, runsOf, distanceOf, withTiles, withTile}
-use Rattle.floor.specs.Calls.{heldTests, recallTile, recalled, stopTests, stopped, repairTests, repaired}
+use Rattle.floor.specs.Calls.{nameHeldTests, recallTile, recalled, stopTests, stopped, repairTests, repaired}
 use Rattle.floor.proofs.Sound.{Sound}
 use Rattle.floor.proofs.Calls.{Keeps, none, Accepted, same-floor, stop-keeps, repair-keeps, keeps-join}
-use Rattle.floor.proofs.Laying.{laid-of, Covers, held-covers}
+use Rattle.floor.proofs.SoundLayouts.{sound-layouts-of, Covers, name-held-covers}
 
 module _ (m : Model) (S : Sound m) (chosen : ℕ) (hop : Covers (m .settings) chosen) where
   abbrev C : ℕ
@@ -132,12 +132,12 @@ module _ (m : Model) (S : Sound m) (chosen : ℕ) (hop : Covers (m .settings) ch
 
 -- ---- the call
 -- the set of a held name has the hoppers
-pub held-set : (m : Model) → Sound m → (name : ℕ) → Accepted (heldTests (m .layouts) name) → Covers (m .settings) (setOf (m .layouts) name)
-unfolding heldTests
-held-set m S name T = held-covers (m .settings) (S .measured) (m .layouts) name (laid-of (m .settings) (m .layouts) (S .laid-out) .each) (not-false (held (m .layouts) name) (T .1 .0))
+pub name-held-set : (m : Model) → Sound m → (name : ℕ) → Accepted (nameHeldTests (m .layouts) name) → Covers (m .settings) (setOf (m .layouts) name)
+unfolding nameHeldTests
+name-held-set m S name T = name-held-covers (m .settings) (S .measured) (m .layouts) name (sound-layouts-of (m .settings) (m .layouts) (S .layouts-sound) .each) (not-false (nameHeld (m .layouts) name) (T .1 .0))
 
-pub recall-keeps : (m : Model) → Sound m → (name : ℕ) → Accepted (heldTests (m .layouts) name) → Keeps m (recalled m (setOf (m .layouts) name)) [] none
-recall-keeps m S name T = recalled-keeps m S (setOf (m .layouts) name) (held-set m S name T)
+pub recall-keeps : (m : Model) → Sound m → (name : ℕ) → Accepted (nameHeldTests (m .layouts) name) → Keeps m (recalled m (setOf (m .layouts) name)) [] none
+recall-keeps m S name T = recalled-keeps m S (setOf (m .layouts) name) (name-held-set m S name T)
 
 -- what runs after a recall
 pub recall-runs : (m : Model) → Sound m → (chosen t : ℕ) → runsOf (recalled m chosen) t ≡ cond (ltb t (total (m .settings)) && cond (bit chosen t) (not (runsOf m t)) (runsOf m t)) (bit chosen t) (runsOf m t)

@@ -30,14 +30,14 @@ use Rattle.floor.specs.Reasons.{aheadOf, reasonOf, missingOf}
 use Rattle.floor.specs.Calls.{afterRound, reportOf, roundAnswer}
 use Rattle.floor.specs.Reports.{listedAt}
 use Rattle.floor.specs.Demand3.{round, outcome}
-use Rattle.floor.specs.Fairness.{turnOf}
-use Rattle.floor.specs.Standing.{Shifts, Shifted, Stood, Fits, Standing, reasonAt, missingAt, WhyStood, HasGap, GapTest}
+use Rattle.floor.specs.BoundedBypass.{turnOf}
+use Rattle.floor.specs.Standing.{Shifts, Shifted, Stood, Fits, Standing, reasonAt, missingAt, ReasonRule, HasGap, GapTest}
 use Rattle.floor.proofs.Sound.{Sound}
 use Rattle.floor.proofs.GridBranches.{opposite-five, five-opposite}
 use Rattle.floor.proofs.Grid.{each-side, opposite-sum}
 use Rattle.floor.proofs.Tables.{run-on}
 use Rattle.floor.proofs.Pack.{well-sound}
-use Rattle.floor.proofs.Fields.{wayAt, went, round-next}
+use Rattle.floor.proofs.Fields.{wayAt, deliveredTo, round-next}
 use Rattle.floor.proofs.Passing.{moving, arrow-at}
 use Rattle.floor.proofs.Lists.{round-report, round-reported, view-round}
 use Rattle.floor.proofs.Reasons.{Which, signal-most, turn-at, missing-at, k, u, y, reason, fits, empty-first, ahead-runs, reason-moves, moves-reason, arrow-le}
@@ -95,16 +95,16 @@ module _ (m : Model) (S : Sound m) where
     lacks : 0 < k m S t → y m S t .missing ≡ missing (m .settings) (turnOf m (u m S t)) (membersOf m (u m S t))
     lacks h = missing-at m S (u m S t) (ahead-runs m S t h)
 
-    moved-to : reason m S t ≡ 6 → Shifted m n (went m) t
+    moved-to : reason m S t ≡ 6 → Shifted m n (deliveredTo m) t
     moved-to e =
         let R = reason-moves m S t e in
         let M = moving m S t (R .1) in (
           λ q. absurd (omega (arith, R .0, ap length q)),
           λ q. absurd (omega (arith, R .1, M .is, arrow-is t, q)),
-          subst (λ (j : ℕ). All (Shifts (m .settings) n (went m) j t) (membersOf m t)) (M .is ∙ sym (arrow-is t)) (all-of (Shifts (m .settings) n (went m) (wayAt m t) t) (membersOf m t) (shifts m S t M)),
+          subst (λ (j : ℕ). All (Shifts (m .settings) n (deliveredTo m) j t) (membersOf m t)) (M .is ∙ sym (arrow-is t)) (all-of (Shifts (m .settings) n (deliveredTo m) (wayAt m t) t) (membersOf m t) (shifts m S t M)),
         )
 
-    fits-at : (r : ℕ) → reason m S t ≡ r → Fits m n (went m) t r
+    fits-at : (r : ℕ) → reason m S t ≡ r → Fits m n (deliveredTo m) t r
     fits-at zero e = absurd (omega (arith, F .some .0))
     fits-at (suc zero) e = not-true (runsOf m t) (F .one e)
     fits-at (suc (suc zero)) e = no-length (membersOf m t) (eqb-true (length (membersOf m t)) 0 (F .two e))
@@ -116,7 +116,7 @@ module _ (m : Model) (S : Sound m) where
     fits-at (suc (suc (suc (suc (suc (suc zero)))))) e = moved-to e
     fits-at (suc (suc (suc (suc (suc (suc (suc r))))))) e = absurd (omega (arith, F .some .1))
 
-    before-at : (j : ℕ) → 1 ≤ j → j < reason m S t → ¬ (Fits m n (went m) t j)
+    before-at : (j : ℕ) → 1 ≤ j → j < reason m S t → ¬ (Fits m n (deliveredTo m) t j)
     before-at zero p h q = absurd (omega arith)
     before-at (suc zero) p h q = not-both (not-false (runsOf m t) (F .past-one h)) q
     before-at (suc (suc zero)) p h q = absurd (eqb-false (length (membersOf m t)) 0 (F .past-two h) (ap length q))
@@ -160,20 +160,20 @@ module _ (m : Model) (S : Sound m) where
     stood d = stood-at d (decLe 1 (wayAt m t)) (decLe 1 (length (membersOf m t)))
 
     -- by any one canister
-    excludes : Shifted m n (went m) t → ¬ (Stood m n t)
+    excludes : Shifted m n (deliveredTo m) t → ¬ (Stood m n t)
     excludes h q =
         let c = some-of (membersOf m t) (h .0) in
         let mk : List·Memᴰ (nextOf n t) sides = by-arrow (λ j. List·Memᴰ j sides) t (side t (omega (arith, h .1, arrow-is t))) in
-        never-both m S (nextOf n t) t (c .0) mk (c .1) (all-mem (λ x. List·Memᴰ x (membersOf n t)) (c .1) q) (all-mem (Shifts (m .settings) n (went m) (nextOf n t) t) (c .1) (h .2))
+        never-both m S (nextOf n t) t (c .0) mk (c .1) (all-mem (λ x. List·Memᴰ x (membersOf n t)) (c .1) q) (all-mem (Shifts (m .settings) n (deliveredTo m) (nextOf n t) t) (c .1) (h .2))
 
-    moved-from : Shifted m n (went m) t → Dec (reasonOf (route m) t ≡ 6) → reasonOf (route m) t ≡ 6
+    moved-from : Shifted m n (deliveredTo m) t → Dec (reasonOf (route m) t ≡ 6) → reasonOf (route m) t ≡ 6
     moved-from h (yes e) = e
     moved-from h (no d) = absurd (excludes h (stood d))
 
-  judged : Standing m n (went m) (reasonOf (route m)) (missingOf (route m))
+  judged : Standing m n (deliveredTo m) (reasonOf (route m)) (missingOf (route m))
   judged = record {
     one = λ t h. (omega (arith, on-reason t h, F t .some .0), omega (arith, on-reason t h, F t .some .1));
-    fits = λ t h. subst (Fits m n (went m) t) (sym (on-reason t h)) (fits-at t (reason m S t) refl);
+    fits = λ t h. subst (Fits m n (deliveredTo m) t) (sym (on-reason t h)) (fits-at t (reason m S t) refl);
     first = λ t h j p q. before-at t j p (omega (arith, on-reason t h));
     runs = λ t h. by-arrow (λ j. runsOf m (neighbour (m .settings) j t) ≡ true) t (ahead-runs m S t (omega (arith, h, arrow-is t)));
     short = λ t e. missing-five t e ∙ by-arrow (λ j. y m S t .missing ≡ missing (m .settings) (turnOf m (neighbour (m .settings) j t)) (membersOf m (neighbour (m .settings) j t))) t (lacks t (arrow-pos t (omega (arith, at-five t e))));
@@ -195,7 +195,7 @@ module _ (f : Floor) (w : wellFormed f ≡ true) where
   unfolding outcome
   sees = view-round f w round refl
 
-  listed : listedAt (roundAnswer f .report) ≡ went (view f)
+  listed : listedAt (roundAnswer f .report) ≡ deliveredTo (view f)
   unfolding outcome
   listed = round-reported f w
 
@@ -215,12 +215,12 @@ module _ (f : Floor) (w : wellFormed f ≡ true) where
   unfolding missingAt reportOf
   millimetres = fun-ext (λ t. ap (λ (r : Report). getD (r .missing) t 0) (round-report f w) ∙ table (missingOf (route (view f))) (λ i h. judged (view f) S .none i h .1) t)
 
-pub standing : WhyStood
+pub standing : ReasonRule
 standing f w =
     subst (λ (x : Model). Standing (view f) x (listedAt (roundAnswer f .report)) (reasonAt f) (missingAt f)) (sym (sees f w))
     (subst (λ (x : ℕ → List ℕ). Standing (view f) (afterRound (view f)) x (reasonAt f) (missingAt f)) (sym (listed f w))
-    (subst (λ (x : ℕ → ℕ). Standing (view f) (afterRound (view f)) (went (view f)) x (missingAt f)) (sym (reasons f w))
-    (subst (λ (x : ℕ → ℕ). Standing (view f) (afterRound (view f)) (went (view f)) (reasonOf (route (view f))) x) (sym (millimetres f w)) (judged (view f) (well-sound f w)))))
+    (subst (λ (x : ℕ → ℕ). Standing (view f) (afterRound (view f)) (deliveredTo (view f)) x (missingAt f)) (sym (reasons f w))
+    (subst (λ (x : ℕ → ℕ). Standing (view f) (afterRound (view f)) (deliveredTo (view f)) (reasonOf (route (view f))) x) (sym (millimetres f w)) (judged (view f) (well-sound f w)))))
 
 -- ---- the gap test
 worst : (s : Settings) (k : ℕ) (l : List Canister) (n : ℕ) → missing s k l ≤ n ↔ All (λ c. lack s k c ≤ n) l

@@ -16,17 +16,17 @@ use Rattle.floor.specs.Signal.{missing}
 use Rattle.floor.specs.Calls.{reportOf, roundAnswer}
 use Rattle.floor.specs.Reports.{listedAt}
 use Rattle.floor.specs.Demand3.{round, outcome}
-use Rattle.floor.specs.Fairness.{wants, turnOf}
+use Rattle.floor.specs.BoundedBypass.{wants, turnOf}
 use Rattle.floor.specs.Standing.{ahead, Shifts, Stood, Standing, stayed, landed, delivered, reasonAt, missingAt}
 use Rattle.floor.proofs.Calling.{several, holds}
-use Rattle.floor.proofs.Shown.{Shows, valueBy, shows-call, shows-report}
-use Rattle.floor.proofs.Made.{Made, begun, fresh, book as put, rounds as run, floorOf, made, made-shows, holdBy}
+use Rattle.floor.proofs.CallsByValue.{Shows, valueBy, shows-call, shows-report}
+use Rattle.floor.proofs.TablesByValue.{Made, begun, fresh, book as put, rounds as run, floorOf, made, made-shows, holdBy}
 use Rattle.floor.proofs.Standing.{standing}
 
 -- the theorem on the floor f; the floors and the deliveries in it by the value m
-pub told : (f : Floor) (m : Model) → Shows f m → Standing m (valueBy m round) (listedAt (reportOf m)) (reasonAt f) (missingAt f)
+pub standing-of : (f : Floor) (m : Model) → Shows f m → Standing m (valueBy m round) (listedAt (reportOf m)) (reasonAt f) (missingAt f)
 unfolding outcome
-told f m s =
+standing-of f m s =
     subst (λ (r : Report). Standing m (valueBy m round) (listedAt r) (reasonAt f) (missingAt f)) (shows-report f m s)
     (subst (λ (x : Model). Standing m x (listedAt (roundAnswer f .report)) (reasonAt f) (missingAt f)) (shows-call f m s round tt .value)
     (subst (λ (x : Model). Standing x (view (roundAnswer f .floor)) (listedAt (roundAnswer f .report)) (reasonAt f) (missingAt f)) (s .value) (standing f (s .well))))
@@ -47,7 +47,7 @@ listed e = listedAt (reportOf (before e))
 
 module _ (e : Made) (h : made e .0 ≡ true) where
   here : Standing (before e) (after e) (listed e) (reasonAt (floorOf e)) (missingAt (floorOf e))
-  here = told (floorOf e) (before e) (made-shows e h)
+  here = standing-of (floorOf e) (before e) (made-shows e h)
 
   -- tile t had canisters and has an arrow, and each of them is v farther along it
   six : (t : ℕ) → eqb (length (membersOf (before e) t)) 0 ≡ false → eqb (nextOf (after e) t) 0 ≡ false → All (Shifts (before e .settings) (after e) (listed e) (nextOf (after e) t) t) (membersOf (before e) t) → reasonAt (floorOf e) t ≡ 6

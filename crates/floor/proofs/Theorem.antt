@@ -18,12 +18,12 @@ use Rattle.floor.specs.Memory.{view}
 use Rattle.floor.specs.Well.{inside, apart, wellFormed}
 use Rattle.floor.specs.Bound.{bound}
 use Rattle.floor.specs.Live.{LivePath, connected, connectedCount}
-use Rattle.floor.specs.Demand3.{Call, Typed, floorAfter, bookedIn, reportedIn, reportedAll, runsAfter, roundsIn, Promises, Demand3}
+use Rattle.floor.specs.Demand3.{Call, InRange, floorAfter, bookedIn, reportedIn, reportedAll, runsAfter, roundsIn, Promises, Demand3}
 use Rattle.floor.proofs.Sound.{Sound, Inside, Apart}
 use Rattle.floor.proofs.Well.{inside-fact, apart-fact}
 use Rattle.floor.proofs.Pack.{well-sound}
 use Rattle.floor.proofs.Rows.{view-settings}
-use Rattle.floor.proofs.Nearest.{laid}
+use Rattle.floor.proofs.Nearest.{routable}
 use Rattle.floor.proofs.Paths.{live-iff}
 use Rattle.floor.proofs.Clearing.{cleared}
 use Rattle.floor.proofs.Calls.{Keeps}
@@ -33,15 +33,15 @@ use Rattle.floor.proofs.Lists.{list-keeps, list-runs, quiet-runs, quiet
 distinct : (l : List ℕ) → Pairs (λ x y. x ≢ y) l → pairsOf (λ x y. not (eqb x y)) l ≡ true
 distinct l h = r-pairs (λ x y. not (eqb x y)) (λ x y. x ≢ y) r-ne l .1 h
 
-module _ (f : Floor) (w : wellFormed f ≡ true) (cs : List Call) (typed : All Typed cs) where
+module _ (f : Floor) (w : wellFormed f ≡ true) (cs : List Call) (in-range : All InRange cs) where
   abbrev now : Floor
   now = floorAfter f cs
 
   well : wellFormed now ≡ true
-  well = list-keeps f w cs typed .0
+  well = list-keeps f w cs in-range .0
 
   K : Keeps (view f) (view now) (bookedIn f cs) (reportedIn f cs)
-  K = list-keeps f w cs typed .1
+  K = list-keeps f w cs in-range .1
 
   S : Sound (view now)
   S = K .well
@@ -52,7 +52,7 @@ module _ (f : Floor) (w : wellFormed f ≡ true) (cs : List Call) (typed : All T
 
   runs : runsOf (view now) ≡ runsAfter f cs
   unfolding runsAfter
-  runs = fun-ext (λ t. sym (list-runs f w cs typed t))
+  runs = fun-ext (λ t. sym (list-runs f w cs in-range t))
 
   -- what holds for the floor's own settings and running tiles holds for the first floor's and the history's
   carry : (P : Settings → (ℕ → Bool) → Type 0) → P (view now .settings) (runsOf (view now)) → P (f .settings) (runsAfter f cs)
@@ -82,7 +82,7 @@ module _ (f : Floor) (w : wellFormed f ≡ true) (cs : List Call) (typed : All T
     booked = K .books;
     delivered = K .delivers;
     runs-now = λ t. sym (ap (λ (r : ℕ → Bool). r t) runs);
-    counts-live = λ t. carry (λ s r. LivePath s r t ↔ connected s r t ≡ true) (live-iff (view now .settings) (runsOf (view now)) (laid (view now) S) t);
+    counts-live = λ t. carry (λ s r. LivePath s r t ↔ connected s r t ≡ true) (live-iff (view now .settings) (runsOf (view now)) (routable (view now) S) t);
     emptied = λ ds h q.
         carry (λ s r. bound s (connectedCount (view now) r) ≤ roundsIn ds → (t : ℕ) → LivePath s r t → membersOf (view (floorAfter now ds)) t ≡ [])
         (λ b t p. ap (λ (x : Model). membersOf x t) (quiet-rounds now well ds h q .1) ∙ cleared (view now) S (roundsIn ds) b t p);

@@ -5,7 +5,7 @@ use mathlib.Core.List.{[], _∷_}
 use Rattle.floor.specs.Calls.{freshAnswer}
 use Rattle.floor.specs.Demand3.{book as booking}
 use Rattle.floor.proofs.Calling.{settings, can, holds}
-use Rattle.floor.proofs.Made.{Made, begun, fresh, book, stop, rounds, on, distances, next, reported, grant, boundOf, counted, answered, given, Rows, hold, holdBy, by-values}
+use Rattle.floor.proofs.TablesByValue.{Made, begun, fresh, book, stop, rounds, on, distances, next, reported, grant, boundOf, counted, answered, given, Rows, hold, holdBy, by-values}
 
 unfoldable one : Made
 one = book 5 0 0 0 (fresh 2 1 1)

@@ -314,7 +314,7 @@ module _ (m : Model) where
         counted = C .1 .1 .1 .0;
         booked-last = C .1 .1 .1 .1 .0;
         last-fits = C .1 .1 .1 .1 .1;
-        laid-out = L;
+        layouts-sound = L;
       }
 
   -- what Sound tells of one tile
@@ -343,5 +343,5 @@ module _ (m : Model) where
   unfolding sound
   sound-fact = (
     λ h. let F = facts .0 (and-left (stateSound m) (layoutsSound S (m .layouts)) h) in sound-of (F .0) (F .1 .0) (F .1 .1 .0) (F .1 .1 .1) (and-right (stateSound m) (layoutsSound S (m .layouts)) h),
-    λ F. and-true (facts .1 (sound-facts F)) (F .laid-out),
+    λ F. and-true (facts .1 (sound-facts F)) (F .layouts-sound),
   )

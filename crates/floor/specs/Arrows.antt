@@ -12,7 +12,7 @@ use Rattle.floor.specs.Grid.{neighbour}
 use Rattle.floor.specs.Model.{Model, distanceOf, nextOf}
 use Rattle.floor.specs.Memory.{view}
 use Rattle.floor.specs.Well.{wellFormed}
-use Rattle.floor.specs.Demand3.{Call, round, Typed, outcome, floorAfter, changesRunning, roundsIn}
+use Rattle.floor.specs.Demand3.{Call, round, InRange, outcome, floorAfter, changesRunning, roundsIn}
 
 -- the distance beyond side k of tile t
 abbrev pub beyond : Model → ℕ → ℕ → ℕ
@@ -32,9 +32,9 @@ pub record Chooses (m n : Model) (t : ℕ) : Type 0 where
   pub ties : ¬ (FacesNearest m t (nextOf m t)) → (j : ℕ) → List·Memᴰ j sides → j < nextOf n t → beyond m t (nextOf n t) < beyond m t j
 
 -- a list without an accepted stop or repair, and without a recall that makes one
-abbrev pub Unpressed : Floor → List Call → Type 0
-Unpressed f [] = Unit {0}
-Unpressed f (c ∷ cs) = (changesRunning f c ≡ false) × Unpressed (outcome f c .floor) cs
+abbrev pub RunningUnchanged : Floor → List Call → Type 0
+RunningUnchanged f [] = Unit {0}
+RunningUnchanged f (c ∷ cs) = (changesRunning f c ≡ false) × RunningUnchanged (outcome f c .floor) cs
 
 -- "a round changes no distance"
 abbrev pub Steady : Floor → Type 0
@@ -42,9 +42,9 @@ Steady f = (t : ℕ) → distanceOf (view (outcome f round .floor)) t ≡ distan
 
 -- "each arrow, where there is one, faces some nearest neighbour and stays until a stop or repair"
 pub record Resting (f : Floor) : Type 0 where
-  pub faces : (cs : List Call) → All Typed cs → Unpressed f cs → (t : ℕ) → nextOf (view (floorAfter f cs)) t ≢ 0
+  pub faces : (cs : List Call) → All InRange cs → RunningUnchanged f cs → (t : ℕ) → nextOf (view (floorAfter f cs)) t ≢ 0
       → FacesNearest (view (floorAfter f cs)) t (nextOf (view (floorAfter f cs)) t)
-  pub stays : (cs : List Call) → All Typed cs → Unpressed f cs → (t : ℕ) → nextOf (view (floorAfter f cs)) t ≡ nextOf (view f) t
+  pub stays : (cs : List Call) → All InRange cs → RunningUnchanged f cs → (t : ℕ) → nextOf (view (floorAfter f cs)) t ≡ nextOf (view f) t
 
 -- f: a well-formed floor; after: the floor that a round makes of it
 pub record Arrows (f : Floor) : Type 0 where
@@ -57,8 +57,8 @@ pub record Arrows (f : Floor) : Type 0 where
 
 -- when that is: after C - 1 rounds without an accepted stop or repair the next one changes no distance; so after C rounds arrows rest
 pub record Settling (f : Floor) : Type 0 where
-  pub steady : (cs : List Call) → All Typed cs → Unpressed f cs → total (f .settings) - 1 ≤ roundsIn cs → Steady (floorAfter f cs)
-  pub rests : (cs : List Call) → All Typed cs → Unpressed f cs → total (f .settings) ≤ roundsIn cs → Resting (floorAfter f cs)
+  pub steady : (cs : List Call) → All InRange cs → RunningUnchanged f cs → total (f .settings) - 1 ≤ roundsIn cs → Steady (floorAfter f cs)
+  pub rests : (cs : List Call) → All InRange cs → RunningUnchanged f cs → total (f .settings) ≤ roundsIn cs → Resting (floorAfter f cs)
 
 -- the theorem: for every well-formed floor
 abbrev pub ArrowRule : Type 0

@@ -16,7 +16,7 @@ use Rattle.floor.specs.declared.Answer.{Answer}
 use Rattle.floor.specs.declared.Rounded.{Rounded}
 use Rattle.floor.specs.declared.Reading.{Reading}
 use Rattle.floor.specs.Settings.{total, spacing, isHopper, settingsRefusal}
-use Rattle.floor.specs.Layouts.{nameOk, setBelow, held, setOf, keepIn, forgetIn}
+use Rattle.floor.specs.Layouts.{nameOk, setBelow, nameHeld, setOf, keepIn, forgetIn}
 use Rattle.floor.specs.Model.{TileState, Model, tileOf, runs, runsOf, membersOf, withTiles, withTile, withCounters, withLayouts, withMembers}
 use Rattle.floor.specs.Memory.{zeroCounters, zeroTile, zeroCanister, zeroFloor, view, head, pack}
 use Rattle.floor.specs.Well.{inside, apart, wellFormed}
@@ -93,7 +93,7 @@ repairAnswer f t = let m = view f in answer f (repairTests m t) (withTile m t (r
 -- ---- layouts; a name is the number of its eight bytes (`nameNumber`), l the layouts that are kept
 -- "44, bad name, after 30"; "46, eight other names held, after 44, at keeping"
 unfoldable pub keepTests : List Layout → ℕ → List (Bool × ℕ)
-keepTests l name = (not (nameOk name), 44) ∷ (leb 8 (length l) && not (held l name), 46) ∷ []
+keepTests l name = (not (nameOk name), 44) ∷ (leb 8 (length l) && not (nameHeld l name), 46) ∷ []
 
 -- "the set of tiles that ran when it was kept"
 unfoldable pub runningSet : Model → ℕ
@@ -107,14 +107,14 @@ unfoldable pub keepAnswer : Floor → ℕ → Answer
 keepAnswer f name = let m = view f in answer f (keepTests (m .layouts) name) (keptUnder m name)
 
 -- "45, name not held, after 44, at recall and forgetting"
-unfoldable pub heldTests : List Layout → ℕ → List (Bool × ℕ)
-heldTests l name = (not (nameOk name), 44) ∷ (not (held l name), 45) ∷ []
+unfoldable pub nameHeldTests : List Layout → ℕ → List (Bool × ℕ)
+nameHeldTests l name = (not (nameOk name), 44) ∷ (not (nameHeld l name), 45) ∷ []
 
 unfoldable pub forgotten : Model → ℕ → Model
 forgotten m name = withLayouts m (forgetIn name (m .layouts))
 
 unfoldable pub forgetAnswer : Floor → ℕ → Answer
-forgetAnswer f name = let m = view f in answer f (heldTests (m .layouts) name) (forgotten m name)
+forgetAnswer f name = let m = view f in answer f (nameHeldTests (m .layouts) name) (forgotten m name)
 
 -- "Recall makes the stops and repairs needed": a stopped tile of the set is repaired, a running one outside it is stopped; the others stay as they are
 unfoldable pub recallTile : ℕ → ℕ → TileState → TileState
@@ -124,7 +124,7 @@ unfoldable pub recalled : Model → ℕ → Model
 recalled m set = withTiles m (tab (total (m .settings)) (λ t. recallTile set t (tileOf m t)))
 
 unfoldable pub recallAnswer : Floor → ℕ → Answer
-recallAnswer f name = let m = view f in answer f (heldTests (m .layouts) name) (recalled m (setOf (m .layouts) name))
+recallAnswer f name = let m = view f in answer f (nameHeldTests (m .layouts) name) (recalled m (setOf (m .layouts) name))
 
 -- ---- a round
 -- "Each step reads only what the step before left, for all tiles together."

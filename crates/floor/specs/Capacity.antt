@@ -1,4 +1,4 @@
--- "No refusal for a full tile is needed: spacing d allows (U - l) div d + 1 along each axis, and the product of the two bounds the tile." The theorem is `capacity` of proofs/First.
+-- "No refusal for a full tile is needed: spacing d allows (U - l) div d + 1 along each axis, and the product of the two bounds the tile." The theorem is `capacity` of proofs/FreshAndWidths.
 use mathlib.Core.Path.{_≡_}
 use mathlib.Core.Logic.{_⊎_, _≢_}
 use mathlib.Core.Bool.{true}

@@ -36,16 +36,16 @@ pub data Call : Type 0 where
   list : List Booking → Call
 
 -- a booking's number has its parameter's 32 bits, that of each entry of a list too; no other width is needed
-abbrev pub Typed : Call → Type 0
-Typed (book t c) = c .number < 2 ^ 32
-Typed (anywhere t number) = number < 2 ^ 32
-Typed (stop t) = Unit {0}
-Typed (repair t) = Unit {0}
-Typed round = Unit {0}
-Typed (keep name) = Unit {0}
-Typed (forget name) = Unit {0}
-Typed (recall name) = Unit {0}
-Typed (list l) = All (λ b. b .canister .number < 2 ^ 32) l
+abbrev pub InRange : Call → Type 0
+InRange (book t c) = c .number < 2 ^ 32
+InRange (anywhere t number) = number < 2 ^ 32
+InRange (stop t) = Unit {0}
+InRange (repair t) = Unit {0}
+InRange round = Unit {0}
+InRange (keep name) = Unit {0}
+InRange (forget name) = Unit {0}
+InRange (recall name) = Unit {0}
+InRange (list l) = All (λ b. b .canister .number < 2 ^ 32) l
 
 -- a call's answer: its refusal number, 0 if accepted; its floor; the numbers that it booked; the numbers that it reported delivered to each hopper, the hoppers in tile order from 0 on
 pub record Outcome : Type 0 where
@@ -178,7 +178,7 @@ pub record Promises (f : Floor) (cs : List Call) : Type 0 where
   -- K, `connectedCount`, counts the canisters on tiles with a live path
   pub counts-live : (t : ℕ) → LivePath (f .settings) (runsAfter f cs) t ↔ connected (f .settings) (runsAfter f cs) t ≡ true
   -- "after any further list with at least (C - 1) × (1 + K × M) rounds and no accepted booking, stop or repair, no canister is on a tile with a live path" to a hopper
-  pub emptied : (ds : List Call) → All Typed ds → Quiet now ds → bound (f .settings) (connectedCount (view now) (runsAfter f cs)) ≤ roundsIn ds
+  pub emptied : (ds : List Call) → All InRange ds → Quiet now ds → bound (f .settings) (connectedCount (view now) (runsAfter f cs)) ≤ roundsIn ds
       → (t : ℕ) → LivePath (f .settings) (runsAfter f cs) t → membersOf (view (floorAfter now ds)) t ≡ []
   -- the same tiles run after such a list, so that the live paths are those before it
   pub runs-same : (ds : List Call) → Quiet now ds → (t : ℕ) → runsAfter f (cs ++ ds) t ≡ runsAfter f cs t
@@ -186,4 +186,4 @@ pub record Promises (f : Floor) (cs : List Call) : Type 0 where
 
 -- the theorem: for every well-formed floor in memory and every list of calls
 abbrev pub Demand3 : Type 0
-Demand3 = (f : Floor) → wellFormed f ≡ true → (cs : List Call) → All Typed cs → Promises f cs
+Demand3 = (f : Floor) → wellFormed f ≡ true → (cs : List Call) → All InRange cs → Promises f cs

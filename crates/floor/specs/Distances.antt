@@ -12,8 +12,8 @@ use Rattle.floor.specs.Model.{Model, runsOf, distanceOf}
 use Rattle.floor.specs.Memory.{view}
 use Rattle.floor.specs.Well.{wellFormed}
 use Rattle.floor.specs.Live.{LivePath, here, step}
-use Rattle.floor.specs.Demand3.{Call, Typed, floorAfter, roundsIn}
-use Rattle.floor.specs.Arrows.{Unpressed, Steady}
+use Rattle.floor.specs.Demand3.{Call, InRange, floorAfter, roundsIn}
+use Rattle.floor.specs.Arrows.{RunningUnchanged, Steady}
 
 -- the steps of a live path, to whichever hopper it leads
 unfoldable pub steps : {s : Settings} {run : ℕ → Bool} {t : ℕ} → LivePath s run t → ℕ
@@ -31,7 +31,7 @@ pub record ToNearest (m : Model) : Type 0 where
 -- where a round changes no distance; and so after C - 1 rounds without an accepted stop or repair
 pub record Distances (f : Floor) : Type 0 where
   pub steady : Steady f → ToNearest (view f)
-  pub settled : (cs : List Call) → All Typed cs → Unpressed f cs → total (f .settings) - 1 ≤ roundsIn cs → ToNearest (view (floorAfter f cs))
+  pub settled : (cs : List Call) → All InRange cs → RunningUnchanged f cs → total (f .settings) - 1 ≤ roundsIn cs → ToNearest (view (floorAfter f cs))
 
 abbrev pub DistanceRule : Type 0
 DistanceRule = (f : Floor) → wellFormed f ≡ true → Distances f

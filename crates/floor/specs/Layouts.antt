@@ -4,7 +4,7 @@ use mathlib.Core.List.{List, [], _∷_}
 use Prim.Native.Nat.{ℕ, zero, suc, _+_, _*_, _/_, _%_, _^_}
 use lib.Dec.{leb, ltb, eqb}
 use lib.ListN.{length}
-use Rattle.laws.specs.Define.{allOf, anyOf, pairsOf, keep, bit}
+use Rattle.laws.specs.Define.{allOf, anyOf, pairsOf, filter, bit}
 use Rattle.floor.specs.declared.Settings.{Settings}
 use Rattle.floor.specs.declared.Layout.{Layout}
 use Rattle.floor.specs.Settings.{total, hoppersOf}
@@ -48,8 +48,8 @@ setBelow p zero = 0
 setBelow p (suc n) = cond (p n) (2 ^ n) 0 + setBelow p n
 
 -- ---- holding, keeping, forgetting
-unfoldable pub held : List Layout → ℕ → Bool
-held l name = anyOf (λ x. eqb (x .name) name) l
+unfoldable pub nameHeld : List Layout → ℕ → Bool
+nameHeld l name = anyOf (λ x. eqb (x .name) name) l
 
 -- the set kept under a name; 0 where it is not held
 unfoldable pub setOf : List Layout → ℕ → ℕ
@@ -63,4 +63,4 @@ keepIn x (y ∷ l) = let r = keepIn x l in cond (eqb (x .name) (y .name)) (x ∷
 
 -- "forgetting a name frees its place"
 unfoldable pub forgetIn : ℕ → List Layout → List Layout
-forgetIn name l = keep (λ x. not (eqb (x .name) name)) l
+forgetIn name l = filter (λ x. not (eqb (x .name) name)) l

@@ -22,8 +22,8 @@ pub mod Live
 pub mod Demand3
 pub mod Chain
 pub mod Named
-pub mod Together
-pub mod Fairness
+pub mod CommutingCalls
+pub mod BoundedBypass
 pub mod Arrows
 pub mod Distances
 pub mod Standing

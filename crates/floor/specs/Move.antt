@@ -4,7 +4,7 @@ use mathlib.Core.List.{List, [], _∷_, map}
 use Prim.Native.Nat.{ℕ, _+_, _-_}
 use lib.Dec.{leb, ltb, eqb}
 use lib.ListN.{length, getD}
-use Rattle.laws.specs.Define.{tab, keep}
+use Rattle.laws.specs.Define.{tab, filter}
 use Rattle.floor.specs.declared.Canister.{Canister}
 use Rattle.floor.specs.declared.Settings.{Settings}
 use Rattle.floor.specs.declared.Counters.{Counters}
@@ -34,10 +34,10 @@ land s k c = bySide c (at c (span s) (c .b)) (at c (c .a) (span s)) (at c (c .a)
 
 -- a tile's canisters that stay on it, and those that leave it, when it moves along side k
 unfoldable pub staying : Settings → ℕ → List Canister → List Canister
-staying s k l = map (shift s k) (keep (λ c. not (crosses s k c)) l)
+staying s k l = map (shift s k) (filter (λ c. not (crosses s k c)) l)
 
 unfoldable pub leaving : Settings → ℕ → List Canister → List Canister
-leaving s k l = map (land s k) (keep (crosses s k) l)
+leaving s k l = map (land s k) (filter (crosses s k) l)
 
 -- "kept by rising number"
 unfoldable pub insert : Canister → List Canister → List Canister

@@ -11,7 +11,7 @@ use Rattle.laws.specs.Every.{All}
 use Rattle.floor.specs.declared.Settings.{Settings}
 use Rattle.floor.specs.declared.Floor.{Floor}
 use Rattle.floor.specs.Settings.{total}
-use Rattle.floor.specs.Layouts.{nameNumber, letters, held, setOf}
+use Rattle.floor.specs.Layouts.{nameNumber, letters, nameHeld, setOf}
 use Rattle.floor.specs.Model.{runsOf}
 use Rattle.floor.specs.Memory.{zeroLayout, view, headOf}
 use Rattle.floor.specs.Calls.{freshAnswer, runningSet}
@@ -65,14 +65,14 @@ pub record Keeping (f : Floor) (name : ℕ) : Type 0 where
   -- "the set of tiles that ran when it was kept"
   pub ran : (t : ℕ) → t < total (f .settings) → bit (setOf (view after .layouts) name) t ≡ runsOf (view f) t
   -- "Keeping under a held name replaces it": it is held, and the other names are as before
-  pub names : (o : ℕ) → held (view after .layouts) o ≡ (eqb name o || held (view f .layouts) o)
+  pub names : (o : ℕ) → nameHeld (view after .layouts) o ≡ (eqb name o || nameHeld (view f .layouts) o)
   pub sets : (o : ℕ) → setOf (view after .layouts) o ≡ cond (eqb name o) (runningSet (view f)) (setOf (view f .layouts) o)
 
 -- an accepted forgetting
 pub record Forgetting (f : Floor) (name : ℕ) : Type 0 where
   pub after : Floor
   pub is-after : after ≡ outcome f (forget name) .floor
-  pub names : (o : ℕ) → held (view after .layouts) o ≡ (not (eqb name o) && held (view f .layouts) o)
+  pub names : (o : ℕ) → nameHeld (view after .layouts) o ≡ (not (eqb name o) && nameHeld (view f .layouts) o)
   pub sets : (o : ℕ) → name ≢ o → setOf (view after .layouts) o ≡ setOf (view f .layouts) o
   -- "forgetting a name frees its place"
   pub frees : length (view f .layouts) ≡ suc (length (view after .layouts))

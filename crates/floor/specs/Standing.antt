@@ -20,7 +20,7 @@ use Rattle.floor.specs.Signal.{lack, missing}
 use Rattle.floor.specs.Move.{crosses, shift, land}
 use Rattle.floor.specs.Calls.{roundAnswer}
 use Rattle.floor.specs.Reports.{listedAt}
-use Rattle.floor.specs.Fairness.{turnOf}
+use Rattle.floor.specs.BoundedBypass.{turnOf}
 
 -- m is the floor before a round and n the floor after it, which has the arrows that Route set; out k: the numbers that the report lists at the hopper with k hoppers before it
 
@@ -56,8 +56,8 @@ Fits m n out t (suc (suc (suc (suc (suc zero))))) = 0 < missing (m .settings) (t
 Fits m n out t (suc (suc (suc (suc (suc (suc zero)))))) = Shifted m n out t
 Fits m n out t (suc (suc (suc (suc (suc (suc (suc k))))))) = ⊥
 
--- reason t and told t: what the report has for tile t, its reason and the missing millimetres
-pub record Standing (m n : Model) (out : ℕ → List ℕ) (reason told : ℕ → ℕ) : Type 0 where
+-- reason t and millimetres t: what the report has for tile t, its reason and the missing millimetres
+pub record Standing (m n : Model) (out : ℕ → List ℕ) (reason millimetres : ℕ → ℕ) : Type 0 where
   -- "one reason for each tile …, the first that fits"
   pub one : (t : ℕ) → t < total (m .settings) → (1 ≤ reason t) × (reason t ≤ 6)
   pub fits : (t : ℕ) → t < total (m .settings) → Fits m n out t (reason t)
@@ -65,10 +65,10 @@ pub record Standing (m n : Model) (out : ℕ → List ℕ) (reason told : ℕ �
   -- a tile that an arrow faces runs, so that it has a turn and the six are all there are
   pub runs : (t : ℕ) → nextOf n t ≢ 0 → runsOf m (ahead m n t) ≡ true
   -- "with the missing millimetres (0 beside other reasons)": at the turn of the tile ahead
-  pub short : (t : ℕ) → reason t ≡ 5 → told t ≡ missing (m .settings) (turnOf m (ahead m n t)) (membersOf m (ahead m n t))
-  pub lacking : (t : ℕ) → reason t ≡ 5 ↔ 0 < told t
+  pub short : (t : ℕ) → reason t ≡ 5 → millimetres t ≡ missing (m .settings) (turnOf m (ahead m n t)) (membersOf m (ahead m n t))
+  pub lacking : (t : ℕ) → reason t ≡ 5 ↔ 0 < millimetres t
   -- less than U
-  pub below : (t : ℕ) → (told t ≤ spacing (m .settings)) × (told t < m .settings .width)
+  pub below : (t : ℕ) → (millimetres t ≤ spacing (m .settings)) × (millimetres t < m .settings .width)
   -- "A tile has reason 6 exactly when its canisters shifted."; else all stand where they stood
   pub moved : (t : ℕ) → reason t ≡ 6 ↔ Shifted m n out t
   pub stood : (t : ℕ) → reason t ≢ 6 → Stood m n t
@@ -76,7 +76,7 @@ pub record Standing (m n : Model) (out : ℕ → List ℕ) (reason told : ℕ �
   -- a hopper never has canisters
   pub hopper : (t : ℕ) → isHopper (m .settings) t ≡ true → reason t ≡ 2
   -- no tile, no reason
-  pub none : (t : ℕ) → total (m .settings) ≤ t → (reason t ≡ 0) × (told t ≡ 0)
+  pub none : (t : ℕ) → total (m .settings) ≤ t → (reason t ≡ 0) × (millimetres t ≡ 0)
 
 -- tile t's reason and missing millimetres in the report of the round that begins with f
 unfoldable pub reasonAt : Floor → ℕ → ℕ
@@ -86,8 +86,8 @@ unfoldable pub missingAt : Floor → ℕ → ℕ
 missingAt f t = getD (roundAnswer f .report .missing) t 0
 
 -- the theorem: for every well-formed floor
-abbrev pub WhyStood : Type 0
-WhyStood = (f : Floor) → wellFormed f ≡ true → Standing (view f) (view (roundAnswer f .floor)) (listedAt (roundAnswer f .report)) (reasonAt f) (missingAt f)
+abbrev pub ReasonRule : Type 0
+ReasonRule = (f : Floor) → wellFormed f ≡ true → Standing (view f) (view (roundAnswer f .floor)) (listedAt (roundAnswer f .report)) (reasonAt f) (missingAt f)
 
 -- ---- the gap test
 -- "The gap: every canister here has a ≥ d for a west turn, b ≥ d for south, b + l + d ≤ U for north, a + l + d ≤ U for east."

@@ -11,7 +11,7 @@ use Rattle.floor.specs.Memory.{view}
 use Rattle.floor.specs.Well.{wellFormed}
 use Rattle.floor.proofs.Sound.{Measured}
 use Rattle.floor.proofs.Pack.{well-sound}
-use Rattle.image.specs.Image.{oneTile, hopperCount, settingsBody, countersBody, layoutsBytes, encode, restIn, tilesIn, isLayout, layoutsIn, afterLayouts, modelIn, laidFault, fault, loadAnswer}
+use Rattle.image.specs.Image.{oneTile, hopperCount, settingsBody, countersBody, layoutsBytes, encode, restIn, tilesIn, isLayout, layoutsIn, afterLayouts, modelIn, layoutsFault, fault, loadAnswer}
 use Rattle.image.specs.Promises.{imageWithout, faultWithout, settingsBefore, countersBefore, imageBefore}
 use Rattle.image.proofs.Records.{encode-records, fault-records}
 use Rattle.image.proofs.Hoppers.{byte-again, not-several, one-counted}
@@ -31,7 +31,7 @@ image-without f w none =
 -- any bytes without such a record: what refuses them is as before, and what is read has no layouts
 pub read-without : (xs : List ℕ) → isLayout (restIn (restIn xs)) ≡ false
     → (fault xs ≡ faultWithout xs) × ((modelIn xs .tiles ≡ tilesIn (total (modelIn xs .settings)) (restIn (restIn xs))) × (modelIn xs .layouts ≡ []))
-unfolding faultWithout modelIn laidFault afterLayouts layoutsIn
+unfolding faultWithout modelIn layoutsFault afterLayouts layoutsIn
 read-without xs e = (fault-records xs ∙ rw e, (rw e, rw e))
 
 -- ---- with one hopper

@@ -10,7 +10,7 @@ use Rattle.laws.proofs.Lists.{same}
 use Rattle.floor.specs.declared.Floor.{Floor}
 use Rattle.floor.specs.Memory.{view}
 use Rattle.floor.specs.Calls.{freshAnswer}
-use Rattle.floor.proofs.Calling.{got, several, fresh, stop, named, keeps, laid, sameFloor}
+use Rattle.floor.proofs.Calling.{got, several, fresh, stop, named, keeps, layoutsRead, sameFloor}
 use Rattle.image.specs.Image.{encode, loadAnswer}
 use Rattle.image.proofs.Trials.{shows}
 
@@ -45,7 +45,7 @@ with l = among good 40 l
 unfoldable table : List Bool
 table =
     -- an older image has no layouts, and is written as before
-    same (laid (loadAnswer good .floor)) (0 ∷ [])
+    same (layoutsRead (loadAnswer good .floor)) (0 ∷ [])
     ∷ sameFloor (loadAnswer good .floor) blank
     -- AB with both tiles, then B with the hopper alone: the first letter first, by rising name
     ∷ same (encode (view (keeps (named (65 ∷ 66 ∷ [])) blank))) (with (16 ∷ 0 ∷ 5 ∷ 0 ∷ 65 ∷ 66 ∷ 0 ∷ 0 ∷ 0 ∷ 0 ∷ 0 ∷ 0 ∷ 3 ∷ 0 ∷ 0 ∷ 0 ∷ 0 ∷ 0 ∷ 0 ∷ 0 ∷ []))

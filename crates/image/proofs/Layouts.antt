@@ -21,7 +21,7 @@ use Rattle.image_bytes.proofs.ByteLaws.{le-bytes, bytes-le, bytes-drop}
 use Rattle.floor.specs.declared.Layout.{Layout}
 use Rattle.floor.specs.Layouts.{nameNumber, letters}
 use Rattle.floor.proofs.Names.{spelling}
-use Rattle.image.specs.Image.{recordOf, layoutBody, layoutsBytes, lengthIn, bodyIn, restIn, layoutIn, isLayout, layoutsIn, afterLayouts, layoutFaults, ownFaults, recordFault, orElse, endFault, tilesFault, laidFault}
+use Rattle.image.specs.Image.{recordOf, layoutBody, layoutsBytes, lengthIn, bodyIn, restIn, layoutIn, isLayout, layoutsIn, afterLayouts, layoutFaults, ownFaults, recordFault, orElse, endFault, tilesFault, layoutsFault}
 use Rattle.image.proofs.Records.{orElse-none, equal, record-length, kind-in, body-in, rest-in, fault-in, cut, Whole, whole, again, cut-short, cut-after}
 use Rattle.image.proofs.Sizes.{layout-size}
 
@@ -84,18 +84,18 @@ module _ (x : Layout) (ys : List ℕ) where
       rw (append-assoc bs (bytes 8 (x .set)) ys, take-at bs (bytes 8 (x .set) ++ ys) 8 e, name-back (x .name) (f .name), drop-at bs (bytes 8 (x .set) ++ ys) 8 e, le-bytes 8 (x .set) ys (f .set))
 
 -- ---- several, read after they were written; what follows them, zs, begins with no such record
-pub record LaidBack (n : ℕ) (l : List Layout) (zs : List ℕ) : Type 0 where
-  pub faults : laidFault n (layoutsBytes l ++ zs) ≡ 0
+pub record LayoutsBack (n : ℕ) (l : List Layout) (zs : List ℕ) : Type 0 where
+  pub faults : layoutsFault n (layoutsBytes l ++ zs) ≡ 0
   pub values : layoutsIn n (layoutsBytes l ++ zs) ≡ l
   pub rest : afterLayouts n (layoutsBytes l ++ zs) ≡ zs
 
-pub laid-back : (n : ℕ) (l : List Layout) (zs : List ℕ) → All LayoutFits l → length l ≤ n → isLayout zs ≡ false → LaidBack n l zs
-unfolding laidFault layoutsIn afterLayouts layoutsBytes
-laid-back zero [] zs h k e = record { faults = refl; values = refl; rest = refl }
-laid-back zero (x ∷ l) zs h k e = absurd (omega arith)
-laid-back (suc n) [] zs h k e = record { faults = rw e; values = rw e; rest = rw e }
-laid-back (suc n) (x ∷ l) zs h k e =
-    let R = laid-back n l zs (h .1) (omega arith) e in
+pub layouts-read-back : (n : ℕ) (l : List Layout) (zs : List ℕ) → All LayoutFits l → length l ≤ n → isLayout zs ≡ false → LayoutsBack n l zs
+unfolding layoutsFault layoutsIn afterLayouts layoutsBytes
+layouts-read-back zero [] zs h k e = record { faults = refl; values = refl; rest = refl }
+layouts-read-back zero (x ∷ l) zs h k e = absurd (omega arith)
+layouts-read-back (suc n) [] zs h k e = record { faults = rw e; values = rw e; rest = rw e }
+layouts-read-back (suc n) (x ∷ l) zs h k e =
+    let R = layouts-read-back n l zs (h .1) (omega arith) e in
     let ws : List ℕ = layoutsBytes l ++ zs in
     let a : (recordOf 5 (layoutBody x) ++ layoutsBytes l) ++ zs ≡ recordOf 5 (layoutBody x) ++ ws = append-assoc (recordOf 5 (layoutBody x)) (layoutsBytes l) zs in
     record {
@@ -121,16 +121,16 @@ layout-again xs p h =
     let all : letters 8 (nameNumber (take 8 b)) ++ bytes 8 (le 8 (drop 8 b)) ≡ cut xs = rw (name-again b pb (omega arith), bytes-le 8 (drop 8 b) (bytes-drop 8 b pb) ld, e) (sym (take-add 8 8 b)) in
     rw all (again 5 0 xs p w)
 
-pub record LaidAgain (n : ℕ) (xs : List ℕ) : Type 0 where
+pub record LayoutsAgain (n : ℕ) (xs : List ℕ) : Type 0 where
   pub written : layoutsBytes (layoutsIn n xs) ++ afterLayouts n xs ≡ xs
   pub are-bytes : Bytes (afterLayouts n xs)
 
-pub laid-again : (n : ℕ) (xs : List ℕ) → Bytes xs → laidFault n xs ≡ 0 → LaidAgain n xs
-unfolding laidFault layoutsBytes layoutsIn afterLayouts
-laid-again zero xs p h = record { written = refl; are-bytes = p }
-laid-again (suc n) xs p h = go (by-test (isLayout xs)) (λ q. laid-again n (restIn xs) (bytes-drop (4 + lengthIn xs) xs p) q)
+pub layouts-again : (n : ℕ) (xs : List ℕ) → Bytes xs → layoutsFault n xs ≡ 0 → LayoutsAgain n xs
+unfolding layoutsFault layoutsBytes layoutsIn afterLayouts
+layouts-again zero xs p h = record { written = refl; are-bytes = p }
+layouts-again (suc n) xs p h = go (by-test (isLayout xs)) (λ q. layouts-again n (restIn xs) (bytes-drop (4 + lengthIn xs) xs p) q)
   where
-    go : (isLayout xs ≡ true) ⊎ (isLayout xs ≡ false) → (laidFault n (restIn xs) ≡ 0 → LaidAgain n (restIn xs)) → LaidAgain (suc n) xs
+    go : (isLayout xs ≡ true) ⊎ (isLayout xs ≡ false) → (layoutsFault n (restIn xs) ≡ 0 → LayoutsAgain n (restIn xs)) → LayoutsAgain (suc n) xs
     go (inl e) ih =
         let o = orElse-none (recordFault 5 0 xs) _ (rw e at h) in
         let R = ih (o .1) in
@@ -140,10 +140,10 @@ laid-again (suc n) xs p h = go (by-test (isLayout xs)) (λ q. laid-again n (rest
         }
     go (inr e) ih = record { written = rw e; are-bytes = rw e p }
 
-pub laid-few : (n : ℕ) (xs : List ℕ) → length (layoutsIn n xs) ≤ n
+pub layouts-few : (n : ℕ) (xs : List ℕ) → length (layoutsIn n xs) ≤ n
 unfolding layoutsIn
-laid-few zero xs = omega arith
-laid-few (suc n) xs = go (isLayout xs) (laid-few n (restIn xs))
+layouts-few zero xs = omega arith
+layouts-few (suc n) xs = go (isLayout xs) (layouts-few n (restIn xs))
   where
     go : (b : Bool) → length (layoutsIn n (restIn xs)) ≤ n → length (cond b (layoutIn (bodyIn xs) ∷ layoutsIn n (restIn xs)) []) ≤ suc n
     go true h = omega arith
@@ -151,23 +151,23 @@ laid-few (suc n) xs = go (isLayout xs) (laid-few n (restIn xs))
 
 -- ---- cut off: the refusal of at most n such records, and of c tiles after them
 abbrev pub bothFault : ℕ → ℕ → List ℕ → ℕ
-bothFault n c xs = orElse (laidFault n xs) (tilesFault c 0 (afterLayouts n xs))
+bothFault n c xs = orElse (layoutsFault n xs) (tilesFault c 0 (afterLayouts n xs))
 
 module _ (n c : ℕ) (xs : List ℕ) where
   both-none : isLayout xs ≡ false → bothFault (suc n) c xs ≡ tilesFault c 0 xs
-  unfolding laidFault afterLayouts
+  unfolding layoutsFault afterLayouts
   both-none e = rw e
 
   both-on : isLayout xs ≡ true → recordFault 5 0 xs ≡ 0 → bothFault (suc n) c xs ≡ bothFault n c (restIn xs)
-  unfolding laidFault afterLayouts
+  unfolding layoutsFault afterLayouts
   both-on e z = rw (e, z)
 
   both-cut : isLayout xs ≡ true → recordFault 5 0 xs ≡ 9 → bothFault (suc n) c xs ≡ 9
-  unfolding laidFault
+  unfolding layoutsFault
   both-cut e z = rw (e, z)
 
 both-zero : (c : ℕ) (xs : List ℕ) → bothFault 0 c xs ≡ tilesFault c 0 xs
-unfolding laidFault afterLayouts
+unfolding layoutsFault afterLayouts
 both-zero c xs = refl
 
 tiles-short : (c : ℕ) (xs : List ℕ) → ((due t : ℕ) → recordFault due t xs ≡ 9) → tilesFault c 0 xs ≡ 9
@@ -176,12 +176,12 @@ tiles-short zero xs s = rw (s 4 0)
 tiles-short (suc c) xs s = rw (s 3 0)
 
 module _ (c : ℕ) (zs : List ℕ) (kinds : (j : ℕ) → isLayout (take j zs) ≡ false) (tiles : (j : ℕ) → j < length zs → tilesFault c 0 (take j zs) ≡ 9) where
-  pub laid-cut : (n k : ℕ) (l : List Layout) → length l ≤ n → k < length (layoutsBytes l ++ zs) → bothFault n c (take k (layoutsBytes l ++ zs)) ≡ 9
+  pub layouts-cut : (n k : ℕ) (l : List Layout) → length l ≤ n → k < length (layoutsBytes l ++ zs) → bothFault n c (take k (layoutsBytes l ++ zs)) ≡ 9
   unfolding layoutsBytes
-  laid-cut zero k [] q b = both-zero c (take k zs) ∙ tiles k b
-  laid-cut zero k (x ∷ l) q b = absurd (omega arith)
-  laid-cut (suc n) k [] q b = both-none n c (take k zs) (kinds k) ∙ tiles k b
-  laid-cut (suc n) k (x ∷ l) q b = ap (λ (xs : List ℕ). bothFault (suc n) c (take k xs)) a ∙ go (decLe 20 k) (laid-cut n (k - 20) l (omega arith))
+  layouts-cut zero k [] q b = both-zero c (take k zs) ∙ tiles k b
+  layouts-cut zero k (x ∷ l) q b = absurd (omega arith)
+  layouts-cut (suc n) k [] q b = both-none n c (take k zs) (kinds k) ∙ tiles k b
+  layouts-cut (suc n) k (x ∷ l) q b = ap (λ (xs : List ℕ). bothFault (suc n) c (take k xs)) a ∙ go (decLe 20 k) (layouts-cut n (k - 20) l (omega arith))
     where
       ws : List ℕ
       ws = layoutsBytes l ++ zs

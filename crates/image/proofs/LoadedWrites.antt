@@ -14,11 +14,11 @@ use Rattle.laws.proofs.Tests.{test-none, by-test, or-case}
 use Rattle.image_bytes.specs.Bytes.{fieldsOf, bytesOf, field, width, Bytes}
 use Rattle.image_bytes.proofs.ByteLaws.{bytes-drop, bytes-fields}
 use Rattle.floor.proofs.Sound.{Measured}
-use Rattle.image.specs.Image.{lowest, hopperCount, several, byteWrong, settingsWidths, settingsValues, countersWidths, countersValues, tileWidths, tileValues, canisterWidths, canisterValues, recordOf, settingsBody, countersBody, canistersBody, tileBody, tilesBytes, encode, lengthIn, bodyIn, restIn, settingsIn, countersIn, canisterIn, canistersIn, tileIn, tilesIn, afterLayouts, modelIn, settingsFaults, countersFaults, tileFaults, endFaults, ownFaults, recordFault, endFault, tilesFault, laidFault, fault}
+use Rattle.image.specs.Image.{lowest, hopperCount, several, byteWrong, settingsWidths, settingsValues, countersWidths, countersValues, tileWidths, tileValues, canisterWidths, canisterValues, recordOf, settingsBody, countersBody, canistersBody, tileBody, tilesBytes, encode, lengthIn, bodyIn, restIn, settingsIn, countersIn, canisterIn, canistersIn, tileIn, tilesIn, afterLayouts, modelIn, settingsFaults, countersFaults, tileFaults, endFaults, ownFaults, recordFault, endFault, tilesFault, layoutsFault, fault}
 use Rattle.image.proofs.Hoppers.{no-hoppers, spliced-none, byte-again, not-several}
 use Rattle.image.proofs.Sizes.{fours}
 use Rattle.image.proofs.Records.{orElse-none, encode-records, fault-records, equal, cut, Whole, whole, again}
-use Rattle.image.proofs.Layouts.{laid-again}
+use Rattle.image.proofs.Layouts.{layouts-again}
 
 -- ---- the values that were read, written again
 pub canisters-length : (n : ℕ) (b : List ℕ) → length (canistersIn n b) ≡ n
@@ -189,6 +189,6 @@ written-again xs p h =
     let b1 : settingsBody s ≡ cut xs = settings-again (bodyIn xs) (bytes-drop 4 xs p) (lengthIn xs) G (rw length-drop (omega (arith, w .enough))) in
     let b2 : countersBody (hopperCount s) (countersIn (hopperCount s) (bodyIn ys)) ≡ cut ys =
     counters-again (hopperCount s) (bodyIn ys) (G .measured .hoppers-few) (bytes-drop 4 ys py) (rw length-drop (omega (arith, v .enough))) ∙ ap (λ (n : ℕ). take n (bodyIn ys)) (sym n2) in
-    let v5 = orElse-none (laidFault 8 (restIn ys)) _ (q .1) in
-    let L = laid-again 8 (restIn ys) (bytes-drop (4 + lengthIn ys) ys py) (v5 .0) in
+    let v5 = orElse-none (layoutsFault 8 (restIn ys)) _ (q .1) in
+    let L = layouts-again 8 (restIn ys) (bytes-drop (4 + lengthIn ys) ys py) (v5 .0) in
     encode-records (modelIn xs) ∙ rw (b1, b2, tiles-again _ 0 (afterLayouts 8 (restIn ys)) (L .are-bytes) (v5 .1), L .written, again 2 (hopperCount s) ys py v) (again 1 0 xs p w)

@@ -24,7 +24,7 @@ use Rattle.floor.specs.Calls.{refusalOf, freshFloor, freshAnswer}
 use Rattle.floor.proofs.Well.{sound-fact}
 use Rattle.floor.proofs.Pack.{well-sound}
 use Rattle.floor.proofs.Capacity.{well-pack}
-use Rattle.floor.proofs.First.{fresh-well, pack-view-well}
+use Rattle.floor.proofs.FreshAndWidths.{fresh-well, pack-view-well}
 use Rattle.image.specs.Image.{encode, lengthIn, modelIn, recordFault, frontFault, fault, answerBy, allNamed, recordsRefusal, recordsAnswer, imageRefusal, imageAnswer, standard, loadAnswer, writeRefusal, writeAnswer, written}
 use Rattle.image.proofs.Records.{orElse-none}
 use Rattle.image.proofs.Sizes.{encode-size}

@@ -19,9 +19,9 @@ use Rattle.floor.specs.Well.{stateSound, sound, wellFormed}
 use Rattle.floor.proofs.Sound.{Measured}
 use Rattle.floor.proofs.Rows.{Placed, sound-named}
 use Rattle.floor.proofs.Pack.{view-pack, fits-pack}
-use Rattle.image.specs.Image.{hopperCount, tileWidths, lengthIn, bodyIn, restIn, settingsIn, tileIn, tilesIn, afterLayouts, modelIn, recordFault, tilesFault, laidFault, fault, allNamed}
+use Rattle.image.specs.Image.{hopperCount, tileWidths, lengthIn, bodyIn, restIn, settingsIn, tileIn, tilesIn, afterLayouts, modelIn, recordFault, tilesFault, layoutsFault, fault, allNamed}
 use Rattle.image.proofs.Records.{orElse-none, fault-records, whole}
-use Rattle.image.proofs.Layouts.{laid-few}
+use Rattle.image.proofs.Layouts.{layouts-few}
 use Rattle.image.proofs.LoadedWrites.{canisters-length, tile-good, settings-good}
 
 -- ---- the settings pass 1 to 3
@@ -48,11 +48,11 @@ tiles-small (suc n) t xs h (suc k) = tiles-small n (suc t) (restIn xs) (orElse-n
 
 -- ---- the whole
 module _ (xs : List ℕ) (z : fault xs ≡ 0) where
-  parts : (recordFault 1 0 xs ≡ 0) × ((recordFault 2 (hopperCount (settingsIn (lengthIn xs) (bodyIn xs))) (restIn xs) ≡ 0) × ((laidFault 8 (restIn (restIn xs)) ≡ 0) × (tilesFault (total (settingsIn (lengthIn xs) (bodyIn xs))) 0 (afterLayouts 8 (restIn (restIn xs))) ≡ 0)))
+  parts : (recordFault 1 0 xs ≡ 0) × ((recordFault 2 (hopperCount (settingsIn (lengthIn xs) (bodyIn xs))) (restIn xs) ≡ 0) × ((layoutsFault 8 (restIn (restIn xs)) ≡ 0) × (tilesFault (total (settingsIn (lengthIn xs) (bodyIn xs))) 0 (afterLayouts 8 (restIn (restIn xs))) ≡ 0)))
   parts =
       let o = orElse-none (recordFault 1 0 xs) _ (sym (fault-records xs) ∙ z) in
       let p = orElse-none (recordFault 2 (hopperCount (settingsIn (lengthIn xs) (bodyIn xs))) (restIn xs)) _ (o .1) in
-      (o .0, (p .0, orElse-none (laidFault 8 (restIn (restIn xs))) _ (p .1)))
+      (o .0, (p .0, orElse-none (layoutsFault 8 (restIn (restIn xs))) _ (p .1)))
 
   read-length : length (modelIn xs .tiles) ≡ total (modelIn xs .settings)
   unfolding modelIn
@@ -68,7 +68,7 @@ module _ (xs : List ℕ) (z : fault xs ≡ 0) where
 
   read-eight : length (modelIn xs .layouts) ≤ 8
   unfolding modelIn
-  read-eight = laid-few 8 (restIn (restIn xs))
+  read-eight = layouts-few 8 (restIn (restIn xs))
 
   module _ (n : allNamed (modelIn xs) ≡ true) where
     placed : Placed (modelIn xs .layouts)

@@ -16,7 +16,7 @@ use Rattle.image_bytes.specs.Bytes.{le, bytes, Bytes}
 use Rattle.image_bytes.proofs.ByteLaws.{bytes-length, le-bytes, bytes-le, bytes-drop}
 use Rattle.floor.specs.Settings.{total}
 use Rattle.floor.specs.Model.{Model}
-use Rattle.image.specs.Image.{hopperCount, recordOf, settingsBody, countersBody, layoutsBytes, tilesBytes, frontBytes, encode, lengthIn, kindIn, bodyIn, restIn, settingsIn, afterLayouts, ownFaults, recordFault, orElse, tilesFault, laidFault, frontFault, fault}
+use Rattle.image.specs.Image.{hopperCount, recordOf, settingsBody, countersBody, layoutsBytes, tilesBytes, frontBytes, encode, lengthIn, kindIn, bodyIn, restIn, settingsIn, afterLayouts, ownFaults, recordFault, orElse, tilesFault, layoutsFault, frontFault, fault}
 
 -- ---- tests and their numbers
 pub orElse-none : (k n : ℕ) → orElse k n ≡ 0 → (k ≡ 0) × (n ≡ 0)
@@ -39,13 +39,13 @@ unfolding encode frontBytes
 encode-records m = simp append-assoc
 
 pub fault-records : (xs : List ℕ) → let s = settingsIn (lengthIn xs) (bodyIn xs) in let ys = restIn (restIn xs) in
-    fault xs ≡ orElse (recordFault 1 0 xs) (orElse (recordFault 2 (hopperCount s) (restIn xs)) (orElse (laidFault 8 ys) (tilesFault (total s) 0 (afterLayouts 8 ys))))
+    fault xs ≡ orElse (recordFault 1 0 xs) (orElse (recordFault 2 (hopperCount s) (restIn xs)) (orElse (layoutsFault 8 ys) (tilesFault (total s) 0 (afterLayouts 8 ys))))
 unfolding fault frontFault
 fault-records xs =
     let s = settingsIn (lengthIn xs) (bodyIn xs) in
     let a = recordFault 1 0 xs in
     let b = recordFault 2 (hopperCount s) (restIn xs) in
-    let c = laidFault 8 (restIn (restIn xs)) in
+    let c = layoutsFault 8 (restIn (restIn xs)) in
     let t = tilesFault (total s) 0 (afterLayouts 8 (restIn (restIn xs))) in
     orElse-assoc a (orElse b c) t ∙ ap (λ (k : ℕ). orElse a k) (orElse-assoc b c t)
 

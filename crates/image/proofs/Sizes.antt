@@ -125,7 +125,7 @@ bare-most f x (suc n) a b =
 pub encode-most : (m : Model) → length (m .layouts) ≤ 8 → length (m .tiles) ≤ 64 → length (m .tiles) ≡ total (m .settings) → 1 ≤ hopperCount (m .settings) → ((k : ℕ) → length (getD (m .tiles) k noTile .members) ≤ 16)
     → ((k : ℕ) → bit (m .settings .hoppers) k ≡ true → getD (m .tiles) k noTile .members ≡ []) → length (encode m) ≤ 8908
 unfolding several hoppersOf tileSize
-encode-most m laid few all some most bare =
+encode-most m layouts-few few all some most bare =
     let x = m .settings .hoppers in
     let f : ℕ → ℕ = λ k. tileSize (getD (m .tiles) k noTile) in
     let b : sum (tab (length (m .tiles)) f) + 128 * length (bitsBelow x (length (m .tiles))) ≤ 138 * length (m .tiles)
@@ -138,5 +138,5 @@ encode-most m laid few all some most bare =
         → sum (tab (length (m .tiles)) (λ k. tileSize (getD (m .tiles) k noTile))) + 128 * length (bitsBelow (m .settings .hoppers) (length (m .tiles))) ≤ 138 * length (m .tiles)
         → length (bitsBelow (m .settings .hoppers) (length (m .tiles))) ≡ length (bitsBelow (m .settings .hoppers) (total (m .settings)))
         → length (encode m) ≤ 8908
-    go true t z b e = omega (arith, ltb-true 1 (length (bitsBelow (m .settings .hoppers) (total (m .settings)))) t, by-table (m .tiles), few, laid)
-    go false t z b e = omega (arith, ltb-false 1 (length (bitsBelow (m .settings .hoppers) (total (m .settings)))) t, some, by-table (m .tiles), few, laid)
+    go true t z b e = omega (arith, ltb-true 1 (length (bitsBelow (m .settings .hoppers) (total (m .settings)))) t, by-table (m .tiles), few, layouts-few)
+    go false t z b e = omega (arith, ltb-false 1 (length (bitsBelow (m .settings .hoppers) (total (m .settings)))) t, some, by-table (m .tiles), few, layouts-few)

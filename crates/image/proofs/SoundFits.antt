@@ -19,9 +19,9 @@ use Rattle.floor.specs.Layouts.{nameOk, layoutOk}
 use Rattle.floor.specs.Model.{Model, noTile, tileOf, membersOf, numbers, numbersOn}
 use Rattle.floor.proofs.Sound.{Sound, Inside}
 use Rattle.floor.proofs.Well.{settings-fact, faces-le}
-use Rattle.floor.proofs.First.{part-le, flag-small, distance-small}
+use Rattle.floor.proofs.FreshAndWidths.{part-le, flag-small, distance-small}
 use Rattle.floor.proofs.Capacity.{sound-small}
-use Rattle.floor.proofs.Laying.{laid-of}
+use Rattle.floor.proofs.SoundLayouts.{sound-layouts-of}
 use Rattle.image.specs.Image.{hopperCount, several, settingsWidths, settingsValues, countersWidths, countersValues, canisterWidths, canisterValues, encode}
 use Rattle.image.proofs.Hoppers.{single, lowest-small}
 use Rattle.image.proofs.Sizes.{encode-most}
@@ -100,7 +100,7 @@ module _ (m : Model) (S : Sound m) where
       let n = ltb-true (x .name) (2 ^ 64) (and-left (ltb (x .name) (2 ^ 64)) _ (and-right (ltb 0 (x .name)) _ (and-left (nameOk (x .name)) _ h))) in
       let s = ltb-true (x .set) (2 ^ total (m .settings)) (and-left (ltb (x .set) (2 ^ total (m .settings))) _ k) in
       record { name = n; set = lt-of-lt-of-le s (pow-mono (S .measured .few)) })
-      (laid-of (m .settings) (m .layouts) (S .laid-out) .each)
+      (sound-layouts-of (m .settings) (m .layouts) (S .layouts-sound) .each)
 
   passed : settingsRefusal (m .settings) ≡ 0
   unfolding settingsPass
@@ -118,12 +118,12 @@ module _ (m : Model) (S : Sound m) where
     single = single (m .settings) (S .measured);
     four = S .four;
     spare = S .spare;
-    laid = layouts-fit;
-    eight = laid-of (m .settings) (m .layouts) (S .laid-out) .eight;
+    layout-fits = layouts-fit;
+    eight = sound-layouts-of (m .settings) (m .layouts) (S .layouts-sound) .eight;
   }
 
   -- "The longest image is 8,908 bytes."
   pub sound-most : length (encode m) ≤ 8908
   unfolding isHopper
   sound-most =
-      encode-most m (laid-of (m .settings) (m .layouts) (S .laid-out) .eight) (omega (arith, S .len, S .measured .few)) (S .len) (S .measured .hoppers-some) (sound-small m S) (S .hopper-empty)
+      encode-most m (sound-layouts-of (m .settings) (m .layouts) (S .layouts-sound) .eight) (omega (arith, S .len, S .measured .few)) (S .len) (S .measured .hoppers-some) (sound-small m S) (S .hopper-empty)

@@ -12,14 +12,14 @@ use Rattle.floor.specs.declared.Floor.{Floor}
 use Rattle.floor.specs.Memory.{zeroFloor, view}
 use Rattle.floor.specs.Calls.{freshAnswer}
 use Rattle.floor.proofs.Calling.{got, several, fresh, book, rounds, sameFloor, holds}
-use Rattle.image.specs.Image.{lowest, oneTile, several as isSeveral, byteWrong, recordOf, settingsBody, countersBody, canistersBody, tileBody, layoutBody, layoutsBytes, tilesBytes, frontBytes, encode, settingsIn, countersIn, canisterIn, canistersIn, tileIn, tilesIn, layoutIn, isLayout, layoutsIn, afterLayouts, modelIn, settingsFaults, countersFaults, tileFaults, layoutFaults, endFaults, ownFaults, recordFault, endFault, tilesFault, laidFault, frontFault, fault, answerBy, imageRefusal, imageAnswer, standard, loadAnswer, writeRefusal, writeAnswer, written}
+use Rattle.image.specs.Image.{lowest, oneTile, several as isSeveral, byteWrong, recordOf, settingsBody, countersBody, canistersBody, tileBody, layoutBody, layoutsBytes, tilesBytes, frontBytes, encode, settingsIn, countersIn, canisterIn, canistersIn, tileIn, tilesIn, layoutIn, isLayout, layoutsIn, afterLayouts, modelIn, settingsFaults, countersFaults, tileFaults, layoutFaults, endFaults, ownFaults, recordFault, endFault, tilesFault, layoutsFault, frontFault, fault, answerBy, imageRefusal, imageAnswer, standard, loadAnswer, writeRefusal, writeAnswer, written}
 
 -- what loading and writing compute: a table's line names this alone
 unfoldable pub shows : List ℕ → ℕ → Bool
 unfolding holds le bytes fieldsOf bytesOf
     lowest oneTile isSeveral byteWrong recordOf settingsBody countersBody canistersBody tileBody layoutBody layoutsBytes tilesBytes frontBytes encode
     settingsIn countersIn canisterIn canistersIn tileIn tilesIn layoutIn isLayout layoutsIn afterLayouts modelIn
-    settingsFaults countersFaults tileFaults layoutFaults endFaults ownFaults recordFault endFault tilesFault laidFault frontFault fault answerBy imageRefusal imageAnswer standard loadAnswer writeRefusal writeAnswer written
+    settingsFaults countersFaults tileFaults layoutFaults endFaults ownFaults recordFault endFault tilesFault layoutsFault frontFault fault answerBy imageRefusal imageAnswer standard loadAnswer writeRefusal writeAnswer written
 shows xs k = eqb (loadAnswer xs .refusal) k
 
 -- ---- the floors

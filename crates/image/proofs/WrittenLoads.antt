@@ -25,7 +25,7 @@ use Rattle.image.specs.Image.{lowest, oneTile, hopperCount, several, byt
 use Rattle.image.proofs.Hoppers.{none-spliced}
 use Rattle.image.proofs.Records.{encode-records, fault-records, record-length, length-in, kind-in, body-in, rest-in, fault-in, kind-take, cut-off, cut-after}
 use Rattle.image.proofs.Sizes.{settings-size, counters-size, canister-size, tile-size}
-use Rattle.image.proofs.Layouts.{LayoutFits, LaidBack, laid-back, bothFault, laid-cut}
+use Rattle.image.proofs.Layouts.{LayoutFits, LayoutsBack, layouts-read-back, bothFault, layouts-cut}
 
 -- ---- each value fits its bytes
 pub record TileFits (x : TileState) : Type 0 where
@@ -45,7 +45,7 @@ pub record Fits (m : Model) : Type 0 where
   pub few : length (m .tiles) ≤ 64
   pub passed : settingsRefusal (m .settings) ≡ 0
   pub hoppers-few : hopperCount (m .settings) ≤ 4
-  pub laid : All LayoutFits (m .layouts)
+  pub layout-fits : All LayoutFits (m .layouts)
   pub eight : length (m .layouts) ≤ 8
 
 -- ---- a body that is read after it was written
@@ -315,8 +315,8 @@ module _ (m : Model) (g : Fits m) where
   tiles-read : (ys : List ℕ) → (tilesFault (total (m .settings)) 0 (tilesBytes 0 (m .tiles) ++ ys) ≡ leftover ys) × (tilesIn (total (m .settings)) (tilesBytes 0 (m .tiles) ++ ys) ≡ m .tiles)
   tiles-read ys = rw (← g .many) (tiles-back 0 (m .tiles) ys (g .each) (omega (arith, g .few)))
 
-  layouts-read : (ys : List ℕ) → LaidBack 8 (m .layouts) (tilesBytes 0 (m .tiles) ++ ys)
-  layouts-read ys = laid-back 8 (m .layouts) (tilesBytes 0 (m .tiles) ++ ys) (g .laid) (g .eight) (kind-off (tilesBytes 0 (m .tiles) ++ ys) _ refl (tiles-kind 0 (m .tiles) ys (g .each)))
+  layouts-read : (ys : List ℕ) → LayoutsBack 8 (m .layouts) (tilesBytes 0 (m .tiles) ++ ys)
+  layouts-read ys = layouts-read-back 8 (m .layouts) (tilesBytes 0 (m .tiles) ++ ys) (g .layout-fits) (g .eight) (kind-off (tilesBytes 0 (m .tiles) ++ ys) _ refl (tiles-kind 0 (m .tiles) ys (g .each)))
 
   -- bytes after the end are 9
   pub fault-append : (ys : List ℕ) → fault (encode m ++ ys) ≡ leftover ys
@@ -370,4 +370,4 @@ module _ (m : Model) (g : Fits m) where
             cut-after 2 (n - (4 + length first)) second (later) q,
             fault-second m g (take (n - (4 + length first) - (4 + length second)) (later)),
           )
-          (laid-cut (total (m .settings)) (tilesBytes 0 (m .tiles)) (λ j. cut-kind j 0 (m .tiles) (g .each)) tiles 8 (n - (4 + length first) - (4 + length second)) (m .layouts) (g .eight) k)
+          (layouts-cut (total (m .settings)) (tilesBytes 0 (m .tiles)) (λ j. cut-kind j 0 (m .tiles) (g .each)) tiles 8 (n - (4 + length first) - (4 + length second)) (m .layouts) (g .eight) k)

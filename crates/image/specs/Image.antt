@@ -227,9 +227,9 @@ tilesFault zero t xs = endFault xs
 tilesFault (suc n) t xs = orElse (recordFault 3 t xs) (tilesFault n (suc t) (restIn xs))
 
 -- at most n records of kind 5; "a ninth such record is 10", as kind 3 is due then
-unfoldable pub laidFault : ℕ → List ℕ → ℕ
-laidFault zero xs = 0
-laidFault (suc n) xs = let r = orElse (recordFault 5 0 xs) (laidFault n (restIn xs)) in cond (isLayout xs) r 0
+unfoldable pub layoutsFault : ℕ → List ℕ → ℕ
+layoutsFault zero xs = 0
+layoutsFault (suc n) xs = let r = orElse (recordFault 5 0 xs) (layoutsFault n (restIn xs)) in cond (isLayout xs) r 0
 
 -- the first fault of the front
 unfoldable pub frontFault : List ℕ → ℕ
@@ -237,7 +237,7 @@ frontFault xs =
     let s = settingsIn (lengthIn xs) (bodyIn xs) in
     orElse (recordFault 1 0 xs)
     (orElse (recordFault 2 (hopperCount s) (restIn xs))
-    (laidFault 8 (restIn (restIn xs))))
+    (layoutsFault 8 (restIn (restIn xs))))
 
 -- the first fault of an image: of the front, then of the tiles and the end
 unfoldable pub fault : List ℕ → ℕ

@@ -17,7 +17,7 @@ use Rattle.image_bytes.proofs.ByteLaws.{bytes-drop}
 use Rattle.floor.specs.declared.Settings.{Settings}
 use Rattle.floor.specs.Settings.{total}
 use Rattle.floor.specs.Memory.{zeroFloor}
-use Rattle.image.specs.Image.{settingsWidths, tileWidths, hopperCount, lengthIn, kindIn, bodyIn, restIn, settingsIn, isLayout, afterLayouts, byteWrong, settingsFaults, tileFaults, ownFaults, recordFault, orElse, endFault, tilesFault, laidFault, fault, answerBy, imageRefusal, imageAnswer, loadAnswer}
+use Rattle.image.specs.Image.{settingsWidths, tileWidths, hopperCount, lengthIn, kindIn, bodyIn, restIn, settingsIn, isLayout, afterLayouts, byteWrong, settingsFaults, tileFaults, ownFaults, recordFault, orElse, endFault, tilesFault, layoutsFault, fault, answerBy, imageRefusal, imageAnswer, loadAnswer}
 use Rattle.image.proofs.Records.{fault-records, whole, kind-take, le-take}
 use Rattle.image.proofs.Layouts.{layout-good, bothFault}
 use Rattle.image.proofs.LoadedWrites.{tile-good, end-good, counters-good, settings-good}
@@ -140,23 +140,23 @@ tiles-front (suc k) t n xs b room long = after 3 t (tilesFault k (suc t)) n xs b
         ih (omega (arith, g .few, g .long)) (rest-long n xs b (omega arith) long)
 
 -- at most j layouts, then c tiles
-laid-none : (j c : ℕ) (xs : List ℕ) → isLayout xs ≡ false → bothFault (suc j) c xs ≡ tilesFault c 0 xs
-unfolding laidFault afterLayouts
-laid-none j c xs e = rw e
+layouts-none : (j c : ℕ) (xs : List ℕ) → isLayout xs ≡ false → bothFault (suc j) c xs ≡ tilesFault c 0 xs
+unfolding layoutsFault afterLayouts
+layouts-none j c xs e = rw e
 
-laid-some : (j c : ℕ) (xs : List ℕ) → isLayout xs ≡ true → bothFault (suc j) c xs ≡ orElse (recordFault 5 0 xs) (bothFault j c (restIn xs))
-unfolding laidFault afterLayouts
-laid-some j c xs e = rw e (go (by-test (eqb (recordFault 5 0 xs) 0)))
+layouts-some : (j c : ℕ) (xs : List ℕ) → isLayout xs ≡ true → bothFault (suc j) c xs ≡ orElse (recordFault 5 0 xs) (bothFault j c (restIn xs))
+unfolding layoutsFault afterLayouts
+layouts-some j c xs e = rw e (go (by-test (eqb (recordFault 5 0 xs) 0)))
   where
     go : (eqb (recordFault 5 0 xs) 0 ≡ true) ⊎ (eqb (recordFault 5 0 xs) 0 ≡ false)
-        → orElse (orElse (recordFault 5 0 xs) (laidFault j (restIn xs))) (tilesFault c 0 (afterLayouts j (restIn xs))) ≡ orElse (recordFault 5 0 xs) (bothFault j c (restIn xs))
+        → orElse (orElse (recordFault 5 0 xs) (layoutsFault j (restIn xs))) (tilesFault c 0 (afterLayouts j (restIn xs))) ≡ orElse (recordFault 5 0 xs) (bothFault j c (restIn xs))
     go (inl q) = rw q
     go (inr q) = rw (q, q)
 
-laid-front : (j c n : ℕ) (xs : List ℕ) → Bytes xs → 20 * j + (138 * c + 65539) ≤ n → n < length xs → Decided (bothFault j c) n xs
-unfolding laidFault afterLayouts
-laid-front zero c n xs b room long = tiles-front c 0 n xs b (omega arith) long
-laid-front (suc j) c n xs b room long = go (by-test (isLayout xs)) (laid-front j c (n - (4 + lengthIn xs)) (restIn xs) (bytes-drop (4 + lengthIn xs) xs b))
+layouts-front : (j c n : ℕ) (xs : List ℕ) → Bytes xs → 20 * j + (138 * c + 65539) ≤ n → n < length xs → Decided (bothFault j c) n xs
+unfolding layoutsFault afterLayouts
+layouts-front zero c n xs b room long = tiles-front c 0 n xs b (omega arith) long
+layouts-front (suc j) c n xs b room long = go (by-test (isLayout xs)) (layouts-front j c (n - (4 + lengthIn xs)) (restIn xs) (bytes-drop (4 + lengthIn xs) xs b))
   where
     same : isLayout (take n xs) ≡ isLayout xs
     same = layout-front n xs b (omega arith) long
@@ -166,16 +166,16 @@ laid-front (suc j) c n xs b room long = go (by-test (isLayout xs)) (laid-front j
         → Decided (bothFault (suc j) c) n xs
     go (inl e) ih =
         let d = after 5 0 (bothFault j c) n xs b (omega arith) long (λ z. ih (omega (arith, layout-good xs (whole 5 0 xs z))) (rest-long n xs b (omega arith) long)) in
-        (laid-some j c (take n xs) (same ∙ e) ∙ d .0 ∙ sym (laid-some j c xs e), λ q. d .1 (sym (laid-some j c xs e) ∙ q))
+        (layouts-some j c (take n xs) (same ∙ e) ∙ d .0 ∙ sym (layouts-some j c xs e), λ q. d .1 (sym (layouts-some j c xs e) ∙ q))
     go (inr e) ih =
         let d = tiles-front c 0 n xs b (omega arith) long in
-        (laid-none j c (take n xs) (same ∙ e) ∙ d .0 ∙ sym (laid-none j c xs e), λ q. d .1 (sym (laid-none j c xs e) ∙ q))
+        (layouts-none j c (take n xs) (same ∙ e) ∙ d .0 ∙ sym (layouts-none j c xs e), λ q. d .1 (sym (layouts-none j c xs e) ∙ q))
 
 -- record 2, for h hoppers, and what comes after it
 counters-front : (h c n : ℕ) (xs : List ℕ) → Bytes xs → h ≤ 4 → 28 + (160 + (138 * c + 65539)) ≤ n → n < length xs → Decided (λ ys. orElse (recordFault 2 h ys) (bothFault 8 c (restIn ys))) n xs
 counters-front h c n xs b few room long =
     after 2 h (bothFault 8 c) n xs b (omega arith) long
-    (λ z. laid-front 8 c (n - (4 + lengthIn xs)) (restIn xs) (bytes-drop (4 + lengthIn xs) xs b) (omega (arith, counters-good h xs (whole 2 h xs z))) (rest-long n xs b (omega arith) long))
+    (λ z. layouts-front 8 c (n - (4 + lengthIn xs)) (restIn xs) (bytes-drop (4 + lengthIn xs) xs b) (omega (arith, counters-good h xs (whole 2 h xs z))) (rest-long n xs b (omega arith) long))
 
 -- ---- all records
 module _ (xs : List ℕ) (b : Bytes xs) (long : enough < length xs) where

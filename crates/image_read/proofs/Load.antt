@@ -21,13 +21,13 @@ use Rattle.floor.specs.Settings.{total, hoppersOf}
 use Rattle.floor.specs.Model.{TileState}
 use Rattle.floor.specs.Memory.{zeroCanister, zeroLayout, zeroFloor, unused, head, rows, layoutPlaces, build, pack}
 use Rattle.floor.proofs.Rows.{rows-filled}
-use Rattle.image.specs.Image.{hopperCount, tileWidths, lengthIn, bodyIn, restIn, settingsIn, countersIn, canisterIn, canistersIn, tileIn, tilesIn, layoutIn, layoutsIn, afterLayouts, modelIn, recordFault, orElse, tilesFault, laidFault, frontFault, fault, answerBy, allNamed, recordsRefusal, recordsAnswer}
+use Rattle.image.specs.Image.{hopperCount, tileWidths, lengthIn, bodyIn, restIn, settingsIn, countersIn, canisterIn, canistersIn, tileIn, tilesIn, layoutIn, layoutsIn, afterLayouts, modelIn, recordFault, orElse, tilesFault, layoutsFault, frontFault, fault, answerBy, allNamed, recordsRefusal, recordsAnswer}
 use Rattle.image.proofs.Records.{whole}
 use Rattle.image.proofs.Sizes.{headerLength, layoutLength, countersLength}
 use Rattle.image.proofs.LoadedWrites.{canisters-length, settings-good, counters-good}
 use Rattle.image_record_read.proofs.Refusals.{room-20}
 use Rattle.image.proofs.Read.{first-measured}
-use Rattle.image_record_read.specs.Scan.{Holds, layoutFrom, Laying, Starts}
+use Rattle.image_record_read.specs.Scan.{Holds, layoutFrom, LayoutsAt, Starts}
 use Rattle.image_record_read.specs.declared.Found.{Found}
 use Rattle.image_record_read.specs.declared.Scan.{Scan}
 use Rattle.image_record_read.proofs.Values.{layout-some}
@@ -98,7 +98,7 @@ module _ (xs : List ℕ) where
   unfolding frontFault
   front-2 z h = rw (z, ne-eqb (recordFault 2 (hopperCount settings) (restIn xs)) 0 h)
 
-  front-3 : recordFault 1 0 xs ≡ 0 → recordFault 2 (hopperCount settings) (restIn xs) ≡ 0 → frontFault xs ≡ laidFault 8 (restIn (restIn xs))
+  front-3 : recordFault 1 0 xs ≡ 0 → recordFault 2 (hopperCount settings) (restIn xs) ≡ 0 → frontFault xs ≡ layoutsFault 8 (restIn (restIn xs))
   unfolding frontFault
   front-3 z y = rw (z, y)
 
@@ -156,7 +156,7 @@ places-tab (suc m) (suc n) g =
     rw (lt-ltb 0 (suc n) (omega arith))
     (ap (λ (l : List Layout). g 0 ∷ l) (places-tab m n (λ k. g (suc k)) ∙ tab-same m _ _ (λ k h. ap (λ (b : Bool). cond b (g (suc k)) zeroLayout) (less-suc k n))))
 
-module _ (s : List ℕ) (from n : ℕ) (ls : List Layout) (L : Laying s from n ls) where
+module _ (s : List ℕ) (from n : ℕ) (ls : List Layout) (L : LayoutsAt s from n ls) where
   abbrev ys : List ℕ
   ys = drop from s
 
@@ -235,10 +235,10 @@ module _ {x : List ℕ} {a : Found} {u h : ℕ} {b : Found} (S : SecondRead x a 
     pub third-begins : headerLength + u + headerLength + w ≤ length x
     third-begins = omega (arith, n, record-room x (headerLength + u) 2 h (second-begins (S .first)) (S .sound))
 
-    pub front-is : (k : ℕ) → k ≡ laidFault 8 (drop (headerLength + u + headerLength + w) x) → k ≡ frontFault x
-    front-is k e = e ∙ ap (laidFault 8) rest-2 ∙ sym (front-3 x (S .first .sound) (sym (second-is (S .first)) ∙ S .sound))
+    pub front-is : (k : ℕ) → k ≡ layoutsFault 8 (drop (headerLength + u + headerLength + w) x) → k ≡ frontFault x
+    front-is k e = e ∙ ap (layoutsFault 8) rest-2 ∙ sym (front-3 x (S .first .sound) (sym (second-is (S .first)) ∙ S .sound))
 
-    pub front-read : (m : ℕ) (ls : List Layout) → Laying x (headerLength + u + headerLength + w) m ls
+    pub front-read : (m : ℕ) (ls : List Layout) → LayoutsAt x (headerLength + u + headerLength + w) m ls
         → FrontRead x record { settings = a .settings; counters = b .counters; layouts = ls; count = m; next = headerLength + u + headerLength + w + layoutLength * m; fault = 0 }
     unfolding modelIn
     front-read m ls L =

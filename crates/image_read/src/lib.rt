@@ -126,12 +126,12 @@ fn read_front(s: &[u8]) -> Front
     let counters = found.counters;
     let n2 = u16_at(s, second);
     let third = second + 4 + n2 as usize;
-    let laid = scan_layouts(s, third);
-    if laid.fault != 0 {
-        return no_front(laid.fault);
+    let found_layouts = scan_layouts(s, third);
+    if found_layouts.fault != 0 {
+        return no_front(found_layouts.fault);
     }
-    let layouts = laid.layouts;
-    let count = laid.count;
+    let layouts = found_layouts.layouts;
+    let count = found_layouts.count;
     Front {
         settings: settings,
         counters: counters,

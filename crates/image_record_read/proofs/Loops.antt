@@ -10,11 +10,11 @@ use lib.ListN.{length, take, drop, set, length-set}
 use Rattle.floor.specs.declared.Layout.{Layout}
 use Rattle.floor.specs.declared.Tile.{Tile}
 use Rattle.floor.specs.Layouts.{nameNumber}
-use Rattle.image.specs.Image.{tilesFault, recordFault, isLayout, laidFault}
+use Rattle.image.specs.Image.{tilesFault, recordFault, isLayout, layoutsFault}
 use Rattle.image.proofs.Sizes.{layoutLength}
-use Rattle.image_record_read.specs.Scan.{Starts, after, Holds, Laying}
+use Rattle.image_record_read.specs.Scan.{Starts, after, Holds, LayoutsAt}
 use Rattle.image_record_read.specs.declared.Found.{Found}
-use Rattle.image_record_read.proofs.Walk.{Tiled, Passed, Laid, after-more, laid-turn, passed-off, passed-on, passed-room, passed-stop, record-room, rest-at, start-at, starts-more, tiled-turn, tiles-on, tiles-stop}
+use Rattle.image_record_read.proofs.Walk.{Tiled, Passed, LayoutsFilled, after-more, layouts-turn, passed-off, passed-on, passed-room, passed-stop, record-room, rest-at, start-at, starts-more, tiled-turn, tiles-on, tiles-stop}
 use Rattle.laws.specs.Filled.{Upto, From}
 use Rattle.image_bytes.specs.Bytes.{le}
 
@@ -28,7 +28,7 @@ pub record LayoutsScanned (s : List ℕ) (from : ℕ) (layouts : List Layout) (a
   pub below : n ≤ 8
   pub reached : at ≡ from + layoutLength * n
   pub passed : Passed s from n
-  pub laid : Laid s from n layouts
+  pub layouts-filled : LayoutsFilled s from n layouts
 
 pub record TilesScanned (s : List ℕ) (from c : ℕ) (tiles : List Tile) (starts : List ℕ) (at t : ℕ) : Type 0 where
   pub below : t ≤ c
@@ -53,14 +53,14 @@ module _ {s : List ℕ} {from : ℕ} {layouts : List Layout} {at n : ℕ} (h : L
   here : isLayout (drop (from + layoutLength * n) s) ≡ b
   here = ap (λ (k : ℕ). isLayout (drop k s)) (sym (h .reached)) ∙ sym e
 
-  pub layouts-off : not b ≡ true → (0 ≡ laidFault 8 (drop from s)) × (_≡_ {A = ℕ} 0 0 → Laying s from n layouts)
-  layouts-off q = let r = passed-off s from n (h .passed) layouts (h .laid) (h .below) (here ∙ not-true b q) in (sym (r .0), λ z. r .1)
+  pub layouts-off : not b ≡ true → (0 ≡ layoutsFault 8 (drop from s)) × (_≡_ {A = ℕ} 0 0 → LayoutsAt s from n layouts)
+  layouts-off q = let r = passed-off s from n (h .passed) layouts (h .layouts-filled) (h .below) (here ∙ not-true b q) in (sym (r .0), λ z. r .1)
 
   module _ (q : not b ≡ false) (l : n < 8) (r : Found) (f : r .fault ≡ recordFault 5 0 (drop at s)) where
     fault-here : r .fault ≡ recordFault 5 0 (drop (from + layoutLength * n) s)
     fault-here = f ∙ ap (λ (k : ℕ). recordFault 5 0 (drop k s)) (h .reached)
 
-    pub layout-stop : r .fault ≢ 0 → r .fault ≡ laidFault 8 (drop from s)
+    pub layout-stop : r .fault ≢ 0 → r .fault ≡ layoutsFault 8 (drop from s)
     layout-stop o = fault-here ∙ passed-stop s from n (h .passed) l (here ∙ not-false b q) (λ z. o (fault-here ∙ z))
 
     pub layout-room : r .fault ≡ 0 → at + layoutLength ≤ length s
@@ -71,7 +71,7 @@ module _ {s : List ℕ} {from : ℕ} {layouts : List Layout} {at n : ℕ} (h : L
       below = omega arith;
       reached = omega (arith, h .reached);
       passed = passed-on s from n (h .passed) l (here ∙ not-false b q) (sym fault-here ∙ z);
-      laid = laid-turn s from n at layouts (r .layout) l (h .reached) (H .layout refl) (h .laid);
+      layouts-filled = layouts-turn s from n at layouts (r .layout) l (h .reached) (H .layout refl) (h .layouts-filled);
     }
 
 -- a turn over the tiles: a record that is refused, and one more tile

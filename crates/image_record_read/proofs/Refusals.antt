@@ -234,10 +234,10 @@ module _ (s : List ℕ) (at n t : ℕ) where
     tile-right e m w = rw (tile-tests r h, eq-eqb (getD s at 0) t e, le-ltb 16 (getD s (at + 5) 0) m, eq-eqb n (6 + 8 * getD s (at + 5) 0) w)
 
 -- ---- a record of any kind
-abbrev Told : ℕ → ℕ → List ℕ → Found → Type 0
-Told due t xs r = (r .fault ≡ recordFault due t xs) × (r .fault ≡ 0 → Holds due t xs r)
+abbrev RecordRead : ℕ → ℕ → List ℕ → Found → Type 0
+RecordRead due t xs r = (r .fault ≡ recordFault due t xs) × (r .fault ≡ 0 → Holds due t xs r)
 
-refused : {k : ℕ} (due t : ℕ) (xs : List ℕ) (r : Found) → k ≢ 0 → r .fault ≡ k → k ≡ recordFault due t xs → Told due t xs r
+refused : {k : ℕ} (due t : ℕ) (xs : List ℕ) (r : Found) → k ≢ 0 → r .fault ≡ k → k ≡ recordFault due t xs → RecordRead due t xs r
 refused due t xs r n e q = (e ∙ q, λ z. absurd (n (sym e ∙ z)))
 
 module _ (s : List ℕ) (at due t : ℕ) (r : Found) where
@@ -245,10 +245,10 @@ module _ (s : List ℕ) (at due t : ℕ) (r : Found) where
   unfolding refusal recordFault
   cut k = rw (lt-ltb (length (drop at s)) (4 + lengthIn (drop at s)) k)
 
-  pub record-bare : at ≤ length s → length s - at < 4 → r .fault ≡ 9 → Told due t (drop at s) r
+  pub record-bare : at ≤ length s → length s - at < 4 → r .fault ≡ 9 → RecordRead due t (drop at s) r
   record-bare l h e = refused due t (drop at s) r (omega arith) e (cut (rw length-drop (omega arith)))
 
-  pub record-cut : (n : ℕ) → n ≡ le 2 (drop at s) → at + 4 ≤ length s → length s - at - 4 < n → r .fault ≡ 9 → Told due t (drop at s) r
+  pub record-cut : (n : ℕ) → n ≡ le 2 (drop at s) → at + 4 ≤ length s → length s - at - 4 < n → r .fault ≡ 9 → RecordRead due t (drop at s) r
   record-cut n q l h e = refused due t (drop at s) r (omega arith) e (cut (rw length-drop (omega arith)))
 
 -- its first four bytes were read: n the length of its body, k its kind
@@ -267,12 +267,12 @@ module _ {s : List ℕ} {at n k : ℕ} (h : Headed s at n k) (due t : ℕ) (r : 
   enough : ltb (length xs) (4 + lengthIn xs) ≡ false
   enough = let k : 4 + lengthIn xs ≤ length xs = rw length-drop (omega (arith, h .long)) in le-ltb (length xs) (4 + lengthIn xs) k
 
-  pub record-other : k ≢ due → r .fault ≡ 10 → Told due t xs r
+  pub record-other : k ≢ due → r .fault ≡ 10 → RecordRead due t xs r
   unfolding refusal recordFault
   record-other o e = refused due t xs r (omega arith) e (rw (enough, drop-drop 2 at s, ← h .kind, ne-eqb k due o))
 
   -- kind m came where another was due
-  pub record-not : (m : ℕ) → k ≡ m → due ≢ m → r .fault ≡ 10 → Told due t xs r
+  pub record-not : (m : ℕ) → k ≡ m → due ≢ m → r .fault ≡ 10 → RecordRead due t xs r
   record-not m q o e = record-other (λ d. o (sym d ∙ q)) e
 
   own : k ≡ due → refusal (ownFaults due t n b) ≡ recordFault due t xs
@@ -282,7 +282,7 @@ module _ {s : List ℕ} {at n k : ℕ} (h : Headed s at n k) (due t : ℕ) (r : 
   body : b ≡ drop 4 xs
   body = sym (drop-drop 4 at s)
 
-  pub record-1 : k ≡ 1 → due ≡ 1 → (r .fault ≡ refusal (settingsFaults n b)) × (r .fault ≡ 0 → r .settings ≡ settingsIn n b) → Told due t xs r
+  pub record-1 : k ≡ 1 → due ≡ 1 → (r .fault ≡ refusal (settingsFaults n b)) × (r .fault ≡ 0 → r .settings ≡ settingsIn n b) → RecordRead due t xs r
   unfolding ownFaults
   record-1 e d p =
       let same : refusal (settingsFaults n b) ≡ refusal (ownFaults due t n b) = rw d in (
@@ -290,7 +290,7 @@ module _ {s : List ℕ} {at n k : ℕ} (h : Headed s at n k) (due t : ℕ) (r : 
         λ z. record { settings = λ k. p .1 z ∙ rw (body, h .long); counters = λ k. absurd (omega arith); tile = λ k. absurd (omega arith); layout = λ k. absurd (omega arith) },
       )
 
-  pub record-2 : k ≡ 2 → due ≡ 2 → (r .fault ≡ refusal (countersFaults t n)) × (r .fault ≡ 0 → r .counters ≡ countersIn t b) → Told due t xs r
+  pub record-2 : k ≡ 2 → due ≡ 2 → (r .fault ≡ refusal (countersFaults t n)) × (r .fault ≡ 0 → r .counters ≡ countersIn t b) → RecordRead due t xs r
   unfolding ownFaults
   record-2 e d p =
       let same : refusal (countersFaults t n) ≡ refusal (ownFaults due t n b) = rw d in (
@@ -298,7 +298,7 @@ module _ {s : List ℕ} {at n k : ℕ} (h : Headed s at n k) (due t : ℕ) (r : 
         λ z. record { settings = λ k. absurd (omega arith); counters = λ k. p .1 z ∙ rw body; tile = λ k. absurd (omega arith); layout = λ k. absurd (omega arith) },
       )
 
-  pub record-3 : k ≡ 3 → due ≡ 3 → (r .fault ≡ refusal (tileFaults t n b)) × (r .fault ≡ 0 → r .tile ≡ head (tileIn b)) → Told due t xs r
+  pub record-3 : k ≡ 3 → due ≡ 3 → (r .fault ≡ refusal (tileFaults t n b)) × (r .fault ≡ 0 → r .tile ≡ head (tileIn b)) → RecordRead due t xs r
   unfolding ownFaults
   record-3 e d p =
       let same : refusal (tileFaults t n b) ≡ refusal (ownFaults due t n b) = rw d in (
@@ -306,7 +306,7 @@ module _ {s : List ℕ} {at n k : ℕ} (h : Headed s at n k) (due t : ℕ) (r : 
         λ z. record { settings = λ k. absurd (omega arith); counters = λ k. absurd (omega arith); tile = λ k. p .1 z ∙ rw body; layout = λ k. absurd (omega arith) },
       )
 
-  pub record-4 : k ≡ 4 → due ≡ 4 → r .fault ≡ refusal (endFaults n) → Told due t xs r
+  pub record-4 : k ≡ 4 → due ≡ 4 → r .fault ≡ refusal (endFaults n) → RecordRead due t xs r
   unfolding ownFaults
   record-4 e d p =
       let same : refusal (endFaults n) ≡ refusal (ownFaults due t n b) = rw d in (
@@ -314,7 +314,7 @@ module _ {s : List ℕ} {at n k : ℕ} (h : Headed s at n k) (due t : ℕ) (r : 
         λ z. record { settings = λ k. absurd (omega arith); counters = λ k. absurd (omega arith); tile = λ k. absurd (omega arith); layout = λ k. absurd (omega arith) },
       )
 
-  pub record-5 : k ≡ 5 → due ≡ 5 → (r .fault ≡ refusal (layoutFaults n)) × (r .fault ≡ 0 → r .layout ≡ layoutIn b) → Told due t xs r
+  pub record-5 : k ≡ 5 → due ≡ 5 → (r .fault ≡ refusal (layoutFaults n)) × (r .fault ≡ 0 → r .layout ≡ layoutIn b) → RecordRead due t xs r
   unfolding ownFaults
   record-5 e d p =
       let same : refusal (layoutFaults n) ≡ refusal (ownFaults due t n b) = rw d in (

@@ -18,13 +18,13 @@ use Rattle.image_bytes.specs.Bytes.{le, field}
 use Rattle.floor.specs.declared.Layout.{Layout}
 use Rattle.floor.specs.declared.Tile.{Tile}
 use Rattle.floor.specs.Memory.{zeroTile, zeroLayout, unused, head}
-use Rattle.image.specs.Image.{tileWidths, lengthIn, bodyIn, restIn, tileIn, tilesIn, layoutIn, isLayout, layoutsIn, afterLayouts, recordFault, endFault, tilesFault, laidFault}
+use Rattle.image.specs.Image.{tileWidths, lengthIn, bodyIn, restIn, tileIn, tilesIn, layoutIn, isLayout, layoutsIn, afterLayouts, recordFault, endFault, tilesFault, layoutsFault}
 use Rattle.image.proofs.Records.{whole}
 use Rattle.image.proofs.Sizes.{headerLength, layoutLength}
 use Rattle.image.proofs.LoadedWrites.{tile-good}
 use Rattle.image.proofs.Layouts.{layout-good}
 use Rattle.image.proofs.Read.{tiles-length}
-use Rattle.image_record_read.specs.Scan.{layoutFrom, Laying, after, Start, Starts}
+use Rattle.image_record_read.specs.Scan.{layoutFrom, LayoutsAt, after, Start, Starts}
 use Rattle.image_record_read.proofs.Values.{layout-some, layout-none}
 
 -- ---- the refusal that is left to find
@@ -130,25 +130,25 @@ module _ (s : List ℕ) (from : ℕ) where
   abbrev pub layoutAt : ℕ → Layout
   layoutAt k = layoutIn (drop (from + headerLength + layoutLength * k) s)
 
-  abbrev pub Laid : ℕ → List Layout → Type 0
-  Laid n out = Filled 8 layoutAt zeroLayout n out
+  abbrev pub LayoutsFilled : ℕ → List Layout → Type 0
+  LayoutsFilled n out = Filled 8 layoutAt zeroLayout n out
 
-  laid-all : (n : ℕ) (out : List Layout) → Laid n out → out ≡ tab 8 (layoutFrom s from n)
-  laid-all n out p = filled 8 (layoutFrom s from n) zeroLayout out (p .0) (λ i h. go i (decLe (suc i) n))
+  layouts-all : (n : ℕ) (out : List Layout) → LayoutsFilled n out → out ≡ tab 8 (layoutFrom s from n)
+  layouts-all n out p = filled 8 (layoutFrom s from n) zeroLayout out (p .0) (λ i h. go i (decLe (suc i) n))
     where
       go : (i : ℕ) → Dec (i < n) → getD out i zeroLayout ≡ layoutFrom s from n i
       go i (yes a) = p .1 i a ∙ layout-some s from n i a
       go i (no a) = p .2 i (omega arith) ∙ layout-none s from n i (omega arith)
 
-  pub laid-turn : (n at : ℕ) (out : List Layout) (v : Layout) → n < 8 → at ≡ from + layoutLength * n → v ≡ layoutIn (bodyIn (drop at s)) → Laid n out → Laid (n + 1) (set out n v)
-  laid-turn n at out v h e q p =
+  pub layouts-turn : (n at : ℕ) (out : List Layout) (v : Layout) → n < 8 → at ≡ from + layoutLength * n → v ≡ layoutIn (bodyIn (drop at s)) → LayoutsFilled n out → LayoutsFilled (n + 1) (set out n v)
+  layouts-turn n at out v h e q p =
       let k : at + headerLength ≡ from + headerLength + layoutLength * n = omega arith in
       filled-turn 8 layoutAt zeroLayout n out v h (q ∙ ap (λ (l : List ℕ). layoutIn l) (drop-drop 4 at s ∙ ap (λ (j : ℕ). drop j s) k)) p
 
 -- ---- the layouts: n were passed, and the next one would stand after them
 pub record Passed (s : List ℕ) (from n : ℕ) : Type 0 where
   pub room : from + layoutLength * n ≤ length s
-  pub faults : laidFault (8 - n) (drop (from + layoutLength * n) s) ≡ laidFault 8 (drop from s)
+  pub faults : layoutsFault (8 - n) (drop (from + layoutLength * n) s) ≡ layoutsFault 8 (drop from s)
   pub values : layoutsIn 8 (drop from s) ≡ tab n (λ k. layoutIn (drop (from + headerLength + layoutLength * k) s)) ++ layoutsIn (8 - n) (drop (from + layoutLength * n) s)
   pub rest : afterLayouts (8 - n) (drop (from + layoutLength * n) s) ≡ afterLayouts 8 (drop from s)
 
@@ -163,12 +163,12 @@ tab-last (suc n) g = ap (λ l. g 0 ∷ l) (tab-last n (λ k. g (suc k)))
 
 -- one more record, or the end of them
 module _ (n : ℕ) (xs : List ℕ) where
-  faults-on : isLayout xs ≡ true → recordFault 5 0 xs ≡ 0 → laidFault (suc n) xs ≡ laidFault n (restIn xs)
-  unfolding laidFault
+  faults-on : isLayout xs ≡ true → recordFault 5 0 xs ≡ 0 → layoutsFault (suc n) xs ≡ layoutsFault n (restIn xs)
+  unfolding layoutsFault
   faults-on e z = rw (e, z)
 
-  faults-stop : isLayout xs ≡ true → recordFault 5 0 xs ≢ 0 → laidFault (suc n) xs ≡ recordFault 5 0 xs
-  unfolding laidFault
+  faults-stop : isLayout xs ≡ true → recordFault 5 0 xs ≢ 0 → layoutsFault (suc n) xs ≡ recordFault 5 0 xs
+  unfolding layoutsFault
   faults-stop e z = rw (e, ne-eqb (recordFault 5 0 xs) 0 z)
 
   values-on : isLayout xs ≡ true → layoutsIn (suc n) xs ≡ layoutIn (bodyIn xs) ∷ layoutsIn n (restIn xs)
@@ -180,36 +180,36 @@ module _ (n : ℕ) (xs : List ℕ) where
   rest-on e = rw e
 
 record Ends (n : ℕ) (xs : List ℕ) : Type 0 where
-  faults : laidFault n xs ≡ 0
+  faults : layoutsFault n xs ≡ 0
   values : layoutsIn n xs ≡ []
   rest : afterLayouts n xs ≡ xs
 
 ends-off : (n : ℕ) (xs : List ℕ) → isLayout xs ≡ false → Ends n xs
-unfolding laidFault layoutsIn afterLayouts
+unfolding layoutsFault layoutsIn afterLayouts
 ends-off zero xs e = record { faults = refl; values = refl; rest = refl }
 ends-off (suc n) xs e = record { faults = rw e; values = rw e; rest = rw e }
 
 ends-zero : (xs : List ℕ) → Ends 0 xs
-unfolding laidFault layoutsIn afterLayouts
+unfolding layoutsFault layoutsIn afterLayouts
 ends-zero xs = record { faults = refl; values = refl; rest = refl }
 
 module _ (s : List ℕ) (from n : ℕ) (P : Passed s from n) where
   abbrev here : List ℕ
   here = drop (from + layoutLength * n) s
 
-  pub passed-stop : n < 8 → isLayout here ≡ true → recordFault 5 0 here ≢ 0 → recordFault 5 0 here ≡ laidFault 8 (drop from s)
-  passed-stop h e z = sym (faults-stop (8 - (n + 1)) here e z) ∙ ap (λ (k : ℕ). laidFault k here) (sym (less 8 n h)) ∙ P .faults
+  pub passed-stop : n < 8 → isLayout here ≡ true → recordFault 5 0 here ≢ 0 → recordFault 5 0 here ≡ layoutsFault 8 (drop from s)
+  passed-stop h e z = sym (faults-stop (8 - (n + 1)) here e z) ∙ ap (λ (k : ℕ). layoutsFault k here) (sym (less 8 n h)) ∙ P .faults
 
-  passed-end : (out : List Layout) → Laid s from n out → n ≤ 8 → Ends (8 - n) here → (laidFault 8 (drop from s) ≡ 0) × Laying s from n out
+  passed-end : (out : List Layout) → LayoutsFilled s from n out → n ≤ 8 → Ends (8 - n) here → (layoutsFault 8 (drop from s) ≡ 0) × LayoutsAt s from n out
   passed-end out p h E = (
     sym (P .faults) ∙ E .faults,
-    record { few = h; room = P .room; values = P .values ∙ rw (E .values) (append-nil (tab n (λ k. layoutIn (drop (from + headerLength + layoutLength * k) s)))); rest = sym (P .rest) ∙ E .rest; places = laid-all s from n out p },
+    record { few = h; room = P .room; values = P .values ∙ rw (E .values) (append-nil (tab n (λ k. layoutIn (drop (from + headerLength + layoutLength * k) s)))); rest = sym (P .rest) ∙ E .rest; places = layouts-all s from n out p },
   )
 
-  pub passed-off : (out : List Layout) → Laid s from n out → n ≤ 8 → isLayout here ≡ false → (laidFault 8 (drop from s) ≡ 0) × Laying s from n out
+  pub passed-off : (out : List Layout) → LayoutsFilled s from n out → n ≤ 8 → isLayout here ≡ false → (layoutsFault 8 (drop from s) ≡ 0) × LayoutsAt s from n out
   passed-off out p h e = passed-end out p h (ends-off (8 - n) here e)
 
-  pub passed-all : (out : List Layout) → Laid s from n out → n ≡ 8 → (laidFault 8 (drop from s) ≡ 0) × Laying s from n out
+  pub passed-all : (out : List Layout) → LayoutsFilled s from n out → n ≡ 8 → (layoutsFault 8 (drop from s) ≡ 0) × LayoutsAt s from n out
   passed-all out p h = let z : 8 - n ≡ 0 = omega arith in passed-end out p (omega arith) (rw z (ends-zero here))
 
   pub passed-room : recordFault 5 0 here ≡ 0 → from + layoutLength * n + layoutLength ≤ length s
@@ -229,7 +229,7 @@ module _ (s : List ℕ) (from n : ℕ) (P : Passed s from n) where
       let v : layoutsIn (8 - n) here ≡ g n ∷ layoutsIn (8 - (n + 1)) (drop (from + layoutLength * (n + 1)) s) = rw (l, values-on (8 - (n + 1)) here e, b, r) in
       record {
         room = omega (arith, passed-room z);
-        faults = rw (← r) (sym (faults-on (8 - (n + 1)) here e z) ∙ ap (λ (k : ℕ). laidFault k here) (sym l) ∙ P .faults);
+        faults = rw (← r) (sym (faults-on (8 - (n + 1)) here e z) ∙ ap (λ (k : ℕ). layoutsFault k here) (sym l) ∙ P .faults);
         values = P .values ∙ rw (v, add-one n, tab-last n g) (sym (append-assoc (tab n g) (g n ∷ []) (layoutsIn (8 - suc n) (drop (from + layoutLength * suc n) s))));
         rest = rw (← r) (sym (rest-on (8 - (n + 1)) here e) ∙ ap (λ (k : ℕ). afterLayouts k here) (sym l) ∙ P .rest);
       }

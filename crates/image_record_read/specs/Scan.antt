@@ -24,7 +24,7 @@ unfoldable pub layoutFrom : List ℕ → ℕ → ℕ → ℕ → Layout
 layoutFrom s from n k = cond (ltb k n) (layoutIn (drop (from + 4 + 20 * k) s)) zeroLayout
 
 -- n records of layouts stand in s from `from` on, twenty bytes each; `out` are the eight places in memory
-pub record Laying (s : List ℕ) (from n : ℕ) (out : List Layout) : Type 0 where
+pub record LayoutsAt (s : List ℕ) (from n : ℕ) (out : List Layout) : Type 0 where
   pub few : n ≤ 8
   pub room : from + 20 * n ≤ length s
   pub values : layoutsIn 8 (drop from s) ≡ tab n (λ k. layoutIn (drop (from + 4 + 20 * k) s))

@@ -10,8 +10,8 @@ ghost use Rattle.laws.specs.Define.{tab, refusal};
 ghost use Rattle.floor.specs.Layouts.{nameNumber};
 ghost use Rattle.floor.specs.Memory.{unused, head};
 ghost use Rattle.image.specs.Image as I;
-ghost use Rattle.image.specs.Image.{settingsIn, countersIn, tileIn, tilesIn, layoutIn, settingsFaults, countersFaults, tileFaults, layoutFaults, endFaults, recordFault, endFault, isLayout, laidFault, tilesFault};
-ghost use Rattle.image_record_read.specs.Scan.{Holds, Laying, Starts};
+ghost use Rattle.image.specs.Image.{settingsIn, countersIn, tileIn, tilesIn, layoutIn, settingsFaults, countersFaults, tileFaults, layoutFaults, endFaults, recordFault, endFault, isLayout, layoutsFault, tilesFault};
+ghost use Rattle.image_record_read.specs.Scan.{Holds, LayoutsAt, Starts};
 use check_settings::settings_refusal;
 use check_settings::sizes_wrong;
 use floor::Counters;
@@ -45,7 +45,7 @@ pub struct Scan {
 
 // What a scan of the layouts' records finds: the first refusal, 0 where there is none, the eight places, and how many
 // records there are, twenty bytes each.
-pub struct Laid {
+pub struct LayoutScan {
     pub layouts: [Layout; 8],
     pub count: usize,
     pub fault: u8,
@@ -315,9 +315,9 @@ fn is_layout(s: &[u8], at: usize) -> bool
 }
 
 // The records of the layouts from `from` on, at most eight.
-pub fn scan_layouts(s: &[u8], from: usize) -> Laid
+pub fn scan_layouts(s: &[u8], from: usize) -> LayoutScan
     requires { ⌜ from ≤ length (now s) ⌝ }
-    ensures { λ r. ⌜ (r .fault ≡ laidFault 8 (drop from (now (s .entry)))) × (r .fault ≡ 0 → Laying (now (s .entry)) from (r .count) (r .layouts)) ⌝ }
+    ensures { λ r. ⌜ (r .fault ≡ layoutsFault 8 (drop from (now (s .entry)))) × (r .fault ≡ 0 → LayoutsAt (now (s .entry)) from (r .count) (r .layouts)) ⌝ }
 {
     let mut layouts = [Layout::ZERO; 8];
     let mut at = from;
@@ -325,7 +325,7 @@ pub fn scan_layouts(s: &[u8], from: usize) -> Laid
     while n < 8 {
         let here = is_layout(s, at);
         if !here {
-            return Laid {
+            return LayoutScan {
                 layouts: layouts,
                 count: n,
                 fault: 0,
@@ -333,7 +333,7 @@ pub fn scan_layouts(s: &[u8], from: usize) -> Laid
         }
         let r = read_record(s, at, 5, 0);
         if r.fault != 0 {
-            return Laid {
+            return LayoutScan {
                 layouts: layouts,
                 count: n,
                 fault: r.fault,
@@ -344,7 +344,7 @@ pub fn scan_layouts(s: &[u8], from: usize) -> Laid
         at = at + 20;
         n = n + 1;
     }
-    Laid {
+    LayoutScan {
         layouts: layouts,
         count: n,
         fault: 0,

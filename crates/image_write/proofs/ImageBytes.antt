@@ -273,18 +273,18 @@ write-put {f} {n} {h} {b} r b1 b2 b3 front end e2 e3 p q u =
     (omega (arith, r .fits, r .long, pair-length 0 4)) (omega arith) (omega arith) p q u)
 
 -- what image_length knows of a floor f: n tiles, h hoppers, how long record 1 is, and how many layouts there are
-pub record Parts (f : Floor) (n h first laid : ℕ) : Type 0 where
+pub record Parts (f : Floor) (n h first filled : ℕ) : Type 0 where
   pub well : wellFormed f ≡ true
   pub tiles : n ≡ total (f .settings)
   pub hoppers : h ≡ hopperCount (f .settings)
   pub four : h ≤ 4
   pub first-long : first ≡ headerLength + length (settingsBody (f .settings))
   pub first-small : first ≤ 32
-  pub used : laid ≡ length (usedLayouts (f .layouts))
-  pub eight : laid ≤ 8
+  pub used : filled ≡ length (usedLayouts (f .layouts))
+  pub eight : filled ≤ 8
 
-pub parts-of : (f : Floor) (n h first laid : ℕ) → wellFormed f ≡ true → n ≡ total (f .settings) → h ≡ length (bitsBelow (f .settings .hoppers) 64) → first ≡ cond (ltb 1 h) 32 24 → (laid ≡ length (usedLayouts (f .layouts))) × (laid ≤ 8) → Parts f n h first laid
-parts-of f n h first laid w e k r u =
+pub parts-of : (f : Floor) (n h first filled : ℕ) → wellFormed f ≡ true → n ≡ total (f .settings) → h ≡ length (bitsBelow (f .settings .hoppers) 64) → first ≡ cond (ltb 1 h) 32 24 → (filled ≡ length (usedLayouts (f .layouts))) × (filled ≤ 8) → Parts f n h first filled
+parts-of f n h first filled w e k r u =
     let he = hoppers-are f w h k in
     record {
       well = w;

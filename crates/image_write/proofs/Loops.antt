@@ -22,11 +22,11 @@ pub record LayoutsCounted (all : List Layout) (k : ℕ) : Type 0 where
   pub all-length : length all ≡ 8
   pub counted : length (usedLayouts all) ≡ k + length (usedLayouts (drop k all))
 
-pub record TilesMeasured (tiles : List Tile) (c h first laid n t : ℕ) : Type 0 where
+pub record TilesMeasured (tiles : List Tile) (c h first filled n t : ℕ) : Type 0 where
   pub below : t ≤ c
   pub few : c ≤ 64
   pub tiles-length : length tiles ≡ 64
-  pub reached : n ≡ first + 16 + 4 * h + layoutLength * laid + headsSize tiles t
+  pub reached : n ≡ first + 16 + 4 * h + layoutLength * filled + headsSize tiles t
   pub small : n ≤ 224 + 138 * t
   pub counts-small : (u : ℕ) → u < c → countAt tiles u ≤ 16
 

@@ -24,7 +24,7 @@ use image_record_write::put_tile;
 use sets::size;
 
 // How many of the eight places hold a layout.
-fn laid_out(all: [Layout; 8]) -> usize
+fn layout_count(all: [Layout; 8]) -> usize
     ensures { λ r. ⌜ (r ≡ length (usedLayouts all)) × (r ≤ 8) ⌝ }
 {
     let mut k = 0usize;
@@ -93,9 +93,9 @@ fn put_front(s: &mut [u8], x: Settings, y: Counters, all: [Layout; 8], h: u8) ->
     put_settings(s, 0, x, 1 < h);
     put_counters(s, second, y, h);
     let third = second + 12 + 4 * (h as usize);
-    let laid = laid_out(all);
-    put_layouts(s, third, all, laid);
-    third + 20 * laid
+    let filled = layout_count(all);
+    put_layouts(s, third, all, filled);
+    third + 20 * filled
 }
 
 // The length of a well-formed floor's image.
@@ -109,8 +109,8 @@ pub fn image_length(f: Floor) -> u32
     let h = size(settings.hoppers);
     let first = first_length(h);
     let layouts = f.layouts;
-    let laid = laid_out(layouts);
-    let mut n = first as u32 + 16 + 4 * (h as u32) + 20 * (laid as u32);
+    let filled = layout_count(layouts);
+    let mut n = first as u32 + 16 + 4 * (h as u32) + 20 * (filled as u32);
     let mut t = 0usize;
     while t < c {
         let head = tiles[t];

@@ -9,7 +9,7 @@ use native.Mathlib.Omega.{arith}
 use native.Mathlib.Decide.{decLe, ℕ-discrete}
 use lib.Dec.{eqb}
 use lib.ListN.{length, getD}
-use Rattle.laws.specs.Define.{cat, allOf, keep, sum}
+use Rattle.laws.specs.Define.{cat, allOf, filter, sum}
 use Rattle.laws.specs.Every.{All, Pairs}
 use Rattle.laws.proofs.Tests.{and-left, and-right, and-true}
 
@@ -111,51 +111,51 @@ all-both P Q [] p q = tt
 all-both P Q (x ∷ l) p q = ((p .0, q .0), all-both P Q l (p .1) (q .1))
 
 -- ---- a filter by a test, and its two halves
-pub all-keep : {A : Type 0} (P : A → Type 0) (p : A → Bool) (l : List A) → All P l → All (λ x. P x × (p x ≡ true)) (keep p l)
-unfolding keep
-all-keep P p [] h = tt
-all-keep P p (x ∷ l) h = go (p x) refl (all-keep P p l (h .1))
+pub all-filter : {A : Type 0} (P : A → Type 0) (p : A → Bool) (l : List A) → All P l → All (λ x. P x × (p x ≡ true)) (filter p l)
+unfolding filter
+all-filter P p [] h = tt
+all-filter P p (x ∷ l) h = go (p x) refl (all-filter P p l (h .1))
   where
-    go : (b : Bool) → p x ≡ b → All (λ x. P x × (p x ≡ true)) (keep p l) → All (λ x. P x × (p x ≡ true)) (cond b (x ∷ keep p l) (keep p l))
+    go : (b : Bool) → p x ≡ b → All (λ x. P x × (p x ≡ true)) (filter p l) → All (λ x. P x × (p x ≡ true)) (cond b (x ∷ filter p l) (filter p l))
     go true e ih = ((h .0, e), ih)
     go false e ih = ih
 
-pub pairs-keep : {A : Type 0} (R : A → A → Type 0) (p : A → Bool) (l : List A) → Pairs R l → Pairs R (keep p l)
-unfolding keep
-pairs-keep R p [] h = tt
-pairs-keep R p (x ∷ l) h = go (p x) (pairs-keep R p l (h .1))
+pub pairs-filter : {A : Type 0} (R : A → A → Type 0) (p : A → Bool) (l : List A) → Pairs R l → Pairs R (filter p l)
+unfolding filter
+pairs-filter R p [] h = tt
+pairs-filter R p (x ∷ l) h = go (p x) (pairs-filter R p l (h .1))
   where
-    go : (b : Bool) → Pairs R (keep p l) → Pairs R (cond b (x ∷ keep p l) (keep p l))
-    go true ih = (all-imp (λ y. R x y × (p y ≡ true)) (R x) (keep p l) (λ y r. r .0) (all-keep (R x) p l (h .0)), ih)
+    go : (b : Bool) → Pairs R (filter p l) → Pairs R (cond b (x ∷ filter p l) (filter p l))
+    go true ih = (all-imp (λ y. R x y × (p y ≡ true)) (R x) (filter p l) (λ y r. r .0) (all-filter (R x) p l (h .0)), ih)
     go false ih = ih
 
-pub keep-all : {A : Type 0} (p : A → Bool) (l : List A) → All (λ x. p x ≡ true) l → keep p l ≡ l
-unfolding keep
-keep-all p [] h = refl
-keep-all {A} p (x ∷ l) h = rw (h .0) (ap (λ (r : List A). x ∷ r) (keep-all p l (h .1)))
+pub filter-all : {A : Type 0} (p : A → Bool) (l : List A) → All (λ x. p x ≡ true) l → filter p l ≡ l
+unfolding filter
+filter-all p [] h = refl
+filter-all {A} p (x ∷ l) h = rw (h .0) (ap (λ (r : List A). x ∷ r) (filter-all p l (h .1)))
 
-pub keep-none : {A : Type 0} (p : A → Bool) (l : List A) → All (λ x. p x ≡ false) l → keep p l ≡ []
-unfolding keep
-keep-none p [] h = refl
-keep-none p (x ∷ l) h = rw (h .0) (keep-none p l (h .1))
+pub filter-none : {A : Type 0} (p : A → Bool) (l : List A) → All (λ x. p x ≡ false) l → filter p l ≡ []
+unfolding filter
+filter-none p [] h = refl
+filter-none p (x ∷ l) h = rw (h .0) (filter-none p l (h .1))
 
-pub keep-append : {A : Type 0} (p : A → Bool) (l k : List A) → keep p (l ++ k) ≡ keep p l ++ keep p k
-unfolding keep
-keep-append p [] k = refl
-keep-append {A} p (x ∷ l) k = go (p x) (keep-append p l k)
+pub filter-append : {A : Type 0} (p : A → Bool) (l k : List A) → filter p (l ++ k) ≡ filter p l ++ filter p k
+unfolding filter
+filter-append p [] k = refl
+filter-append {A} p (x ∷ l) k = go (p x) (filter-append p l k)
   where
-    go : (b : Bool) → keep p (l ++ k) ≡ keep p l ++ keep p k → cond b (x ∷ keep p (l ++ k)) (keep p (l ++ k)) ≡ cond b (x ∷ keep p l) (keep p l) ++ keep p k
+    go : (b : Bool) → filter p (l ++ k) ≡ filter p l ++ filter p k → cond b (x ∷ filter p (l ++ k)) (filter p (l ++ k)) ≡ cond b (x ∷ filter p l) (filter p l) ++ filter p k
     go true ih = ap (λ (r : List A). x ∷ r) ih
     go false ih = ih
 
-pub keep-split : {A : Type 0} (p : A → Bool) (l : List A) → List·Permᴰ l (keep (λ x. not (p x)) l ++ keep p l)
-unfolding keep
-keep-split p [] = List·Permᴰ·nil
-keep-split p (x ∷ l) = go (p x) (keep-split p l)
+pub filter-split : {A : Type 0} (p : A → Bool) (l : List A) → List·Permᴰ l (filter (λ x. not (p x)) l ++ filter p l)
+unfolding filter
+filter-split p [] = List·Permᴰ·nil
+filter-split p (x ∷ l) = go (p x) (filter-split p l)
   where
-    go : (b : Bool) → List·Permᴰ l (keep (λ x. not (p x)) l ++ keep p l)
-        → List·Permᴰ (x ∷ l) (cond (not b) (x ∷ keep (λ x. not (p x)) l) (keep (λ x. not (p x)) l) ++ cond b (x ∷ keep p l) (keep p l))
-    go true ih = List·Permᴰ·trans (List·Permᴰ·cons refl ih) (Permᴰ·symm (Permᴰ·middle x (keep (λ x. not (p x)) l) (keep p l)))
+    go : (b : Bool) → List·Permᴰ l (filter (λ x. not (p x)) l ++ filter p l)
+        → List·Permᴰ (x ∷ l) (cond (not b) (x ∷ filter (λ x. not (p x)) l) (filter (λ x. not (p x)) l) ++ cond b (x ∷ filter p l) (filter p l))
+    go true ih = List·Permᴰ·trans (List·Permᴰ·cons refl ih) (Permᴰ·symm (Permᴰ·middle x (filter (λ x. not (p x)) l) (filter p l)))
     go false ih = List·Permᴰ·cons refl ih
 
 -- ---- sums
@@ -381,12 +381,12 @@ mem-map f (List·Memᴰ·tail h) = List·Memᴰ·tail (mem-map f h)
 pub mem-perm : {A : Type 0} {l k : List A} → List·Permᴰ l k → (x : A) → List·Memᴰ x l → List·Memᴰ x k
 mem-perm {A} {l} {k} p x h = all-mem (λ y. List·Memᴰ y k) h (all-perm (λ y. List·Memᴰ y k) (Permᴰ·symm p) (all-of (λ y. List·Memᴰ y k) k (λ y q. q)))
 
-pub mem-keep : {A : Type 0} (p : A → Bool) {x : A} (l : List A) → p x ≡ true → List·Memᴰ x l → List·Memᴰ x (keep p l)
-unfolding keep
-mem-keep p (y ∷ l) e (List·Memᴰ·head q) = rw (ap p (sym q) ∙ e) (List·Memᴰ·head q)
-mem-keep {A} p {x} (y ∷ l) e (List·Memᴰ·tail h) = go (p y) (mem-keep p l e h)
+pub mem-filter : {A : Type 0} (p : A → Bool) {x : A} (l : List A) → p x ≡ true → List·Memᴰ x l → List·Memᴰ x (filter p l)
+unfolding filter
+mem-filter p (y ∷ l) e (List·Memᴰ·head q) = rw (ap p (sym q) ∙ e) (List·Memᴰ·head q)
+mem-filter {A} p {x} (y ∷ l) e (List·Memᴰ·tail h) = go (p y) (mem-filter p l e h)
   where
-    go : (b : Bool) → List·Memᴰ x (keep p l) → List·Memᴰ x (cond b (y ∷ keep p l) (keep p l))
+    go : (b : Bool) → List·Memᴰ x (filter p l) → List·Memᴰ x (cond b (y ∷ filter p l) (filter p l))
     go true k = List·Memᴰ·tail k
     go false k = k
 

@@ -8,9 +8,9 @@ use native.Mathlib.Numerals.{add-one}
 use native.Mathlib.Decide.{decLe, ℕ-discrete}
 use lib.ListN.{length, getD, set, take, drop, replicate, length-drop, length-append, getD-replicate, List·getD-append, List·getD-eq-default, length-replicate, length-set}
 use lib.Seq.{ext-getD, take-suc, take-suc-set, length-take-le, getD-take, getD-drop, getD-set-same, getD-set-other, getD-append-seam}
-use Rattle.laws.specs.Define.{tab, allOf, pairsOf, allBelow, keep}
+use Rattle.laws.specs.Define.{tab, allOf, pairsOf, allBelow, filter}
 use Rattle.laws.proofs.Tests.{and-left, and-right, and-true, and-assoc, and-yes}
-use Rattle.laws.proofs.Lists.{map-append, keep-append}
+use Rattle.laws.proofs.Lists.{map-append, filter-append}
 use Rattle.laws.specs.Filled.{Upto, From, Shows, Filled}
 
 -- ---- a list of zeros, within it and beyond
@@ -213,20 +213,20 @@ with-step q p l k z h e f = rw (e, f, all-more p l k z h) (and-assoc q (allOf p 
 
 -- ---- a loop that compacts: what is kept of the first k elements, each changed by f
 module _ {A B : Type 0} (p : A → Bool) (f : A → B) where
-  pub keep-zero : (l : List A) → map f (keep p (take 0 l)) ≡ []
-  unfolding keep
-  keep-zero l = refl
+  pub filter-zero : (l : List A) → map f (filter p (take 0 l)) ≡ []
+  unfolding filter
+  filter-zero l = refl
 
-  keep-snoc : (l : List A) (k : ℕ) (z : A) → k < length l → map f (keep p (take (k + 1) l)) ≡ map f (keep p (take k l)) ++ map f (keep p (getD l k z ∷ []))
-  keep-snoc l k z h = rw (add-one, take-suc l k z h, keep-append p (take k l) (getD l k z ∷ [])) (map-append f (keep p (take k l)) (keep p (getD l k z ∷ [])))
+  filter-snoc : (l : List A) (k : ℕ) (z : A) → k < length l → map f (filter p (take (k + 1) l)) ≡ map f (filter p (take k l)) ++ map f (filter p (getD l k z ∷ []))
+  filter-snoc l k z h = rw (add-one, take-suc l k z h, filter-append p (take k l) (getD l k z ∷ [])) (map-append f (filter p (take k l)) (filter p (getD l k z ∷ [])))
 
-  pub keep-in : (l : List A) (k : ℕ) (z : A) → k < length l → p (getD l k z) ≡ true → map f (keep p (take (k + 1) l)) ≡ map f (keep p (take k l)) ++ (f (getD l k z) ∷ [])
-  unfolding keep
-  keep-in l k z h e = keep-snoc l k z h ∙ rw e
+  pub filter-in : (l : List A) (k : ℕ) (z : A) → k < length l → p (getD l k z) ≡ true → map f (filter p (take (k + 1) l)) ≡ map f (filter p (take k l)) ++ (f (getD l k z) ∷ [])
+  unfolding filter
+  filter-in l k z h e = filter-snoc l k z h ∙ rw e
 
-  pub keep-out : (l : List A) (k : ℕ) (z : A) → k < length l → p (getD l k z) ≡ false → map f (keep p (take (k + 1) l)) ≡ map f (keep p (take k l))
-  unfolding keep
-  keep-out l k z h e = keep-snoc l k z h ∙ rw e (append-nil (map f (keep p (take k l))))
+  pub filter-out : (l : List A) (k : ℕ) (z : A) → k < length l → p (getD l k z) ≡ false → map f (filter p (take (k + 1) l)) ≡ map f (filter p (take k l))
+  unfolding filter
+  filter-out l k z h e = filter-snoc l k z h ∙ rw e (append-nil (map f (filter p (take k l))))
 
 pub shows-none : {A : Type 0} (n : ℕ) (z : A) (l : List A) → l ≡ [] → Shows n z l (replicate n z)
 shows-none n z l e i k = rw e (getD-replicate n i z z k)

@@ -35,9 +35,9 @@ allBelow p zero = true
 allBelow p (suc n) = allBelow p n && p n
 
 -- the elements that pass
-unfoldable pub keep : {A : Type 0} → (A → Bool) → List A → List A
-keep p [] = []
-keep p (x ∷ l) = cond (p x) (x ∷ keep p l) (keep p l)
+unfoldable pub filter : {A : Type 0} → (A → Bool) → List A → List A
+filter p [] = []
+filter p (x ∷ l) = cond (p x) (x ∷ filter p l) (filter p l)
 
 -- the first number that passes, or 0
 unfoldable pub firstOf : (ℕ → Bool) → List ℕ → ℕ

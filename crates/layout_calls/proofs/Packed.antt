@@ -20,11 +20,11 @@ use Rattle.floor.specs.Layouts.{nameOk, setBelow, setOf, keepIn, forgetIn}
 use Rattle.floor.specs.Model.{TileState, noTile, tileOf, runs, runsOf}
 use Rattle.floor.specs.Memory.{headOf, stateOf, view, head, usedLayouts, layoutPlaces, layoutsFit, pack, retiled, relaid}
 use Rattle.floor.specs.Well.{wellFormed}
-use Rattle.floor.specs.Calls.{stopped, repaired, keepTests, runningSet, keptUnder, keepAnswer, heldTests, forgotten, forgetAnswer, recallTile, recalled, recallAnswer}
+use Rattle.floor.specs.Calls.{stopped, repaired, keepTests, runningSet, keptUnder, keepAnswer, nameHeldTests, forgotten, forgetAnswer, recallTile, recalled, recallAnswer}
 use Rattle.floor.proofs.Answers.{answer-malformed, answer-refused, answer-accepted}
 use Rattle.floor.proofs.Rows.{fits-layouts, view-at}
 use Rattle.floor.proofs.Pack.{well-sound, well-fits, well-few, well-head}
-use Rattle.floor.proofs.Laying.{Rises, laid-of}
+use Rattle.floor.proofs.SoundLayouts.{Rises, sound-layouts-of}
 use Rattle.floor.proofs.Named.{pack-relaid, recalledHead, pack-recalled}
 use Rattle.layout_parts.specs.Places.{putIn, ranIn, recallHead, recallAt}
 use Rattle.layout_parts.proofs.Places.{some-name, set-used, keep-used, forget-used}
@@ -51,26 +51,26 @@ keep-named : (l : List Layout) (name : ℕ) → refusal (keepTests l name) ≡ 0
 unfolding keepTests
 keep-named l name e = not-false (nameOk name) (test-none (not (nameOk name)) 44 _ (omega arith) e .0)
 
-held-named : (l : List Layout) (name : ℕ) → refusal (heldTests l name) ≡ 0 → nameOk name ≡ true
-unfolding heldTests
-held-named l name e = not-false (nameOk name) (test-none (not (nameOk name)) 44 _ (omega arith) e .0)
+name-held-named : (l : List Layout) (name : ℕ) → refusal (nameHeldTests l name) ≡ 0 → nameOk name ≡ true
+unfolding nameHeldTests
+name-held-named l name e = not-false (nameOk name) (test-none (not (nameOk name)) 44 _ (omega arith) e .0)
 
 module _ (f : Floor) (w : wellFormed f ≡ true) where
-  laid-fit : layoutsFit (f .layouts) ≡ true
-  laid-fit = fits-layouts f (well-fits f w)
+  memory-fits : layoutsFit (f .layouts) ≡ true
+  memory-fits = fits-layouts f (well-fits f w)
 
-  laid-rises : Rises (usedLayouts (f .layouts))
+  names-rise : Rises (usedLayouts (f .layouts))
   unfolding view
-  laid-rises = laid-of (f .settings) (usedLayouts (f .layouts)) (well-sound f w .laid-out) .rise
+  names-rise = sound-layouts-of (f .settings) (usedLayouts (f .layouts)) (well-sound f w .layouts-sound) .rise
 
   -- ---- the refusals
   keep-same : (name : ℕ) → refusal (keepTests (usedLayouts (f .layouts)) name) ≡ refusal (keepTests (view f .layouts) name)
   unfolding view
   keep-same name = refl
 
-  held-same : (name : ℕ) → refusal (heldTests (usedLayouts (f .layouts)) name) ≡ refusal (heldTests (view f .layouts) name)
+  name-held-same : (name : ℕ) → refusal (nameHeldTests (usedLayouts (f .layouts)) name) ≡ refusal (nameHeldTests (view f .layouts) name)
   unfolding view
-  held-same name = refl
+  name-held-same name = refl
 
   -- ---- keeping
   ran-is : setBelow (ranIn (f .tiles)) (total (f .settings)) ≡ runningSet (view f)
@@ -82,13 +82,13 @@ module _ (f : Floor) (w : wellFormed f ≡ true) where
   unfolding keptUnder view
   kept-pack name set ok e ls q =
       let x : Layout = record { name = name; set = runningSet (view f) } in
-      ap (relaid f) (q ∙ ap (λ (s : ℕ). putIn (record { name = name; set = s }) (f .layouts)) (e ∙ ran-is) ∙ keep-used (f .layouts) laid-fit laid-rises x ok)
+      ap (relaid f) (q ∙ ap (λ (s : ℕ). putIn (record { name = name; set = s }) (f .layouts)) (e ∙ ran-is) ∙ keep-used (f .layouts) memory-fits names-rise x ok)
       ∙ sym (pack-relaid f w (keepIn x (usedLayouts (f .layouts))))
 
   -- ---- forgetting
   forgotten-pack : (name : ℕ) → nameOk name ≡ true → (ls : List Layout) → ls ≡ layoutPlaces 8 (forgetIn name (f .layouts)) → _≡_ {A = Floor} (relaid f ls) (pack (forgotten (view f) name))
   unfolding forgotten view
-  forgotten-pack name ok ls q = ap (relaid f) (q ∙ forget-used (f .layouts) laid-fit name ok) ∙ sym (pack-relaid f w (forgetIn name (usedLayouts (f .layouts))))
+  forgotten-pack name ok ls q = ap (relaid f) (q ∙ forget-used (f .layouts) memory-fits name ok) ∙ sym (pack-relaid f w (forgetIn name (usedLayouts (f .layouts))))
 
   -- ---- recalling
   recall-same : (set t : ℕ) → recallAt (f .settings) (f .tiles) set t ≡ recalledHead f set t
@@ -103,7 +103,7 @@ module _ (f : Floor) (w : wellFormed f ≡ true) where
       → _≡_ {A = Floor} (retiled f ts) (pack (recalled (view f) (setOf (view f .layouts) name)))
   unfolding view
   recalled-pack name set ok e ts q =
-      let s : set ≡ setOf (usedLayouts (f .layouts)) name = e ∙ set-used (f .layouts) laid-fit name (some-name name ok) in
+      let s : set ≡ setOf (usedLayouts (f .layouts)) name = e ∙ set-used (f .layouts) memory-fits name (some-name name ok) in
       ap (retiled f) (q ∙ tab-same 64 (recallAt (f .settings) (f .tiles) set) (recalledHead f set) (λ t l. recall-same set t))
       ∙ pack-recalled f w set ∙ ap (λ (k : ℕ). pack (recalled (view f) k)) s
 
@@ -115,11 +115,11 @@ module _ (f : Floor) (name : ℕ) (well : Bool) (ew : well ≡ wellFormed f) whe
 
   pub forget-malformed : well ≡ false → _≡_ {A = Answer} (record { refusal = 30; floor = f }) (forgetAnswer f name)
   unfolding forgetAnswer
-  forget-malformed h = answer-malformed f (heldTests (view f .layouts) name) (forgotten (view f) name) (sym ew ∙ h)
+  forget-malformed h = answer-malformed f (nameHeldTests (view f .layouts) name) (forgotten (view f) name) (sym ew ∙ h)
 
   pub recall-malformed : well ≡ false → _≡_ {A = Answer} (record { refusal = 30; floor = f }) (recallAnswer f name)
   unfolding recallAnswer
-  recall-malformed h = answer-malformed f (heldTests (view f .layouts) name) (recalled (view f) (setOf (view f .layouts) name)) (sym ew ∙ h)
+  recall-malformed h = answer-malformed f (nameHeldTests (view f .layouts) name) (recalled (view f) (setOf (view f .layouts) name)) (sym ew ∙ h)
 
   module _ (h : well ≡ true) (n : ℕ) (en : n ≡ name) (m : ℕ) where
     module _ (e : m ≡ refusal (keepTests (usedLayouts (f .layouts)) n)) where
@@ -136,36 +136,36 @@ module _ (f : Floor) (name : ℕ) (well : Bool) (ew : well ≡ wellFormed f) whe
           (kept-pack f w n set (keep-named (usedLayouts (f .layouts)) n (sym e ∙ z)) s ls l)
           ∙ ap (keepAnswer f) en
 
-    module _ (e : m ≡ refusal (heldTests (usedLayouts (f .layouts)) n)) where
+    module _ (e : m ≡ refusal (nameHeldTests (usedLayouts (f .layouts)) n)) where
       pub forget-refused : m ≢ 0 → _≡_ {A = Answer} (record { refusal = m; floor = f }) (forgetAnswer f name)
       unfolding forgetAnswer
-      forget-refused z = answer-refused f (heldTests (view f .layouts) n) (forgotten (view f) n) (sym ew ∙ h) m (e ∙ held-same f (sym ew ∙ h) n) z ∙ ap (forgetAnswer f) en
+      forget-refused z = answer-refused f (nameHeldTests (view f .layouts) n) (forgotten (view f) n) (sym ew ∙ h) m (e ∙ name-held-same f (sym ew ∙ h) n) z ∙ ap (forgetAnswer f) en
 
       pub forget-accepted : m ≡ 0 → (ls : List Layout) → ls ≡ layoutPlaces 8 (forgetIn n (f .layouts))
           → _≡_ {A = Answer} (record { refusal = m; floor = relaid f ls }) (forgetAnswer f name)
       unfolding forgetAnswer
       forget-accepted z ls l =
           let w = sym ew ∙ h in
-          answer-accepted f (heldTests (view f .layouts) n) (forgotten (view f) n) w m (e ∙ held-same f w n) z _
-          (forgotten-pack f w n (held-named (usedLayouts (f .layouts)) n (sym e ∙ z)) ls l)
+          answer-accepted f (nameHeldTests (view f .layouts) n) (forgotten (view f) n) w m (e ∙ name-held-same f w n) z _
+          (forgotten-pack f w n (name-held-named (usedLayouts (f .layouts)) n (sym e ∙ z)) ls l)
           ∙ ap (forgetAnswer f) en
 
       pub recall-refused : m ≢ 0 → _≡_ {A = Answer} (record { refusal = m; floor = f }) (recallAnswer f name)
       unfolding recallAnswer
-      recall-refused z = answer-refused f (heldTests (view f .layouts) n) (recalled (view f) (setOf (view f .layouts) n)) (sym ew ∙ h) m (e ∙ held-same f (sym ew ∙ h) n) z ∙ ap (recallAnswer f) en
+      recall-refused z = answer-refused f (nameHeldTests (view f .layouts) n) (recalled (view f) (setOf (view f .layouts) n)) (sym ew ∙ h) m (e ∙ name-held-same f (sym ew ∙ h) n) z ∙ ap (recallAnswer f) en
 
       pub recall-accepted : m ≡ 0 → (set : ℕ) → set ≡ setOf (f .layouts) n → (ts : List Tile) → ts ≡ tab 64 (recallAt (f .settings) (f .tiles) set)
           → _≡_ {A = Answer} (record { refusal = m; floor = retiled f ts }) (recallAnswer f name)
       unfolding recallAnswer
       recall-accepted z set s ts l =
           let w = sym ew ∙ h in
-          answer-accepted f (heldTests (view f .layouts) n) (recalled (view f) (setOf (view f .layouts) n)) w m (e ∙ held-same f w n) z _
-          (recalled-pack f w n set (held-named (usedLayouts (f .layouts)) n (sym e ∙ z)) s ts l)
+          answer-accepted f (nameHeldTests (view f .layouts) n) (recalled (view f) (setOf (view f .layouts) n)) w m (e ∙ name-held-same f w n) z _
+          (recalled-pack f w n set (name-held-named (usedLayouts (f .layouts)) n (sym e ∙ z)) s ts l)
           ∙ ap (recallAnswer f) en
 
 module _ (f : Floor) (well : Bool) (ew : well ≡ wellFormed f) (h : well ≡ true) where
   pub layouts-fit : layoutsFit (f .layouts) ≡ true
-  layouts-fit = laid-fit f (sym ew ∙ h)
+  layouts-fit = memory-fits f (sym ew ∙ h)
 
   pub tiles-few : total (f .settings) ≤ 64
   tiles-few = well-few f (sym ew ∙ h)

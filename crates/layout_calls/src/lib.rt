@@ -10,9 +10,9 @@ use floor::Layout;
 use floor::Name;
 use floor::refusals;
 use layout_parts::forget_in;
-use layout_parts::held_refusal;
 use layout_parts::keep_in;
 use layout_parts::keep_refusal;
+use layout_parts::name_held_refusal;
 use layout_parts::name_number;
 use layout_parts::recall_tiles;
 use layout_parts::running_set;
@@ -54,7 +54,7 @@ pub fn forget(floor: Floor, name: Name) -> Answer
     if well {
         let n = name_number(name);
         let old = changed.layouts;
-        number = held_refusal(old, n);
+        number = name_held_refusal(old, n);
         if number == 0 {
             let left = forget_in(old, n);
             changed.layouts = left;
@@ -75,12 +75,12 @@ pub fn recall(floor: Floor, name: Name) -> Answer
     let mut number: u8 = refusals::MALFORMED;
     if well {
         let n = name_number(name);
-        let held = changed.layouts;
-        number = held_refusal(held, n);
+        let stored = changed.layouts;
+        number = name_held_refusal(stored, n);
         if number == 0 {
             let s = changed.settings;
             let tiles = changed.tiles;
-            let set = set_under(held, n);
+            let set = set_under(stored, n);
             let next = recall_tiles(s, tiles, set);
             changed.tiles = next;
         }

@@ -1,4 +1,4 @@
-pub mod Told
+pub mod PrintedText
 pub mod Front
 pub mod Loops
 pub mod Samples

@@ -58,8 +58,8 @@ delivery n l = record { numbers = take 4 (l ++ replicate 4 0); count = n }
 unfoldable pub report : List Delivery → Report
 report l = record { grants = replicate 64 0; reasons = replicate 64 0; missing = replicate 64 0; deliveries = take 4 (l ++ replicate 4 (delivery 0 [])) }
 
-unfoldable told : Plan → Report → List ℕ
-told p r = let a = reportAnswer p r in a .refusal ∷ entries (a .plan)
+unfoldable reportRow : Plan → Report → List ℕ
+reportRow p r = let a = reportAnswer p r in a .refusal ∷ entries (a .plan)
 
 unfoldable offers : Table
 offers =
@@ -110,24 +110,24 @@ reports =
     -- 7 before 1: 30
     let early = plan (entry 7 0 1 0 1 9 ∷ entry 1 0 0 0 1 5 ∷ []) in
     -- only what is listed, never the filling; nothing but the stage changes
-    (told (three 9 1 5 0 0 0 0) (report (delivery 1 (5 ∷ []) ∷ [])), 0 ∷ entries (three 9 2 5 0 0 0 0))
-    ∷ (told (three 9 1 5 0 0 0 0) (report (delivery 0 (5 ∷ []) ∷ [])), 0 ∷ entries (three 9 1 5 0 0 0 0))
-    ∷ (told (three 9 1 0 0 0 0 0) (report (delivery 1 (5 ∷ []) ∷ [])), 0 ∷ entries (three 9 1 0 0 0 0 0))
-    ∷ (told (three 9 1 0 0 0 0 0) (report (delivery 1 (0 ∷ []) ∷ [])), 0 ∷ entries (three 9 2 0 0 0 0 0))
-    ∷ (told (three 9 2 5 2 6 1 7) (report (delivery 1 (7 ∷ []) ∷ [])), 0 ∷ entries (three 9 2 5 2 6 2 7))
+    (reportRow (three 9 1 5 0 0 0 0) (report (delivery 1 (5 ∷ []) ∷ [])), 0 ∷ entries (three 9 2 5 0 0 0 0))
+    ∷ (reportRow (three 9 1 5 0 0 0 0) (report (delivery 0 (5 ∷ []) ∷ [])), 0 ∷ entries (three 9 1 5 0 0 0 0))
+    ∷ (reportRow (three 9 1 0 0 0 0 0) (report (delivery 1 (5 ∷ []) ∷ [])), 0 ∷ entries (three 9 1 0 0 0 0 0))
+    ∷ (reportRow (three 9 1 0 0 0 0 0) (report (delivery 1 (0 ∷ []) ∷ [])), 0 ∷ entries (three 9 2 0 0 0 0 0))
+    ∷ (reportRow (three 9 2 5 2 6 1 7) (report (delivery 1 (7 ∷ []) ∷ [])), 0 ∷ entries (three 9 2 5 2 6 2 7))
     -- every list and every place in it; a number that no label holds; numbers beside waiting and delivered labels
     ∷ (
-      told (plan (entry 3 0 0 0 1 8 ∷ entry 2 0 0 0 7 6 ∷ entry 1 0 0 0 1 4 ∷ entry 4 0 0 0 0 9 ∷ entry 6 0 0 0 2 4 ∷ [])) (report (delivery 1 (2 ∷ []) ∷ delivery 0 (4 ∷ []) ∷ delivery 0 [] ∷ delivery 4 (1 ∷ 6 ∷ 9 ∷ 8 ∷ []) ∷ [])),
+      reportRow (plan (entry 3 0 0 0 1 8 ∷ entry 2 0 0 0 7 6 ∷ entry 1 0 0 0 1 4 ∷ entry 4 0 0 0 0 9 ∷ entry 6 0 0 0 2 4 ∷ [])) (report (delivery 1 (2 ∷ []) ∷ delivery 0 (4 ∷ []) ∷ delivery 0 [] ∷ delivery 4 (1 ∷ 6 ∷ 9 ∷ 8 ∷ []) ∷ [])),
       0 ∷ entries (plan (entry 3 0 0 0 2 8 ∷ entry 2 0 0 0 2 6 ∷ entry 1 0 0 0 1 4 ∷ entry 4 0 0 0 0 9 ∷ entry 6 0 0 0 2 4 ∷ [])),
     )
     -- over four for a hopper, for each of them alone; before 47; then 30 and 47 of the plan
-    ∷ (told (two 0) (report (delivery 5 [] ∷ [])), 30 ∷ entries (two 0))
-    ∷ (told (three 0 1 5 0 0 0 0) (report (delivery 1 (5 ∷ []) ∷ delivery 5 [] ∷ [])), 30 ∷ entries (three 0 1 5 0 0 0 0))
-    ∷ (told (three 0 1 5 0 0 0 0) (report (delivery 1 (5 ∷ []) ∷ delivery 0 [] ∷ delivery 5 [] ∷ [])), 30 ∷ entries (three 0 1 5 0 0 0 0))
-    ∷ (told (three 0 1 5 0 0 0 0) (report (delivery 1 (5 ∷ []) ∷ delivery 0 [] ∷ delivery 0 [] ∷ delivery 5 [] ∷ [])), 30 ∷ entries (three 0 1 5 0 0 0 0))
-    ∷ (told unfit (report (delivery 255 (5 ∷ []) ∷ [])), 30 ∷ entries unfit)
-    ∷ (told unfit (report (delivery 1 (5 ∷ []) ∷ [])), 47 ∷ entries unfit)
-    ∷ (told early (report (delivery 1 (5 ∷ []) ∷ [])), 30 ∷ entries early)
+    ∷ (reportRow (two 0) (report (delivery 5 [] ∷ [])), 30 ∷ entries (two 0))
+    ∷ (reportRow (three 0 1 5 0 0 0 0) (report (delivery 1 (5 ∷ []) ∷ delivery 5 [] ∷ [])), 30 ∷ entries (three 0 1 5 0 0 0 0))
+    ∷ (reportRow (three 0 1 5 0 0 0 0) (report (delivery 1 (5 ∷ []) ∷ delivery 0 [] ∷ delivery 5 [] ∷ [])), 30 ∷ entries (three 0 1 5 0 0 0 0))
+    ∷ (reportRow (three 0 1 5 0 0 0 0) (report (delivery 1 (5 ∷ []) ∷ delivery 0 [] ∷ delivery 0 [] ∷ delivery 5 [] ∷ [])), 30 ∷ entries (three 0 1 5 0 0 0 0))
+    ∷ (reportRow unfit (report (delivery 255 (5 ∷ []) ∷ [])), 30 ∷ entries unfit)
+    ∷ (reportRow unfit (report (delivery 1 (5 ∷ []) ∷ [])), 47 ∷ entries unfit)
+    ∷ (reportRow early (report (delivery 1 (5 ∷ []) ∷ [])), 30 ∷ entries early)
     ∷ []
 
 unfoldable releasing : Table
@@ -181,7 +181,7 @@ unfolding holds entry plan three many ask offers
 offers-hold = refl
 
 reports-hold : holds reports ≡ true
-unfolding holds entry plan three two entries delivery report told reports
+unfolding holds entry plan three two entries delivery report reportRow reports
     stageOf predecessors done present bookedNumbers afterPredecessors planSound entryFits planFits reported numbersIn reportTests reportAnswer
 reports-hold = refl
 

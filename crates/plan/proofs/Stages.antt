@@ -13,7 +13,7 @@ use Rattle.laws.proofs.Tests.{by-test}
 use Rattle.laws.proofs.Lists.{all-imp, all-map}
 use Rattle.plan.specs.declared.Entry.{Entry}
 use Rattle.plan.specs.declared.Plan.{Plan}
-use Rattle.plan.specs.Entries.{Stage, waiting, booked, delivered, stageOf, isWaiting, isDelivered, numberIn, waits, wasDelivered, heldBy, used, bookedNumbers, changed, bookedAs, deliveredAs, released, reported}
+use Rattle.plan.specs.Entries.{Stage, waiting, booked, delivered, stageOf, isWaiting, isDelivered, numberIn, waits, wasDelivered, bookedNumber, used, bookedNumbers, changed, bookedAs, deliveredAs, released, reported}
 
 -- ---- the byte
 two-one : (n : ℕ) → eqb n 0 ≡ true → eqb n 2 ≡ false
@@ -38,9 +38,9 @@ delivered-byte e = go (eqb (e .stage) 0) refl (eqb (e .stage) 2) refl
     go false p true q = refl
     go false p false q = refl
 
-pub held-byte : (e : Entry) → heldBy e ≡ cond (eqb (e .stage) 0 || eqb (e .stage) 2) [] (e .number ∷ [])
+pub booked-number-byte : (e : Entry) → bookedNumber e ≡ cond (eqb (e .stage) 0 || eqb (e .stage) 2) [] (e .number ∷ [])
 unfolding stageOf
-held-byte e = go (eqb (e .stage) 0) (eqb (e .stage) 2)
+booked-number-byte e = go (eqb (e .stage) 0) (eqb (e .stage) 2)
   where
     go : (a b : Bool) → numberIn (cond a waiting (cond b delivered (booked (e .number)))) ≡ cond (a || b) [] (e .number ∷ [])
     go true b = refl
@@ -49,7 +49,7 @@ held-byte e = go (eqb (e .stage) 0) (eqb (e .stage) 2)
 
 -- ---- a stage
 -- what does not wait and holds no number is delivered
-pub neither : (e : Entry) → waits e ≡ false → heldBy e ≡ [] → wasDelivered e ≡ true
+pub neither : (e : Entry) → waits e ≡ false → bookedNumber e ≡ [] → wasDelivered e ≡ true
 neither e a b = go (stageOf e) a b
   where
     go : (s : Stage) → isWaiting s ≡ false → numberIn s ≡ [] → isDelivered s ≡ true
@@ -109,7 +109,7 @@ released-same get k n h e = go (eqb (e .label) k)
 
 pub reported-same : {A : Type 0} (get : Entry → A) (l : List ℕ) → ((e : Entry) → get (deliveredAs e) ≡ get e) → (e : Entry) → get (reported l e) ≡ get e
 unfolding reported
-reported-same get l h e = go (anyOf (λ n. anyOf (eqb n) l) (heldBy e))
+reported-same get l h e = go (anyOf (λ n. anyOf (eqb n) l) (bookedNumber e))
   where
     go : (b : Bool) → get (cond b (deliveredAs e) e) ≡ get e
     go true = h e
@@ -152,15 +152,15 @@ pub changed-all : (P Q : Entry → Type 0) (p : Plan) (g : Entry → Entry) → 
 changed-all P Q p g f h = subst (All Q) (sym (used-changed p g)) (all-map Q g (used p) (all-imp P (λ e. Q (g e)) (used p) f h))
 
 -- ---- no booked entry
-pub waiting-held : (e : Entry) → waits e ≡ true → heldBy e ≡ []
-waiting-held e h = go (stageOf e) h
+pub waiting-booked-number : (e : Entry) → waits e ≡ true → bookedNumber e ≡ []
+waiting-booked-number e h = go (stageOf e) h
   where
     go : (s : Stage) → isWaiting s ≡ true → numberIn s ≡ []
     go waiting h = refl
     go (booked n) h = absurd (false≢true h)
     go delivered h = refl
 
-pub none-held : (es : List Entry) → All (λ e. heldBy e ≡ []) es → bookedNumbers es ≡ []
+pub none-booked-number : (es : List Entry) → All (λ e. bookedNumber e ≡ []) es → bookedNumbers es ≡ []
 unfolding bookedNumbers
-none-held [] h = refl
-none-held (e ∷ es) h = (λ i. h .0 i ++ none-held es (h .1) i)
+none-booked-number [] h = refl
+none-booked-number (e ∷ es) h = (λ i. h .0 i ++ none-booked-number es (h .1) i)

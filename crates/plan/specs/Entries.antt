@@ -4,7 +4,7 @@ use mathlib.Core.List.{List, [], _∷_, _++_, map}
 use Prim.Native.Nat.{ℕ}
 use lib.Dec.{leb, ltb, eqb}
 use lib.ListN.{take, drop}
-use Rattle.laws.specs.Define.{allOf, anyOf, pairsOf, keep}
+use Rattle.laws.specs.Define.{allOf, anyOf, pairsOf, filter}
 use Rattle.plan.specs.declared.Entry.{Entry}
 use Rattle.plan.specs.declared.Plan.{Plan}
 
@@ -40,8 +40,8 @@ abbrev pub wasDelivered : Entry → Bool
 wasDelivered e = isDelivered (stageOf e)
 
 -- the number that it is booked under, if it is
-abbrev pub heldBy : Entry → List ℕ
-heldBy e = numberIn (stageOf e)
+abbrev pub bookedNumber : Entry → List ℕ
+bookedNumber e = numberIn (stageOf e)
 
 -- "A plan has up to 64 entries": those below its count
 abbrev pub used : Plan → List Entry
@@ -49,7 +49,7 @@ used p = take (p .count) (p .entries)
 
 -- "up to two lower labels that must be delivered earlier"; 0 is none
 unfoldable pub predecessors : Entry → List ℕ
-predecessors e = keep (λ k. ltb 0 k) (e .first ∷ e .second ∷ [])
+predecessors e = filter (λ k. ltb 0 k) (e .first ∷ e .second ∷ [])
 
 -- no entry of label k is undelivered; so too where none has that label, which 47 refuses
 unfoldable pub done : List Entry → ℕ → Bool
@@ -62,7 +62,7 @@ present es k = anyOf (λ x. eqb (x .label) k) es
 -- the numbers that booked entries hold
 unfoldable pub bookedNumbers : List Entry → List ℕ
 bookedNumbers [] = []
-bookedNumbers (e ∷ es) = heldBy e ++ bookedNumbers es
+bookedNumbers (e ∷ es) = bookedNumber e ++ bookedNumbers es
 
 -- ---- 30
 -- "an entry past waiting has a predecessor's label on an undelivered entry"
@@ -108,4 +108,4 @@ released k n e = cond (eqb (e .label) k) (bookedAs n e) e
 
 -- "A round's report marks delivered exactly the booked labels whose numbers it lists": l are the listed numbers
 unfoldable pub reported : List ℕ → Entry → Entry
-reported l e = cond (anyOf (λ n. anyOf (eqb n) l) (heldBy e)) (deliveredAs e) e
+reported l e = cond (anyOf (λ n. anyOf (eqb n) l) (bookedNumber e)) (deliveredAs e) e

@@ -59,16 +59,16 @@ module _ (p : Plan) (f : Floor) (k : ℕ) (good : Bool) (es : good ≡ planSound
     unfolding releaseTests refusal
     release-malformed h = rw (sym es, s, sym ew, h)
 
-    module _ (w : not well ≡ false) (l : List ℕ) (el : l ≡ bookedNumbers (used p)) (known : Bool) (ek : known ≡ allOf (λ x. ltb 0 x && leb x (f .counters .last)) l) where
-      upto : numbersUpto (f .counters .last) p ≡ known
+    module _ (w : not well ≡ false) (l : List ℕ) (el : l ≡ bookedNumbers (used p)) (in-range : Bool) (ek : in-range ≡ allOf (λ x. ltb 0 x && leb x (f .counters .last)) l) where
+      upto : numbersUpto (f .counters .last) p ≡ in-range
       unfolding numbersUpto
       upto = rw (sym el, ek)
 
-      pub release-unknown : not known ≡ true → 30 ≡ refusal (releaseTests p f k)
+      pub release-out-of-range : not in-range ≡ true → 30 ≡ refusal (releaseTests p f k)
       unfolding releaseTests refusal
-      release-unknown h = rw (sym es, s, sym ew, w, upto, h)
+      release-out-of-range h = rw (sym es, s, sym ew, w, upto, h)
 
-      module _ (u : not known ≡ false) (fitting : Bool) (ef : fitting ≡ planFits p) where
+      module _ (u : not in-range ≡ false) (fitting : Bool) (ef : fitting ≡ planFits p) where
         pub release-misfit : not fitting ≡ true → 47 ≡ refusal (releaseTests p f k)
         unfolding releaseTests refusal
         release-misfit h = rw (sym es, s, sym ew, w, upto, u, sym ef, h)

@@ -75,8 +75,8 @@ fn release_asked(plan: Plan, floor: Floor, label: u32) -> Asking
     let counters = floor.counters;
     let numbers = booked_numbers(plan);
     let items = numbers.items;
-    let known = all_upto(items, numbers.count, counters.last);
-    if !known {
+    let in_range = all_upto(items, numbers.count, counters.last);
+    if !in_range {
         return Asking {
             tile: 0,
             refusal: refusals::MALFORMED,

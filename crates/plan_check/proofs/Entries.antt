@@ -6,15 +6,15 @@ use Prim.Native.Nat.{ℕ, zero, suc}
 use native.Mathlib.Omega.{arith}
 use lib.Dec.{leb, ltb, eqb}
 use borrow.Author.Tests.{ne-eqb, lt-ltb}
-use Rattle.laws.specs.Define.{allOf, keep}
+use Rattle.laws.specs.Define.{allOf, filter}
 use Rattle.laws.proofs.Tests.{and-yes}
 use Rattle.plan.specs.declared.Entry.{Entry}
-use Rattle.plan.proofs.Stages.{held-byte}
-use Rattle.plan.specs.Entries.{waits, heldBy, predecessors, done, present, afterPredecessors, ready, entryFits}
+use Rattle.plan.proofs.Stages.{booked-number-byte}
+use Rattle.plan.specs.Entries.{waits, bookedNumber, predecessors, done, present, afterPredecessors, ready, entryFits}
 
 -- ---- the number held, as the code tests for it
-pub held-code : (e : Entry) → cond (not (eqb (e .stage) 0) && not (eqb (e .stage) 2)) (e .number ∷ []) [] ≡ heldBy e
-held-code e = sym (held-byte e ∙ flip (eqb (e .stage) 0) (eqb (e .stage) 2))
+pub booked-number-code : (e : Entry) → cond (not (eqb (e .stage) 0) && not (eqb (e .stage) 2)) (e .number ∷ []) [] ≡ bookedNumber e
+booked-number-code e = sym (booked-number-byte e ∙ flip (eqb (e .stage) 0) (eqb (e .stage) 2))
   where
     flip : (a b : Bool) → _≡_ {A = List ℕ} (cond (a || b) [] (e .number ∷ [])) (cond (not a && not b) (e .number ∷ []) [])
     flip true b = refl
@@ -23,10 +23,10 @@ held-code e = sym (held-byte e ∙ flip (eqb (e .stage) 0) (eqb (e .stage) 2))
 
 -- ---- the predecessors
 pub both-pass : (p : ℕ → Bool) (e : Entry) → ((eqb (e .first) 0 || p (e .first)) && (eqb (e .second) 0 || p (e .second))) ≡ allOf p (predecessors e)
-unfolding predecessors keep allOf
+unfolding predecessors filter allOf
 both-pass p e = two (e .first) (e .second)
   where
-    two : (a b : ℕ) → ((eqb a 0 || p a) && (eqb b 0 || p b)) ≡ allOf p (keep (λ k. ltb 0 k) (a ∷ b ∷ []))
+    two : (a b : ℕ) → ((eqb a 0 || p a) && (eqb b 0 || p b)) ≡ allOf p (filter (λ k. ltb 0 k) (a ∷ b ∷ []))
     two zero zero = refl
     two zero (suc b) = rw (ne-eqb (suc b) 0 (omega arith), lt-ltb 0 (suc b) (omega arith)) (sym (and-yes (p (suc b))))
     two (suc a) zero = rw (ne-eqb (suc a) 0 (omega arith), lt-ltb 0 (suc a) (omega arith))

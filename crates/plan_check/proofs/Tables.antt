@@ -15,8 +15,8 @@ use Rattle.laws.specs.Filled.{Upto}
 use Rattle.laws.proofs.Tests.{and-yes, or-assoc, or-no}
 use Rattle.laws.proofs.Tables.{all-more, pairs-zero, pairs-more}
 use Rattle.plan.specs.declared.Entry.{Entry}
-use Rattle.plan.specs.Entries.{wasDelivered, heldBy, done, present, bookedNumbers}
-use Rattle.plan_check.proofs.Entries.{held-code}
+use Rattle.plan.specs.Entries.{wasDelivered, bookedNumber, done, present, bookedNumbers}
+use Rattle.plan_check.proofs.Entries.{booked-number-code}
 
 -- what would be read beyond the entries
 abbrev pub zeroEntry : Entry
@@ -109,29 +109,29 @@ unlike-turn l k table h small t a e = rw (pairs-more unlike l k zeroEntry h, e, 
         go false ih = ih
 
 -- ---- the numbers held
-held-append : (l k : List Entry) → bookedNumbers (l ++ k) ≡ bookedNumbers l ++ bookedNumbers k
+booked-number-append : (l k : List Entry) → bookedNumbers (l ++ k) ≡ bookedNumbers l ++ bookedNumbers k
 unfolding bookedNumbers
-held-append [] k = refl
-held-append (x ∷ l) k = rw (held-append l k) (sym (append-assoc (heldBy x) (bookedNumbers l) (bookedNumbers k)))
+booked-number-append [] k = refl
+booked-number-append (x ∷ l) k = rw (booked-number-append l k) (sym (append-assoc (bookedNumber x) (bookedNumbers l) (bookedNumbers k)))
 
-held-more : (l : List Entry) (k : ℕ) → k < length l → bookedNumbers (take (k + 1) l) ≡ bookedNumbers (take k l) ++ heldBy (entryAt l k)
+booked-number-more : (l : List Entry) (k : ℕ) → k < length l → bookedNumbers (take (k + 1) l) ≡ bookedNumbers (take k l) ++ bookedNumber (entryAt l k)
 unfolding bookedNumbers
-held-more l k h = rw (add-one, take-suc l k zeroEntry h, held-append (take k l) (entryAt l k ∷ []), append-nil (heldBy (entryAt l k)))
+booked-number-more l k h = rw (add-one, take-suc l k zeroEntry h, booked-number-append (take k l) (entryAt l k ∷ []), append-nil (bookedNumber (entryAt l k)))
 
-pub held-none : (l : List Entry) (items : List ℕ) → take 0 items ≡ bookedNumbers (take 0 l)
+pub booked-number-none : (l : List Entry) (items : List ℕ) → take 0 items ≡ bookedNumbers (take 0 l)
 unfolding bookedNumbers
-held-none l items = refl
+booked-number-none l items = refl
 
 -- the next number is written in any case, and counted where it is held
-pub held-turn : (l : List Entry) (k m next : ℕ) (items : List ℕ) → k < length l → m < length items → next ≡ m + length (heldBy (entryAt l k)) → take m items ≡ bookedNumbers (take k l)
+pub booked-number-turn : (l : List Entry) (k m next : ℕ) (items : List ℕ) → k < length l → m < length items → next ≡ m + length (bookedNumber (entryAt l k)) → take m items ≡ bookedNumbers (take k l)
     → (next ≤ m + 1) × (take next (set items m (entryAt l k .number)) ≡ bookedNumbers (take (k + 1) l))
-held-turn l k m next items h s e t = go (not (eqb (entryAt l k .stage) 0) && not (eqb (entryAt l k .stage) 2)) (held-code (entryAt l k))
+booked-number-turn l k m next items h s e t = go (not (eqb (entryAt l k .stage) 0) && not (eqb (entryAt l k .stage) 2)) (booked-number-code (entryAt l k))
   where
-    go : (b : Bool) → cond b (entryAt l k .number ∷ []) [] ≡ heldBy (entryAt l k)
+    go : (b : Bool) → cond b (entryAt l k .number ∷ []) [] ≡ bookedNumber (entryAt l k)
         → (next ≤ m + 1) × (take next (set items m (entryAt l k .number)) ≡ bookedNumbers (take (k + 1) l))
     go true q =
         let n : next ≡ m + 1 = e ∙ ap (λ (w : List ℕ). m + length w) (sym q) in
-        (omega arith, rw (n, held-more l k h, sym q, add-one m, take-suc-set items m (entryAt l k .number) s, t))
+        (omega arith, rw (n, booked-number-more l k h, sym q, add-one m, take-suc-set items m (entryAt l k .number) s, t))
     go false q =
         let n : next ≡ m = e ∙ ap (λ (w : List ℕ). m + length w) (sym q) ∙ omega arith in
-        (omega arith, rw (n, held-more l k h, sym q, take-set-le m items m (entryAt l k .number) (omega arith), t) (sym (append-nil (bookedNumbers (take k l)))))
+        (omega arith, rw (n, booked-number-more l k h, sym q, take-set-le m items m (entryAt l k .number) (omega arith), t) (sym (append-nil (bookedNumbers (take k l)))))

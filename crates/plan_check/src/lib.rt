@@ -28,7 +28,7 @@ fn was_delivered(e: Entry) -> bool
 
 // Whether an entry is booked, and so holds a number.
 pub fn holds(e: Entry) -> bool
-    ensures { λ r. ⌜ cond r (e .number ∷ []) [] ≡ E.heldBy e ⌝ }
+    ensures { λ r. ⌜ cond r (e .number ∷ []) [] ≡ E.bookedNumber e ⌝ }
 {
     (e.stage != plan::WAITING) & (e.stage != plan::DELIVERED)
 }
@@ -85,7 +85,7 @@ pub struct Numbers {
 // One more where the entry is booked.
 fn counted(m: usize, e: Entry) -> usize
     requires { ⌜ m ≤ 64 ⌝ }
-    ensures { λ r. ⌜ r ≡ m + length (E.heldBy e) ⌝ }
+    ensures { λ r. ⌜ r ≡ m + length (E.bookedNumber e) ⌝ }
 {
     let booked = holds(e);
     if booked {

@@ -9,7 +9,7 @@ use borrow.Author.Tests.{eqb-true, eq-eqb, ne-eqb}
 use Rattle.laws.specs.Define.{anyOf}
 use Rattle.laws.proofs.Search.{any-find, any-mem}
 use Rattle.plan.specs.declared.Entry.{Entry}
-use Rattle.plan.specs.Entries.{Stage, waiting, booked, delivered, stageOf, isDelivered, numberIn, wasDelivered, heldBy, deliveredAs, reported}
+use Rattle.plan.specs.Entries.{Stage, waiting, booked, delivered, stageOf, isDelivered, numberIn, wasDelivered, bookedNumber, deliveredAs, reported}
 use Rattle.plan.specs.Plans.{offerAnswer, releaseAnswer, reportAnswer}
 use Rattle.plan_floor.specs.Promises.{asWritten, BookPromise, MarkPromise, RefusedPromise}
 use Rattle.plan.proofs.Stages.{marked, booked-stage, delivered-stage, reported-stage, released-same, reported-same, released-there, released-other}
@@ -38,7 +38,7 @@ exactly l (booked n) = (to (anyOf (eqb n) l) refl, from)
 
 else-same : (l : List ℕ) (e : Entry) → wasDelivered (reported l e) ≡ false → reported l e ≡ e
 unfolding reported
-else-same l e = go (anyOf (λ n. anyOf (eqb n) l) (heldBy e))
+else-same l e = go (anyOf (λ n. anyOf (eqb n) l) (bookedNumber e))
   where
     go : (b : Bool) → wasDelivered (cond b (deliveredAs e) e) ≡ false → cond b (deliveredAs e) e ≡ e
     go true h = absurd (true≢false (sym (ap isDelivered (delivered-stage e)) ∙ h))
@@ -47,14 +47,14 @@ else-same l e = go (anyOf (λ n. anyOf (eqb n) l) (heldBy e))
 pub books : BookPromise
 unfolding asWritten
 books k n e = record {
-  booked = λ q. ap heldBy (released-there k n e q) ∙ ap numberIn (booked-stage n e);
+  booked = λ q. ap bookedNumber (released-there k n e q) ∙ ap numberIn (booked-stage n e);
   others-same = released-other k n e;
   same-written = released-same asWritten k n (λ e. refl) e;
 }
 
 pub marks : MarkPromise
 marks l e = record {
-  exactly = subst (λ (s : Stage). isDelivered s ≡ true ↔ ((wasDelivered e ≡ true) ⊎ ((n : ℕ) × List·Memᴰ n (heldBy e) × List·Memᴰ n l))) (sym (reported-stage l e)) (exactly l (stageOf e));
+  exactly = subst (λ (s : Stage). isDelivered s ≡ true ↔ ((wasDelivered e ≡ true) ⊎ ((n : ℕ) × List·Memᴰ n (bookedNumber e) × List·Memᴰ n l))) (sym (reported-stage l e)) (exactly l (stageOf e));
   else-same = else-same l e;
   same-waiting = reported-waits l e;
   same-rest = reported-same (λ e. e .tile ∷ e .number ∷ e .label ∷ e .first ∷ e .second ∷ []) l (λ e. refl) e;

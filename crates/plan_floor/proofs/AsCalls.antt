@@ -14,14 +14,14 @@ use Rattle.floor.specs.Memory.{view, pack}
 use Rattle.floor.specs.Well.{wellFormed}
 use Rattle.floor.specs.Calls.{refusalOf, answer, booked}
 use Rattle.floor.specs.Anywhere.{anywhereTests, placedAt, anywhereAnswer}
-use Rattle.floor.specs.Demand3.{Call, anywhere, Typed, outcome, floorAfter, bookedIn, reportedIn}
+use Rattle.floor.specs.Demand3.{Call, anywhere, InRange, outcome, floorAfter, bookedIn, reportedIn}
 use Rattle.floor.proofs.Pack.{well-sound}
 use Rattle.floor.proofs.Lists.{after-both, booked-both, reported-both, list-keeps}
 use Rattle.floor.proofs.Theorem.{demand3}
 use Rattle.plan.specs.declared.Plan.{Plan}
 use Rattle.plan.specs.Entries.{used}
 use Rattle.plan.specs.Plans.{releaseTests, numberAfter, tileFor, releaseBooking, releaseAnswer}
-use Rattle.plan_floor.specs.Steps.{Step, call, offer, release, report, State, stepped, stateAfter, TypedStep, callsOf, callsIn, bookedOf, bookedBy, reportedOf, reportedBy}
+use Rattle.plan_floor.specs.Steps.{Step, call, offer, release, report, State, stepped, stateAfter, StepInRange, callsOf, callsIn, bookedOf, bookedBy, reportedOf, reportedBy}
 use Rattle.plan_floor.specs.Promises.{CallsPromise}
 
 -- ---- a release
@@ -117,16 +117,16 @@ number-after-fits f w = go (ltb (f .counters .last + 1) (2 ^ 32)) refl
     go true e = ltb-true (f .counters .last + 1) (2 ^ 32) e
     go false e = well-sound f w .last-fits
 
-typed-step : (s : State) (c : Step) → wellFormed (s .floor) ≡ true → TypedStep c → All Typed (callsOf s c)
+in-range-step : (s : State) (c : Step) → wellFormed (s .floor) ≡ true → StepInRange c → All InRange (callsOf s c)
 unfolding callsOf
-typed-step s (call c) w t = (t, tt)
-typed-step s offer w t = tt
-typed-step s (release k) w t = go (eqb (refusal (releaseTests (s .plan) (s .floor) k)) 0)
+in-range-step s (call c) w t = (t, tt)
+in-range-step s offer w t = tt
+in-range-step s (release k) w t = go (eqb (refusal (releaseTests (s .plan) (s .floor) k)) 0)
   where
-    go : (b : Bool) → All Typed (cond b (anywhere (tileFor (used (s .plan)) k) (numberAfter (s .floor)) ∷ []) [])
+    go : (b : Bool) → All InRange (cond b (anywhere (tileFor (used (s .plan)) k) (numberAfter (s .floor)) ∷ []) [])
     go true = (number-after-fits (s .floor) w, tt)
     go false = tt
-typed-step s (report r) w t = tt
+in-range-step s (report r) w t = tt
 
 -- a step leaves the floor well formed, the last number doesn't fall, and what is booked is above the old last number and up to the new one
 pub record StepKeeps (s : State) (c : Step) : Type 0 where
@@ -135,11 +135,11 @@ pub record StepKeeps (s : State) (c : Step) : Type 0 where
   pub above : All (λ n. s .floor .counters .last < n) (bookedOf s c)
   pub upto : All (λ n. n ≤ stepped s c .floor .counters .last) (bookedOf s c)
 
-pub step-keeps : (s : State) (c : Step) → wellFormed (s .floor) ≡ true → TypedStep c → StepKeeps s c
+pub step-keeps : (s : State) (c : Step) → wellFormed (s .floor) ≡ true → StepInRange c → StepKeeps s c
 unfolding view
 step-keeps s c w t =
     let last = s .floor .counters .last in
-    let K = list-keeps (s .floor) w (callsOf s c) (typed-step s c w t) in
+    let K = list-keeps (s .floor) w (callsOf s c) (in-range-step s c w t) in
     let S = same-step s c in
     record {
       well = subst (λ (g : Floor). wellFormed g ≡ true) (S .floor) (K .0);
@@ -148,15 +148,15 @@ step-keeps s c w t =
       upto = subst (λ (g : Floor). All (λ n. n ≤ g .counters .last) (bookedOf s c)) (S .floor) (subst (All (λ n. n ≤ floorAfter (s .floor) (callsOf s c) .counters .last)) (S .booked) (K .1 .upto));
     }
 
-pub typed-list : (s : State) (cs : List Step) → wellFormed (s .floor) ≡ true → All TypedStep cs → All Typed (callsIn s cs)
+pub in-range-list : (s : State) (cs : List Step) → wellFormed (s .floor) ≡ true → All StepInRange cs → All InRange (callsIn s cs)
 unfolding callsIn
-typed-list s [] w t = tt
-typed-list s (c ∷ cs) w t = all-append Typed (callsOf s c) (callsIn (stepped s c) cs) (typed-step s c w (t .0)) (typed-list (stepped s c) cs (step-keeps s c w (t .0) .well) (t .1))
+in-range-list s [] w t = tt
+in-range-list s (c ∷ cs) w t = all-append InRange (callsOf s c) (callsIn (stepped s c) cs) (in-range-step s c w (t .0)) (in-range-list (stepped s c) cs (step-keeps s c w (t .0) .well) (t .1))
 
 pub as-calls : CallsPromise
 as-calls s cs = record {
   same-floor = same-floor s cs;
   same-booked = same-booked s cs;
   same-reported = same-reported s cs;
-  promises = λ w t. demand3 (s .floor) w (callsIn s cs) (typed-list s cs w t);
+  promises = λ w t. demand3 (s .floor) w (callsIn s cs) (in-range-list s cs w t);
 }

@@ -30,10 +30,10 @@ canisters s w cs t =
     let C = as-calls s cs in
     let D = C .promises w t in
     let there = numbersOn (view (stateAfter s cs .floor)) in
-    let told = reportedAll (s .floor) (callsIn s cs) in
+    let reported-numbers = reportedAll (s .floor) (callsIn s cs) in
     let now : numbersOn (view (D .now)) ≡ there = (λ i. numbersOn (view ((D .is-now ∙ C .same-floor) i))) in
-    let apart = r-pairs (λ x y. not (eqb x y)) (λ x y. x ≢ y) r-ne (numbersOn (view (D .now)) ++ told) .0 (D .once-now) in
+    let apart = r-pairs (λ x y. not (eqb x y)) (λ x y. x ≢ y) r-ne (numbersOn (view (D .now)) ++ reported-numbers) .0 (D .once-now) in
     list-numbers (OnFloorUntilReported s cs) s cs (subst (All (OnFloorUntilReported s cs)) (C .same-booked) (all-of (OnFloorUntilReported s cs) (bookedIn (s .floor) (callsIn s cs)) (λ n m. record {
-      either = List·Memᴰ·append-cases there (subst (λ (l : List ℕ). List·Memᴰ n (l ++ told)) now (mem-perm (D .kept) n (Memᴰ·append-right (numbersOn (view (s .floor))) m)));
-      not-both = λ a b. pairs-between (λ x y. x ≢ y) (numbersOn (view (D .now))) told apart (subst (λ (l : List ℕ). List·Memᴰ n l) (sym now) a) b refl;
+      either = List·Memᴰ·append-cases there (subst (λ (l : List ℕ). List·Memᴰ n (l ++ reported-numbers)) now (mem-perm (D .kept) n (Memᴰ·append-right (numbersOn (view (s .floor))) m)));
+      not-both = λ a b. pairs-between (λ x y. x ≢ y) (numbersOn (view (D .now))) reported-numbers apart (subst (λ (l : List ℕ). List·Memᴰ n l) (sym now) a) b refl;
     })))

@@ -19,7 +19,7 @@ use Rattle.floor.specs.Calls.{afterRound}
 use Rattle.floor.specs.Bound.{crossing, bound}
 use Rattle.floor.specs.Live.{connected, connectedCount}
 use Rattle.floor.proofs.Sound.{Sound}
-use Rattle.floor.proofs.Nearest.{laid}
+use Rattle.floor.proofs.Nearest.{routable}
 use Rattle.floor.proofs.Paths.{live-iff}
 use Rattle.floor.proofs.Fields.{round-settings, round-runs, round-last}
 use Rattle.floor.proofs.Kept.{round-sound}
@@ -107,7 +107,7 @@ pub emptied : (m : Model) → Sound m → OnLive m → connectedCount m (runsOf 
 emptied m S h one n b = all-empty (rounds n m) (λ t l. go t l (by-test (connected (m .settings) (runsOf m) t)))
   where
     go : (t : ℕ) → t < total (rounds n m .settings) → (connected (m .settings) (runsOf m) t ≡ true) ⊎ (connected (m .settings) (runsOf m) t ≡ false) → membersOf (rounds n m) t ≡ []
-    go t l (inl e) = cleared m S n (bound-one (m .settings) (connectedCount m (runsOf m)) n one b) t (live-iff (m .settings) (runsOf m) (laid m S) t .1 e)
+    go t l (inl e) = cleared m S n (bound-one (m .settings) (connectedCount m (runsOf m)) n one b) t (live-iff (m .settings) (runsOf m) (routable m S) t .1 e)
     go t l (inr e) = rounds-live n m S h t l (ap (λ (s : Settings). connected s (runsOf (rounds n m)) t) (rounds-settings n m) ∙ ap (λ (r : ℕ → Bool). connected (m .settings) r t) (rounds-runs n m S) ∙ e)
 
 -- K is at most the number of canisters

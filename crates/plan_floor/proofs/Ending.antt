@@ -10,7 +10,7 @@ use lib.Dec.{eqb}
 use lib.ListN.{length, take, List·getD-eq-default}
 use lib.Seq.{getD-set-other}
 use borrow.Author.Tests.{eqb-true, eqb-false, eq-eqb, ne-eqb, lt-ltb, not-false}
-use Rattle.laws.specs.Define.{cat, allOf, anyOf, bit, keep, refusal}
+use Rattle.laws.specs.Define.{cat, allOf, anyOf, bit, filter, refusal}
 use Rattle.laws.specs.Every.{All, Pairs}
 use Rattle.laws.proofs.Tests.{by-test, not-both, and-left, test-none}
 use Rattle.laws.proofs.Lists.{all-mem, all-imp, all-both, mem-perm, mem-cat, cat-nil, length-perm}
@@ -26,32 +26,32 @@ use Rattle.floor.specs.Calls.{refusalOf, answer, booked, roundAnswer}
 use Rattle.floor.specs.Move.{insert}
 use Rattle.floor.specs.Anywhere.{anywhereTests, placedAt, anywhereAnswer}
 use Rattle.floor.specs.Placing.{Free, OthersPass}
-use Rattle.floor.specs.Together.{unplaced}
+use Rattle.floor.specs.CommutingCalls.{unplaced}
 use Rattle.floor.specs.Bound.{bound}
 use Rattle.floor.specs.Live.{LivePath, here, step, connected}
-use Rattle.floor.specs.Demand3.{Call, anywhere, round, Typed, outcome, floorAfter, bookedIn, reportedIn, disturbs, Quiet, roundsIn}
+use Rattle.floor.specs.Demand3.{Call, anywhere, round, InRange, outcome, floorAfter, bookedIn, reportedIn, disturbs, Quiet, roundsIn}
 use Rattle.floor.proofs.Sound.{Sound}
 use Rattle.floor.proofs.Pack.{well-sound}
 use Rattle.floor.proofs.Capacity.{view-packed}
-use Rattle.floor.proofs.Nearest.{laid}
+use Rattle.floor.proofs.Nearest.{routable}
 use Rattle.floor.proofs.Paths.{live-iff}
 use Rattle.floor.proofs.Calls.{Keeps, Accepted, anywhere-accepts, anywhere-keeps, book-runs}
-use Rattle.floor.proofs.Forms.{accepted, booking-pos}
+use Rattle.floor.proofs.GuardedCalls.{accepted, booking-pos}
 use Rattle.floor.proofs.Placing.{placing}
 use Rattle.floor.proofs.Clearing.{rounds, rounds-settings}
 use Rattle.floor.proofs.Lists.{list-keeps, quiet-rounds}
 use Rattle.plan.specs.declared.Entry.{Entry}
 use Rattle.plan.specs.declared.Plan.{Plan}
-use Rattle.plan.specs.Entries.{Stage, waiting, booked as bookedUnder, delivered, stageOf, isWaiting, isDelivered, numberIn, waits, wasDelivered, heldBy, used, predecessors, done, planSound, numbersUpto, planFits, ready, readyLabel, changed, released, reported}
+use Rattle.plan.specs.Entries.{Stage, waiting, booked as bookedUnder, delivered, stageOf, isWaiting, isDelivered, numberIn, waits, wasDelivered, bookedNumber, used, predecessors, done, planSound, numbersUpto, planFits, ready, readyLabel, changed, released, reported}
 use Rattle.plan.specs.Plans.{offerTests, offerAnswer, releaseTests, numberAfter, tileFor, releaseBooking, releaseAnswer}
-use Rattle.plan_floor.specs.Steps.{Step, call, release, report, State, stepped, stateAfter, TypedStep, reportOfCall, reportsOf, callsOf, callsIn, reportedBy}
+use Rattle.plan_floor.specs.Steps.{Step, call, release, report, State, stepped, stateAfter, StepInRange, reportOfCall, reportsOf, callsOf, callsIn, reportedBy}
 use Rattle.plan_floor.specs.Ending.{waitingIn, Served, HandedIn, Cycle, releaseOffered, Cycles, afterCycles, refusalsIn, EndsPromise, handedRounds, schedule, SchedulePromise}
-use Rattle.plan.proofs.Stages.{neither, booked-stage, reported-label, released-there, released-other, used-changed, changed-all, none-held}
+use Rattle.plan.proofs.Stages.{neither, booked-stage, reported-label, released-there, released-other, used-changed, changed-all, none-booked-number}
 use Rattle.plan_floor.proofs.Written.{reported-plain}
 use Rattle.plan_floor.proofs.History.{accepted as passed, ready-entry, all-ready}
 use Rattle.plan_floor.proofs.Offering.{offer-fits, offers}
 use Rattle.plan_floor.proofs.Keeping.{delivered-waits, none-released, reported-waits, reported-delivered, fewer}
-use Rattle.plan_floor.proofs.AsCalls.{same-step, typed-list, as-calls}
+use Rattle.plan_floor.proofs.AsCalls.{same-step, in-range-list, as-calls}
 use Rattle.plan_floor.proofs.Soundness.{good-sound, good-upto, sound-good, labels-differ, Fine, step-fine, list-fine, offers-by}
 use Rattle.plan_floor.proofs.Once.{Under, booked-under}
 use Rattle.plan_floor.proofs.Emptying.{rounds-runs, rounds-last, OnLive, emptied, count-upto}
@@ -120,7 +120,7 @@ module _ (f : Floor) (w : wellFormed f ≡ true) (empty : numbersOn (view f) ≡
 
   live-here : connected (booked m t c .settings) (runsOf (booked m t c)) t ≡ true
   unfolding booked view
-  live-here = ap (λ (r : ℕ → Bool). connected (m .settings) r t) runs-after ∙ live-iff (m .settings) (runsOf m) (laid m S) t .0 (T .live)
+  live-here = ap (λ (r : ℕ → Bool). connected (m .settings) r t) runs-after ∙ live-iff (m .settings) (runsOf m) (routable m S) t .0 (T .live)
 
   one-number : List·Permᴰ (numbersOn (booked m t c)) (n ∷ [])
   one-number =
@@ -143,8 +143,8 @@ stays-empty : (m : Model) → Sound m → numbersOn m ≡ [] → (n : ℕ) → b
 stays-empty m S e n h = emptied m S (λ u l q. none-on m S e u) (omega (arith, count-upto m (runsOf m), ap length e)) n h
 
 -- ---- one label less waits
-fewer-wait : (k n : ℕ) (es : List Entry) → Pairs (λ x y. x .label ≢ y .label) es → (x : Entry) → List·Memᴰ x es → x .label ≡ k → waits x ≡ true → suc (length (keep waits (map (released k n) es))) ≡ length (keep waits es)
-unfolding keep
+fewer-wait : (k n : ℕ) (es : List Entry) → Pairs (λ x y. x .label ≢ y .label) es → (x : Entry) → List·Memᴰ x es → x .label ≡ k → waits x ≡ true → suc (length (filter waits (map (released k n) es))) ≡ length (filter waits es)
+unfolding filter
 fewer-wait k n [] L x m q h = absurd (List·Memᴰ·not-nil m)
 fewer-wait k n (e ∷ es) L x (List·Memᴰ·head p) q h =
     let l : e .label ≡ k = sym (ap (λ (y : Entry). y .label) p) ∙ q in
@@ -154,28 +154,28 @@ fewer-wait k n (e ∷ es) L x (List·Memᴰ·head p) q h =
     rw (a, b, rest) refl
 fewer-wait k n (e ∷ es) L x (List·Memᴰ·tail m) q h =
     let d : e .label ≢ k = λ s. all-mem (λ y. e .label ≢ y .label) m (L .0) (s ∙ sym q) in
-    ap (λ (y : Entry). suc (length (cond (waits y) (y ∷ keep waits (map (released k n) es)) (keep waits (map (released k n) es))))) (released-other k n e d) ∙ go (waits e) (fewer-wait k n es (L .1) x m q h)
+    ap (λ (y : Entry). suc (length (cond (waits y) (y ∷ filter waits (map (released k n) es)) (filter waits (map (released k n) es))))) (released-other k n e d) ∙ go (waits e) (fewer-wait k n es (L .1) x m q h)
   where
-    go : (b : Bool) → suc (length (keep waits (map (released k n) es))) ≡ length (keep waits es)
-        → suc (length (cond b (e ∷ keep waits (map (released k n) es)) (keep waits (map (released k n) es)))) ≡ length (cond b (e ∷ keep waits es) (keep waits es))
+    go : (b : Bool) → suc (length (filter waits (map (released k n) es))) ≡ length (filter waits es)
+        → suc (length (cond b (e ∷ filter waits (map (released k n) es)) (filter waits (map (released k n) es)))) ≡ length (cond b (e ∷ filter waits es) (filter waits es))
     go true ih = ap suc ih
     go false ih = ih
 
-some-wait : (es : List Entry) (n : ℕ) → length (keep waits es) ≡ suc n → anyOf waits es ≡ true
-unfolding keep anyOf
+some-wait : (es : List Entry) (n : ℕ) → length (filter waits es) ≡ suc n → anyOf waits es ≡ true
+unfolding filter anyOf
 some-wait [] n h = absurd (omega arith)
 some-wait (e ∷ es) n h = go (waits e) h (λ q. some-wait es n q)
   where
-    go : (b : Bool) → length (cond b (e ∷ keep waits es) (keep waits es)) ≡ suc n → (length (keep waits es) ≡ suc n → anyOf waits es ≡ true) → (b || anyOf waits es) ≡ true
+    go : (b : Bool) → length (cond b (e ∷ filter waits es) (filter waits es)) ≡ suc n → (length (filter waits es) ≡ suc n → anyOf waits es ≡ true) → (b || anyOf waits es) ≡ true
     go true h ih = refl
     go false h ih = ih h
 
-none-wait : (es : List Entry) → length (keep waits es) ≡ 0 → All (λ e. waits e ≡ false) es
-unfolding keep
+none-wait : (es : List Entry) → length (filter waits es) ≡ 0 → All (λ e. waits e ≡ false) es
+unfolding filter
 none-wait [] h = tt
 none-wait (e ∷ es) h = go (waits e) refl h (λ q. none-wait es q)
   where
-    go : (b : Bool) → waits e ≡ b → length (cond b (e ∷ keep waits es) (keep waits es)) ≡ 0 → (length (keep waits es) ≡ 0 → All (λ e. waits e ≡ false) es) → (waits e ≡ false) × All (λ e. waits e ≡ false) es
+    go : (b : Bool) → waits e ≡ b → length (cond b (e ∷ filter waits es) (filter waits es)) ≡ 0 → (length (filter waits es) ≡ 0 → All (λ e. waits e ≡ false) es) → (waits e ≡ false) × All (λ e. waits e ≡ false) es
     go true q h ih = absurd (omega arith)
     go false q h ih = (q, ih h)
 
@@ -190,8 +190,8 @@ tile-for P k (e ∷ es) x m q h = go (eqb (e .label) k) refl (List·Memᴰ·case
     go false l (inl y) ih = absurd (eqb-false (e .label) k l (sym (ap (λ (z : Entry). z .label) y) ∙ q))
     go false l (inr y) ih = ih y
 
-delivered-held : (e : Entry) → wasDelivered e ≡ true → heldBy e ≡ []
-delivered-held e h = go (stageOf e) h
+delivered-booked-number : (e : Entry) → wasDelivered e ≡ true → bookedNumber e ≡ []
+delivered-booked-number e h = go (stageOf e) h
   where
     go : (s : Stage) → isDelivered s ≡ true → numberIn s ≡ []
     go waiting h = refl
@@ -218,7 +218,7 @@ cat-find {A} (suc n) f x m = go (List·Memᴰ·append-cases (f n) m) (λ q. cat-
 record BetweenCycles (s : State) (n : ℕ) : Type 0 where
   fine : Fine s
   fits : planFits (s .plan) ≡ true
-  none : All (λ e. heldBy e ≡ []) (used (s .plan))
+  none : All (λ e. bookedNumber e ≡ []) (used (s .plan))
   empty : numbersOn (view (s .floor)) ≡ []
   served : All (λ e. waits e ≡ true → Served (s .floor) (e .tile)) (used (s .plan))
   room : s .floor .counters .last + n < 2 ^ 32
@@ -299,9 +299,9 @@ module _ (s : State) (n : ℕ) (R : BetweenCycles s (suc n)) where
   under = subst (λ (q : Plan). Under q k num) (sym plan-is) (booked-under p k num)
 
   abbrev Rest : Entry → Type 0
-  Rest e = e .label ≢ k → heldBy e ≡ []
+  Rest e = e .label ≢ k → bookedNumber e ≡ []
 
-  released-rest : (e : Entry) → heldBy e ≡ [] → Rest (released k num e)
+  released-rest : (e : Entry) → bookedNumber e ≡ [] → Rest (released k num e)
   released-rest e h = go (by-test (eqb (e .label) k))
     where
       go : (eqb (e .label) k ≡ true) ⊎ (eqb (e .label) k ≡ false) → Rest (released k num e)
@@ -309,7 +309,7 @@ module _ (s : State) (n : ℕ) (R : BetweenCycles s (suc n)) where
       go (inr q) = subst Rest (sym (released-other k num e (eqb-false (e .label) k q))) (λ d. h)
 
   rest : All Rest (used (s1 .plan))
-  rest = subst (λ (q : Plan). All Rest (used q)) (sym plan-is) (changed-all (λ e. heldBy e ≡ []) Rest p (released k num) released-rest (R .none))
+  rest = subst (λ (q : Plan). All Rest (used q)) (sym plan-is) (changed-all (λ e. bookedNumber e ≡ []) Rest p (released k num) released-rest (R .none))
 
   -- the tiles of the labels that still wait
   abbrev Tile : Entry → Type 0
@@ -330,8 +330,8 @@ module _ (s : State) (n : ℕ) (R : BetweenCycles s (suc n)) where
   waiting-less =
       let w = entry in
       let less = fewer-wait k num (used p) (labels-differ p (R .fits)) (w .0) (w .1) (w .2) (and-left (waits (w .0)) (allOf (done (used p)) (predecessors (w .0))) (w .3)) in
-      let same : length (keep waits (used (s1 .plan))) ≡ length (keep waits (map (released k num) (used p))) =
-      ap (λ (q : Plan). length (keep waits (used q))) plan-is ∙ ap (λ (es : List Entry). length (keep waits es)) (used-changed p (released k num)) in
+      let same : length (filter waits (used (s1 .plan))) ≡ length (filter waits (map (released k num) (used p))) =
+      ap (λ (q : Plan). length (filter waits (used q))) plan-is ∙ ap (λ (es : List Entry). length (filter waits es)) (used-changed p (released k num)) in
       omega (arith, less, same, R .count)
 
   F1 : Fine s1 × (planFits (s1 .plan) ≡ planFits p)
@@ -348,14 +348,14 @@ module _ (s : State) (n : ℕ) (R : BetweenCycles s (suc n)) where
     abbrev m1 : Model
     m1 = view (s1 .floor)
 
-    typed-calls : All Typed calls
-    typed-calls = typed-list s1 cs (F1 .0 .0) (T .typed)
+    in-range-calls : All InRange calls
+    in-range-calls = in-range-list s1 cs (F1 .0 .0) (T .in-range)
 
     after-calls : floorAfter (s1 .floor) calls ≡ now .floor
     after-calls = as-calls s1 cs .same-floor
 
     value-now : (l : List Layout) × (view (now .floor) ≡ withLayouts (rounds (roundsIn calls) m1) l)
-    value-now = subst (λ (h : Floor). (l : List Layout) × (view h ≡ withLayouts (rounds (roundsIn calls) m1) l)) after-calls (quiet-rounds (s1 .floor) (F1 .0 .0) calls typed-calls (T .quiet))
+    value-now = subst (λ (h : Floor). (l : List Layout) × (view h ≡ withLayouts (rounds (roundsIn calls) m1) l)) after-calls (quiet-rounds (s1 .floor) (F1 .0 .0) calls in-range-calls (T .quiet))
 
     empty-now : numbersOn (view (now .floor)) ≡ []
     unfolding numbersOn view
@@ -377,7 +377,7 @@ module _ (s : State) (n : ℕ) (R : BetweenCycles s (suc n)) where
     -- the number left the floor, so a round reported it
     reported-now : (j : ℕ) × (j < 4) × List·Memᴰ num (reportedBy s1 cs j)
     reported-now =
-        let L = list-keeps (s1 .floor) (F1 .0 .0) calls typed-calls in
+        let L = list-keeps (s1 .floor) (F1 .0 .0) calls in-range-calls in
         let there : List·Memᴰ num (numbersOn m1) = mem-perm (Permᴰ·symm (A .one)) num (List·Memᴰ·head refl) in
         let left = mem-perm (Permᴰ·symm (L .1 .nums)) num (Memᴰ·append-left (bookedIn (s1 .floor) calls) there) in
         let gone : numbersOn (view (floorAfter (s1 .floor) calls)) ≡ [] = ap (λ (h : Floor). numbersOn (view h)) after-calls ∙ empty-now in
@@ -389,22 +389,22 @@ module _ (s : State) (n : ℕ) (R : BetweenCycles s (suc n)) where
         go (inr q) e = let r = cat-find 4 (reportedIn (s1 .floor) calls) num q in (r .0, r .1, subst (List·Memᴰ num) (as-calls s1 cs .same-reported (r .0)) (r .2))
 
     arrived : Arrived (now .plan) k
-    arrived = let r = reported-now in round-marks s1 cs (r .0) k num (T .typed) (F1 .0) (F1 .1 ∙ R .fits) under (T .handed) (r .1) (r .2)
+    arrived = let r = reported-now in round-marks s1 cs (r .0) k num (T .in-range) (F1 .0) (F1 .1 ∙ R .fits) under (T .handed) (r .1) (r .2)
 
     still-rest : (l : List ℕ) (e : Entry) → Rest e → Rest (reported l e)
     still-rest l e h d = go (fewer l e)
       where
-        go : (heldBy (reported l e) ≡ []) ⊎ (heldBy (reported l e) ≡ heldBy e) → heldBy (reported l e) ≡ []
+        go : (bookedNumber (reported l e) ≡ []) ⊎ (bookedNumber (reported l e) ≡ bookedNumber e) → bookedNumber (reported l e) ≡ []
         go (inl q) = q
         go (inr q) = q ∙ h (λ x. d (reported-label l e ∙ x))
 
-    none-now : All (λ e. heldBy e ≡ []) (used (now .plan))
+    none-now : All (λ e. bookedNumber e ≡ []) (used (now .plan))
     none-now =
-        all-imp (λ e. (e .label ≡ k → wasDelivered e ≡ true) × Rest e) (λ e. heldBy e ≡ []) (used (now .plan)) (λ e h. go e (h .0) (h .1) (by-test (eqb (e .label) k)))
+        all-imp (λ e. (e .label ≡ k → wasDelivered e ≡ true) × Rest e) (λ e. bookedNumber e ≡ []) (used (now .plan)) (λ e h. go e (h .0) (h .1) (by-test (eqb (e .label) k)))
         (all-both (λ e. e .label ≡ k → wasDelivered e ≡ true) Rest (used (now .plan)) arrived (quiet-list Rest still-rest s1 cs (T .quiet) rest))
       where
-        go : (e : Entry) → (e .label ≡ k → wasDelivered e ≡ true) → Rest e → (eqb (e .label) k ≡ true) ⊎ (eqb (e .label) k ≡ false) → heldBy e ≡ []
-        go e a b (inl q) = delivered-held e (a (eqb-true (e .label) k q))
+        go : (e : Entry) → (e .label ≡ k → wasDelivered e ≡ true) → Rest e → (eqb (e .label) k ≡ true) ⊎ (eqb (e .label) k ≡ false) → bookedNumber e ≡ []
+        go e a b (inl q) = delivered-booked-number e (a (eqb-true (e .label) k q))
         go e a b (inr q) = b (eqb-false (e .label) k q)
 
     still-tile : (l : List ℕ) (e : Entry) → Tile e → Tile (reported l e)
@@ -417,7 +417,7 @@ module _ (s : State) (n : ℕ) (R : BetweenCycles s (suc n)) where
 
     between-now : BetweenCycles now n
     between-now =
-        let F = list-fine s1 cs (T .typed) (F1 .0) in
+        let F = list-fine s1 cs (T .in-range) (F1 .0) in
         record {
           fine = F .0;
           fits = F .1 ∙ F1 .1 ∙ R .fits;
@@ -432,8 +432,8 @@ module _ (s : State) (n : ℕ) (R : BetweenCycles s (suc n)) where
 all-arrived : (s : State) → BetweenCycles s 0 → All (λ e. wasDelivered e ≡ true) (used (s .plan))
 unfolding waitingIn
 all-arrived s R =
-    all-imp (λ e. (waits e ≡ false) × (heldBy e ≡ [])) (λ e. wasDelivered e ≡ true) (used (s .plan)) (λ e h. neither e (h .0) (h .1))
-    (all-both (λ e. waits e ≡ false) (λ e. heldBy e ≡ []) (used (s .plan)) (none-wait (used (s .plan)) (R .count)) (R .none))
+    all-imp (λ e. (waits e ≡ false) × (bookedNumber e ≡ [])) (λ e. wasDelivered e ≡ true) (used (s .plan)) (λ e h. neither e (h .0) (h .1))
+    (all-both (λ e. waits e ≡ false) (λ e. bookedNumber e ≡ []) (used (s .plan)) (none-wait (used (s .plan)) (R .count)) (R .none))
 
 -- all delivered, on an empty floor
 record Idle (s : State) : Type 0 where
@@ -463,11 +463,11 @@ module _ (s : State) (I : Idle s) where
       let m = view (s .floor) in
       let S = well-sound (s .floor) (I .well) in
       let calls = callsIn s cs in
-      let typed = typed-list s cs (I .well) (T .typed) in
+      let in-range = in-range-list s cs (I .well) (T .in-range) in
       let same = as-calls s cs .same-floor in
-      let value = quiet-rounds (s .floor) (I .well) calls typed (T .quiet) in
+      let value = quiet-rounds (s .floor) (I .well) calls in-range (T .quiet) in
       record {
-        well = subst (λ (h : Floor). wellFormed h ≡ true) same (list-keeps (s .floor) (I .well) calls typed .0);
+        well = subst (λ (h : Floor). wellFormed h ≡ true) same (list-keeps (s .floor) (I .well) calls in-range .0);
         delivered = quiet-list (λ e. wasDelivered e ≡ true) reported-delivered s cs (T .quiet) (I .delivered);
         empty = ap (λ (h : Floor). numbersOn (view h)) (sym same) ∙ ap numbersOn (value .1) ∙ stays-empty m S (I .empty) (roundsIn calls) (T .enough);
       }
@@ -493,9 +493,9 @@ cycle-by-cycle (suc n) (cs ∷ cycles) s R l T =
     record { accepted = (taken s n R, E .accepted); idle = E .idle }
 
 -- ---- at first
-none-upto : (last : ℕ) (p : Plan) → All (λ e. heldBy e ≡ []) (used p) → numbersUpto last p ≡ true
+none-upto : (last : ℕ) (p : Plan) → All (λ e. bookedNumber e ≡ []) (used p) → numbersUpto last p ≡ true
 unfolding numbersUpto allOf
-none-upto last p h = rw (none-held (used p) h) refl
+none-upto last p h = rw (none-booked-number (used p) h) refl
 
 offer-sound : (p : Plan) → offerAnswer p .refusal ≡ 0 → planSound p ≡ true
 unfolding offerAnswer offerTests
@@ -530,10 +530,10 @@ unfolding handedRounds reportsOf reportOfCall
 handed-in zero s = tt
 handed-in (suc n) s = ((List·Memᴰ·head refl, tt), (tt, handed-in n (stepped (stepped s (call round)) (report (roundAnswer (s .floor) .report)))))
 
-pub handed-typed : (n : ℕ) (s : State) → All TypedStep (handedRounds n s)
+pub handed-in-range : (n : ℕ) (s : State) → All StepInRange (handedRounds n s)
 unfolding handedRounds
-handed-typed zero s = tt
-handed-typed (suc n) s = (tt, (tt, handed-typed n (stepped (stepped s (call round)) (report (roundAnswer (s .floor) .report)))))
+handed-in-range zero s = tt
+handed-in-range (suc n) s = (tt, (tt, handed-in-range n (stepped (stepped s (call round)) (report (roundAnswer (s .floor) .report)))))
 
 pub scheduled-cycles : (n : ℕ) (s : State) → Cycles s (schedule n s)
 unfolding schedule
@@ -541,7 +541,7 @@ scheduled-cycles zero s = tt
 scheduled-cycles (suc n) s =
     let r = releaseOffered s in
     let k = bound (r .floor .settings) 1 in
-    (record { typed = handed-typed k r; quiet = handed-quiet k r; handed = handed-in k r; enough = omega (arith, handed-rounds k r) }, scheduled-cycles n (stateAfter r (handedRounds k r)))
+    (record { in-range = handed-in-range k r; quiet = handed-quiet k r; handed = handed-in k r; enough = omega (arith, handed-rounds k r) }, scheduled-cycles n (stateAfter r (handedRounds k r)))
 
 pub scheduled-length : (n : ℕ) (s : State) → length (schedule n s) ≡ n
 unfolding schedule

@@ -24,20 +24,20 @@ use Rattle.plan.proofs.Stages.{marked, booked-stage, reported-stage, reported-l
 use Rattle.plan_floor.proofs.Written.{list-predecessors}
 
 -- ---- what a stage says of the past
-abbrev Told : ℕ → Stage → List Event → Type 0
-Told k waiting past = Unit {0}
-Told k (booked n) past = List·Memᴰ (booking k n) past
-Told k delivered past = (n : ℕ) × BookedThenListed k n past
+abbrev StageRecorded : ℕ → Stage → List Event → Type 0
+StageRecorded k waiting past = Unit {0}
+StageRecorded k (booked n) past = List·Memᴰ (booking k n) past
+StageRecorded k delivered past = (n : ℕ) × BookedThenListed k n past
 
 abbrev Recorded : List Event → Entry → Type 0
-Recorded past e = Told (e .label) (stageOf e) past
+Recorded past e = StageRecorded (e .label) (stageOf e) past
 
 -- more events take nothing back
 still-reported : {k n : ℕ} {past : List Event} (new : List Event) → BookedThenListed k n past → BookedThenListed k n (past ++ new)
 still-reported new (here m) = here (Memᴰ·append-left new m)
 still-reported new (later r) = later (still-reported new r)
 
-more : (k : ℕ) (s : Stage) (past new : List Event) → Told k s past → Told k s (past ++ new)
+more : (k : ℕ) (s : Stage) (past new : List Event) → StageRecorded k s past → StageRecorded k s (past ++ new)
 more k waiting past new h = tt
 more k (booked n) past new h = Memᴰ·append-left new h
 more k delivered past new h = (h .0, still-reported new (h .1))
@@ -50,26 +50,26 @@ listed-after new (List·Memᴰ·tail b) m = later (listed-after new b m)
 any-listed : (n : ℕ) (l : List ℕ) → anyOf (eqb n) l ≡ true → List·Memᴰ (listing n) (map listing l)
 any-listed n l h = let r = any-find (eqb n) l h in subst (λ (x : ℕ). List·Memᴰ (listing x) (map listing l)) (sym (eqb-true n (r .0) (r .2))) (mem-map listing (r .1))
 
-marked-told : (k : ℕ) (s : Stage) (l : List ℕ) (past : List Event) → Told k s past → Told k (marked l s) (past ++ map listing l)
-marked-told k waiting l past h = tt
-marked-told k (booked n) l past h = go (anyOf (eqb n) l) refl
+marked-recorded : (k : ℕ) (s : Stage) (l : List ℕ) (past : List Event) → StageRecorded k s past → StageRecorded k (marked l s) (past ++ map listing l)
+marked-recorded k waiting l past h = tt
+marked-recorded k (booked n) l past h = go (anyOf (eqb n) l) refl
   where
-    go : (b : Bool) → anyOf (eqb n) l ≡ b → Told k (cond b delivered (booked n)) (past ++ map listing l)
+    go : (b : Bool) → anyOf (eqb n) l ≡ b → StageRecorded k (cond b delivered (booked n)) (past ++ map listing l)
     go true e = (n, listed-after (map listing l) h (any-listed n l e))
     go false e = Memᴰ·append-left (map listing l) h
-marked-told k delivered l past h = more k delivered past (map listing l) h
+marked-recorded k delivered l past h = more k delivered past (map listing l) h
 
 -- ---- one entry
-booked-told : (k n : ℕ) (e : Entry) (past : List Event) → Recorded past e → Recorded (past ++ (booking k n ∷ [])) (released k n e)
+booked-recorded : (k n : ℕ) (e : Entry) (past : List Event) → Recorded past e → Recorded (past ++ (booking k n ∷ [])) (released k n e)
 unfolding released
-booked-told k n e past h = go (eqb (e .label) k) refl
+booked-recorded k n e past h = go (eqb (e .label) k) refl
   where
     go : (b : Bool) → eqb (e .label) k ≡ b → Recorded (past ++ (booking k n ∷ [])) (cond b (bookedAs n e) e)
-    go true q = subst (λ (s : Stage). Told (e .label) s (past ++ (booking k n ∷ []))) (sym (booked-stage n e)) (Memᴰ·append-right past (List·Memᴰ·head (ap (λ (x : ℕ). booking x n) (eqb-true (e .label) k q))))
+    go true q = subst (λ (s : Stage). StageRecorded (e .label) s (past ++ (booking k n ∷ []))) (sym (booked-stage n e)) (Memᴰ·append-right past (List·Memᴰ·head (ap (λ (x : ℕ). booking x n) (eqb-true (e .label) k q))))
     go false q = more (e .label) (stageOf e) past (booking k n ∷ []) h
 
-marks-told : (l : List ℕ) (e : Entry) (past : List Event) → Recorded past e → Recorded (past ++ map listing l) (reported l e)
-marks-told l e past h = rw (reported-stage l e, reported-label l e) (marked-told (e .label) (stageOf e) l past h)
+marks-recorded : (l : List ℕ) (e : Entry) (past : List Event) → Recorded past e → Recorded (past ++ map listing l) (reported l e)
+marks-recorded l e past h = rw (reported-stage l e, reported-label l e) (marked-recorded (e .label) (stageOf e) l past h)
 
 -- ---- the invariant: every used entry is as the past says
 abbrev Inv : Plan → List Event → Type 0
@@ -87,12 +87,12 @@ call-inv p (planRelease f k) past h = go (eqb (releaseAnswer p f k .refusal) 0)
     n = numberAfter f
 
     go : (b : Bool) → Inv (cond b (changed p (released k n)) p) (past ++ cond b (booking k (cond b n 0) ∷ []) [])
-    go true = changed-all (Recorded past) (Recorded (past ++ (booking k n ∷ []))) p (released k n) (λ e r. booked-told k n e past r) h
+    go true = changed-all (Recorded past) (Recorded (past ++ (booking k n ∷ []))) p (released k n) (λ e r. booked-recorded k n e past r) h
     go false = none-new p past h
 call-inv p (planReport r) past h = go (eqb (refusal (reportTests p r)) 0)
   where
     go : (b : Bool) → Inv (cond b (changed p (reported (numbersIn r))) p) (past ++ cond b (map listing (numbersIn r)) [])
-    go true = changed-all (Recorded past) (Recorded (past ++ map listing (numbersIn r))) p (reported (numbersIn r)) (λ e q. marks-told (numbersIn r) e past q) h
+    go true = changed-all (Recorded past) (Recorded (past ++ map listing (numbersIn r))) p (reported (numbersIn r)) (λ e q. marks-recorded (numbersIn r) e past q) h
     go false = none-new p past h
 
 list-inv : (p : Plan) (cs : List PlanCall) (past : List Event) → Inv p past → Inv (planAfter p cs) (past ++ eventsIn p cs)
@@ -143,18 +143,18 @@ pub accepted : (p : Plan) (f : Floor) (k : ℕ) → releaseAnswer p f k .refusal
 accepted p f k h = tests-passed p f k (own-passed p f k h)
 
 -- the entries of one label are one entry
-pub Alone : List Entry → Type 0
-Alone es = (x y : Entry) → List·Memᴰ x es → List·Memᴰ y es → x .label ≡ y .label → x ≡ y
+pub DistinctLabels : List Entry → Type 0
+DistinctLabels es = (x y : Entry) → List·Memᴰ x es → List·Memᴰ y es → x .label ≡ y .label → x ≡ y
 
-pub alone : (es : List Entry) → pairsOf (λ x y. not (eqb (x .label) (y .label))) es ≡ true → Alone es
-unfolding Alone pairsOf
-alone [] h x y a b e = absurd (List·Memᴰ·not-nil a)
-alone (z ∷ es) h x y a b e = go a b (alone es (and-right (allOf (λ y. not (eqb (z .label) (y .label))) es) (pairsOf (λ x y. not (eqb (x .label) (y .label))) es) h))
+pub distinct-labels : (es : List Entry) → pairsOf (λ x y. not (eqb (x .label) (y .label))) es ≡ true → DistinctLabels es
+unfolding DistinctLabels pairsOf
+distinct-labels [] h x y a b e = absurd (List·Memᴰ·not-nil a)
+distinct-labels (z ∷ es) h x y a b e = go a b (distinct-labels es (and-right (allOf (λ y. not (eqb (z .label) (y .label))) es) (pairsOf (λ x y. not (eqb (x .label) (y .label))) es) h))
   where
     away : (y : Entry) → List·Memᴰ y es → z .label ≢ y .label
     away y m q = not-both (eq-eqb (z .label) (y .label) q) (not-true (eqb (z .label) (y .label)) (all-mem (λ y. not (eqb (z .label) (y .label)) ≡ true) m (all-true (λ y. not (eqb (z .label) (y .label))) es (and-left (allOf (λ y. not (eqb (z .label) (y .label))) es) (pairsOf (λ x y. not (eqb (x .label) (y .label))) es) h))))
 
-    go : List·Memᴰ x (z ∷ es) → List·Memᴰ y (z ∷ es) → Alone es → x ≡ y
+    go : List·Memᴰ x (z ∷ es) → List·Memᴰ y (z ∷ es) → DistinctLabels es → x ≡ y
     go (List·Memᴰ·head p) (List·Memᴰ·head q) ih = p ∙ sym q
     go (List·Memᴰ·head p) (List·Memᴰ·tail q) ih = absurd (away y q (sym (ap (λ (w : Entry). w .label) p) ∙ e))
     go (List·Memᴰ·tail p) (List·Memᴰ·head q) ih = absurd (away x p (sym (ap (λ (w : Entry). w .label) q) ∙ sym e))
@@ -183,9 +183,9 @@ module _ (p : Plan) (fits : planFits p ≡ true) where
   unfolding entryFits
   fits-predecessors e m = all-true (λ j. ltb j (e .label) && present es j) (predecessors e) (and-right (leb 1 (e .label) && leb (e .label) 64) _ (fits-entry e m))
 
-  pub fits-alone : Alone es
+  pub fits-distinct : DistinctLabels es
   unfolding planFits
-  fits-alone = alone es (and-right (allOf (entryFits es) es) _ fits)
+  fits-distinct = distinct-labels es (and-right (allOf (entryFits es) es) _ fits)
 
   -- the entry that is ready under label k
   pub ready-entry : (k : ℕ) → readyLabel es k ≡ true → (e : Entry) × List·Memᴰ e es × (e .label ≡ k) × (ready es e ≡ true)
@@ -197,8 +197,8 @@ module _ (p : Plan) (fits : planFits p ≡ true) where
 
   -- every entry of that label is ready
   pub all-ready : (k : ℕ) → readyLabel es k ≡ true → (x : Entry) → List·Memᴰ x es → x .label ≡ k → ready es x ≡ true
-  unfolding Alone
-  all-ready k r x m q = let w = ready-entry k r in subst (λ (z : Entry). ready es z ≡ true) (fits-alone (w .0) x (w .1) m (w .2 ∙ sym q)) (w .3)
+  unfolding DistinctLabels
+  all-ready k r x m q = let w = ready-entry k r in subst (λ (z : Entry). ready es z ≡ true) (fits-distinct (w .0) x (w .1) m (w .2 ∙ sym q)) (w .3)
 
   module _ (past : List Event) (inv : Inv p past) where
     abbrev Was : ℕ → Type 0
@@ -211,12 +211,12 @@ module _ (p : Plan) (fits : planFits p ≡ true) where
         let r = any-find (λ x. eqb (x .label) j) es there in
         let x = r .0 in
         let q = all-mem (λ x. (not (eqb (x .label) j) || wasDelivered x) ≡ true) (r .1) (all-true (λ x. not (eqb (x .label) j) || wasDelivered x) es d) in
-        subst Was (eqb-true (x .label) j (r .2)) (told (stageOf x) (subst (λ (b : Bool). (not b || wasDelivered x) ≡ true) (r .2) q) (all-mem (Recorded past) (r .1) inv))
+        subst Was (eqb-true (x .label) j (r .2)) (was-listed (stageOf x) (subst (λ (b : Bool). (not b || wasDelivered x) ≡ true) (r .2) q) (all-mem (Recorded past) (r .1) inv))
       where
-        told : {i : ℕ} (s : Stage) → isDelivered s ≡ true → Told i s past → Was i
-        told waiting h t = absurd (false≢true h)
-        told (booked n) h t = absurd (false≢true h)
-        told delivered h t = t
+        was-listed : {i : ℕ} (s : Stage) → isDelivered s ≡ true → StageRecorded i s past → Was i
+        was-listed waiting h t = absurd (false≢true h)
+        was-listed (booked n) h t = absurd (false≢true h)
+        was-listed delivered h t = t
 
     ready-reported : (e : Entry) → List·Memᴰ e es → ready es e ≡ true → All Was (predecessors e)
     unfolding ready
@@ -234,7 +234,7 @@ waiting-inv : (p : Plan) → allWaiting p ≡ true → Inv p []
 unfolding allWaiting
 waiting-inv p h = all-imp (λ e. waits e ≡ true) (Recorded []) (used p) (λ e w. go (e .label) (stageOf e) w) (all-true waits (used p) h)
   where
-    go : (k : ℕ) (s : Stage) → isWaiting s ≡ true → Told k s []
+    go : (k : ℕ) (s : Stage) → isWaiting s ≡ true → StageRecorded k s []
     go k waiting w = tt
     go k (booked n) w = absurd (false≢true w)
     go k delivered w = absurd (false≢true w)

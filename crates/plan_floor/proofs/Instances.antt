@@ -25,18 +25,18 @@ use Rattle.floor.proofs.Calling.{got, holds}
 use Rattle.floor.proofs.Calling as Calling
 use Rattle.floor.proofs.AnywhereSamples.{small}
 use Rattle.floor.proofs.Pack.{well-sound}
-use Rattle.floor.proofs.Nearest.{laid}
+use Rattle.floor.proofs.Nearest.{routable}
 use Rattle.floor.proofs.Paths.{live-iff}
 use Rattle.plan.specs.declared.Entry.{Entry}
 use Rattle.plan.specs.declared.Plan.{Plan}
-use Rattle.plan.specs.Entries.{stageOf, waits, wasDelivered, heldBy, used, predecessors, done, present, bookedNumbers, afterPredecessors, planSound, numbersUpto, entryFits, planFits, ready, readyLabel, released, reported}
+use Rattle.plan.specs.Entries.{stageOf, waits, wasDelivered, bookedNumber, used, predecessors, done, present, bookedNumbers, afterPredecessors, planSound, numbersUpto, entryFits, planFits, ready, readyLabel, released, reported}
 use Rattle.plan.specs.Plans.{offerTests, offered, offerAnswer, releaseTests, numberAfter, tileFor, releaseBooking, releaseAnswer, numbersIn, reportTests, reportAnswer}
 use Rattle.plan.proofs.Samples.{entry, plan, two, delivery, report as lists}
-use Rattle.plan_floor.specs.Steps.{PlanCall, planOffer, planRelease, planReport, planGiven, planAfter, allWaiting, Event, booking, listing, eventsOf, eventsIn, BookedThenListed, predecessorsOf, bookingsOf, bookingsIn, Step, call, offer, release, report, State, stepped, stateAfter, planCallsOf, planCallsIn, stepEvents, stepBookings, TypedStep, reportOfCall, reportsOf, FromRounds, callsOf, callsIn, bookedBy, reportedBy}
+use Rattle.plan_floor.specs.Steps.{PlanCall, planOffer, planRelease, planReport, planGiven, planAfter, allWaiting, Event, booking, listing, eventsOf, eventsIn, BookedThenListed, predecessorsOf, bookingsOf, bookingsIn, Step, call, offer, release, report, State, stepped, stateAfter, planCallsOf, planCallsIn, stepEvents, stepBookings, StepInRange, reportOfCall, reportsOf, FromRounds, callsOf, callsIn, bookedBy, reportedBy}
 use Rattle.plan_floor.specs.Ending.{waitingIn, Served, Cycle, releaseOffered, afterCycles, refusalsIn, Begins, Ended, handedRounds, schedule}
 use Rattle.plan_floor.specs.Promises.{Offers, asWritten, SameWritten, PlanStays, StaysSound, AsCalls, OnFloorUntilReported}
 use Rattle.plan_floor.proofs.Samples.{handed-from-rounds}
-use Rattle.plan_floor.proofs.Ending.{handed-typed, handed-quiet, handed-in, handed-rounds, scheduled-cycles, scheduled-length}
+use Rattle.plan_floor.proofs.Ending.{handed-in-range, handed-quiet, handed-in, handed-rounds, scheduled-cycles, scheduled-length}
 use Rattle.plan_floor.proofs.Promises.{plans}
 
 -- ---- floors and plans
@@ -118,7 +118,7 @@ none-offered : offerAnswer all .label ≡ 0
 none-offered = all-offers .none .1 (λ e m. all-mem (λ x. ready (used all) x ≡ false) m all-unready)
 
 -- 2 waits, and nothing booked is undelivered
-half-test : (anyOf waits (used half) ≡ true) × All (λ e. heldBy e ≡ []) (used half)
+half-test : (anyOf waits (used half) ≡ true) × All (λ e. bookedNumber e ≡ []) (used half)
 unfolding refusals
 half-test = (refl, (refl, (refl, tt)))
 
@@ -126,7 +126,7 @@ half-goes-on : offerAnswer half .label ≢ 0
 half-goes-on = plans .offers half (offer-test .1 .1) .goes-on (half-test .0) (half-test .1)
 
 -- ---- `books`: label 2 under 7, and an entry of another label
-booked-seven : heldBy (released 2 7 (entry 2 0 1 0 0 0)) ≡ 7 ∷ []
+booked-seven : bookedNumber (released 2 7 (entry 2 0 1 0 0 0)) ≡ 7 ∷ []
 unfolding entry
 booked-seven = plans .books 2 7 (entry 2 0 1 0 0 0) .booked refl
 
@@ -147,7 +147,7 @@ stays-delivered : wasDelivered (reported (4 ∷ []) (entry 2 6 1 0 2 7)) ≡ tru
 unfolding entry stageOf
 stays-delivered = plans .marks (4 ∷ []) (entry 2 6 1 0 2 7) .exactly .1 (inl refl)
 
-by-listing : (wasDelivered (entry 2 6 1 0 1 7) ≡ true) ⊎ ((n : ℕ) × List·Memᴰ n (heldBy (entry 2 6 1 0 1 7)) × List·Memᴰ n (4 ∷ 7 ∷ []))
+by-listing : (wasDelivered (entry 2 6 1 0 1 7) ≡ true) ⊎ ((n : ℕ) × List·Memᴰ n (bookedNumber (entry 2 6 1 0 1 7)) × List·Memᴰ n (4 ∷ 7 ∷ []))
 by-listing = plans .marks (4 ∷ 7 ∷ []) (entry 2 6 1 0 1 7) .exactly .0 listed-seven
 
 unlisted : reported (4 ∷ 7 ∷ []) (entry 2 6 1 0 1 8) ≡ entry 2 6 1 0 1 8
@@ -284,13 +284,13 @@ wide-well : wellFormed (wide .floor) ≡ true
 unfolding refusals wide
 wide-well = refl
 
-typed-reporting : All TypedStep reporting
+in-range-reporting : All StepInRange reporting
 unfolding reporting
-typed-reporting = (tt, handed-typed 2 first)
+in-range-reporting = (tt, handed-in-range 2 first)
 
-typed-both : All TypedStep both
+in-range-both : All StepInRange both
 unfolding both
-typed-both = all-append TypedStep reporting (release 2 ∷ []) typed-reporting (tt, tt)
+in-range-both = all-append StepInRange reporting (release 2 ∷ []) in-range-reporting (tt, tt)
 
 wide-test : ((allWaiting (wide .plan) ≡ true) × (predecessorsOf (used (wide .plan)) 2 ≡ 1 ∷ [])) × ((releaseAnswer (stateAfter wide reporting .plan) (stateAfter wide reporting .floor) 2 .refusal ≡ 0) × (stepBookings wide both ≡ (1, 1) ∷ (2, 2) ∷ []))
 unfolding refusals wide reporting both
@@ -312,10 +312,10 @@ one-by-round =
 
 -- `rising`, `canisters`
 numbers-rise : Pairs {A = ℕ × ℕ} (λ x y. x .1 < y .1) ((1, 1) ∷ (2, 2) ∷ [])
-numbers-rise = subst (Pairs (λ (x : ℕ × ℕ) (y : ℕ × ℕ). x .1 < y .1)) (wide-test .1 .1) (plans .rising wide wide-well both typed-both)
+numbers-rise = subst (Pairs (λ (x : ℕ × ℕ) (y : ℕ × ℕ). x .1 < y .1)) (wide-test .1 .1) (plans .rising wide wide-well both in-range-both)
 
 canisters-both : All {A = ℕ × ℕ} (λ x. OnFloorUntilReported wide both (x .1)) ((1, 1) ∷ (2, 2) ∷ [])
-canisters-both = subst (All (λ (x : ℕ × ℕ). OnFloorUntilReported wide both (x .1))) (wide-test .1 .1) (plans .canisters wide wide-well both typed-both)
+canisters-both = subst (All (λ (x : ℕ × ℕ). OnFloorUntilReported wide both (x .1))) (wide-test .1 .1) (plans .canisters wide wide-well both in-range-both)
 
 second-either : List·Memᴰ 2 (numbersOn (view (stateAfter wide both .floor))) ⊎ List·Memᴰ 2 (reportedAll (wide .floor) (callsIn wide both))
 second-either = canisters-both .1 .0 .either
@@ -330,16 +330,16 @@ begun = record { plan = out; floor = Calling.book 1 0 0 0 tight }
 unfoldable onward : List Step
 onward = call (stop 1) ∷ call round ∷ call round ∷ offer ∷ report one ∷ release 2 ∷ []
 
-typed-onward : All TypedStep onward
+in-range-onward : All StepInRange onward
 unfolding onward
-typed-onward = (tt, (tt, (tt, (tt, (tt, (tt, tt))))))
+in-range-onward = (tt, (tt, (tt, (tt, (tt, (tt, tt))))))
 
 begun-test : (planSound (begun .plan) ≡ true) × ((numbersUpto (begun .floor .counters .last) (begun .plan) ≡ true) × ((wellFormed (begun .floor) ≡ true) × (planFits (begun .plan) ≡ true)))
 unfolding refusals begun
 begun-test = (refl, (refl, (refl, refl)))
 
 onward-stays : StaysSound (begun .plan) (stateAfter begun onward)
-onward-stays = plans .stays-sound begun (begun-test .0) (begun-test .1 .0) (begun-test .1 .1 .0) onward typed-onward
+onward-stays = plans .stays-sound begun (begun-test .0) (begun-test .1 .0) (begun-test .1 .1 .0) onward in-range-onward
 
 onward-plan : PlanStays (begun .plan) (stateAfter begun onward .plan)
 onward-plan = onward-stays .plan
@@ -369,14 +369,14 @@ onward-reported : (k : ℕ) → reportedIn (begun .floor) (callsIn begun onward)
 onward-reported = onward-calls .same-reported
 
 onward-demand3 : Promises (begun .floor) (callsIn begun onward)
-onward-demand3 = onward-calls .promises (begun-test .1 .1 .0) typed-onward
+onward-demand3 = onward-calls .promises (begun-test .1 .1 .0) in-range-onward
 
 -- on a malformed floor too
 malformed-floor : floorAfter zeroFloor (callsIn (record { plan = out; floor = zeroFloor }) onward) ≡ stateAfter (record { plan = out; floor = zeroFloor }) onward .floor
 malformed-floor = plans .as-calls (record { plan = out; floor = zeroFloor }) onward .same-floor
 
 -- ---- `ends` on two labels
-begins-test : ((offerAnswer (wide .plan) .refusal ≡ 0) × All (λ e. heldBy e ≡ []) (used (wide .plan))) × ((numbersOn (view (wide .floor)) ≡ []) × ((ltb (wide .floor .counters .last + waitingIn (wide .plan)) (2 ^ 32) ≡ true) × (waitingIn (wide .plan) ≡ 2)))
+begins-test : ((offerAnswer (wide .plan) .refusal ≡ 0) × All (λ e. bookedNumber e ≡ []) (used (wide .plan))) × ((numbersOn (view (wide .floor)) ≡ []) × ((ltb (wide .floor .counters .last + waitingIn (wide .plan)) (2 ^ 32) ≡ true) × (waitingIn (wide .plan) ≡ 2)))
 unfolding refusals wide
 begins-test = ((refl, (refl, (refl, tt))), (refl, (refl, refl)))
 
@@ -391,7 +391,7 @@ zero-served =
     record {
       on-floor = ltb-true 0 (total (wide .floor .settings)) (served-test .0);
       fill-tile = served-test .1 .0;
-      live = live-iff (m .settings) (runsOf m) (laid m (well-sound (wide .floor) wide-well)) 0 .1 (served-test .1 .1);
+      live = live-iff (m .settings) (runsOf m) (routable m (well-sound (wide .floor) wide-well)) 0 .1 (served-test .1 .1);
     }
 
 both-served : All (λ e. waits e ≡ true → Served (wide .floor) (e .tile)) (used (two 0))
@@ -425,7 +425,7 @@ unfolding stopping stepped callsIn callsOf reportsOf reportOfCall
 stopping-cycle =
     let s = stepped (releaseOffered wide) (call (stop 1)) in
     record {
-      typed = (tt, (tt, handed-typed 3 s));
+      in-range = (tt, (tt, handed-in-range 3 s));
       quiet = (stopping-test .0, handed-quiet 3 s);
       handed = (tt, (tt, handed-in 3 s));
       enough = omega (arith, stopping-test .1, handed-rounds 3 s);

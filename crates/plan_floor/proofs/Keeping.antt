@@ -12,7 +12,7 @@ use Rattle.laws.proofs.Tests.{by-test, not-both, and-right, and-left, or-case, 
 use Rattle.laws.proofs.Lists.{all-mem, all-of, all-imp, all-append, all-map, all-true, true-all, all-left, all-right, pairs-left, pairs-right, pairs-append, pairs-between}
 use Rattle.plan.specs.declared.Entry.{Entry}
 use Rattle.plan.specs.declared.Plan.{Plan}
-use Rattle.plan.specs.Entries.{Stage, waiting, booked, delivered, stageOf, isWaiting, isDelivered, numberIn, waits, wasDelivered, heldBy, used, predecessors, done, present, bookedNumbers, afterPredecessors, entryFits, planFits, ready, readyLabel, changed, bookedAs, released, reported}
+use Rattle.plan.specs.Entries.{Stage, waiting, booked, delivered, stageOf, isWaiting, isDelivered, numberIn, waits, wasDelivered, bookedNumber, used, predecessors, done, present, bookedNumbers, afterPredecessors, entryFits, planFits, ready, readyLabel, changed, bookedAs, released, reported}
 use Rattle.plan.proofs.Stages.{marked, booked-stage, reported-stage, released-label, reported-label, released-there, released-other, used-changed}
 use Rattle.plan_floor.proofs.Written.{Plain, released-plain, reported-plain, same-predecessors}
 use Rattle.plan_floor.proofs.History.{ready-entry, all-ready}
@@ -136,42 +136,42 @@ module _ (p : Plan) (fits : planFits p ≡ true) (k n : ℕ) (is-ready : readyLa
       go x m (inl q) = order (map (released k n) es) (released k n x) (inr (all-still x (all-true (done es) (predecessors x) (and-right (waits x) _ (all-ready p fits k is-ready x m (eqb-true (x .label) k q))))))
       go x m (inr q) = was x (eqb-false (x .label) k q) (ordered-by es x (all-mem (λ e. afterPredecessors es e ≡ true) m h))
 
-held-booked : (n : ℕ) (e : Entry) → heldBy (bookedAs n e) ≡ n ∷ []
-held-booked n e = ap numberIn (booked-stage n e)
+booked-number-booked : (n : ℕ) (e : Entry) → bookedNumber (bookedAs n e) ≡ n ∷ []
+booked-number-booked n e = ap numberIn (booked-stage n e)
 
 -- the numbers after a release: the old ones, and the new one
 pub released-all : (P : ℕ → Type 0) (k n : ℕ) (es : List Entry) → P n → All P (bookedNumbers es) → All P (bookedNumbers (map (released k n) es))
 unfolding bookedNumbers
 released-all P k n [] q h = tt
 released-all P k n (e ∷ es) q h =
-    all-append P (heldBy (released k n e)) (bookedNumbers (map (released k n) es)) (go (by-test (eqb (e .label) k))) (released-all P k n es q (all-right P (heldBy e) (bookedNumbers es) h))
+    all-append P (bookedNumber (released k n e)) (bookedNumbers (map (released k n) es)) (go (by-test (eqb (e .label) k))) (released-all P k n es q (all-right P (bookedNumber e) (bookedNumbers es) h))
   where
-    go : (eqb (e .label) k ≡ true) ⊎ (eqb (e .label) k ≡ false) → All P (heldBy (released k n e))
-    go (inl l) = subst (All P) (sym (ap heldBy (released-there k n e (eqb-true (e .label) k l)) ∙ held-booked n e)) (q, tt)
-    go (inr l) = subst (All P) (sym (ap heldBy (released-other k n e (eqb-false (e .label) k l)))) (all-left P (heldBy e) (bookedNumbers es) h)
+    go : (eqb (e .label) k ≡ true) ⊎ (eqb (e .label) k ≡ false) → All P (bookedNumber (released k n e))
+    go (inl l) = subst (All P) (sym (ap bookedNumber (released-there k n e (eqb-true (e .label) k l)) ∙ booked-number-booked n e)) (q, tt)
+    go (inr l) = subst (All P) (sym (ap bookedNumber (released-other k n e (eqb-false (e .label) k l)))) (all-left P (bookedNumber e) (bookedNumbers es) h)
 
 pub none-released : (k n : ℕ) (es : List Entry) → All (λ x. x .label ≢ k) es → map (released k n) es ≡ es
 none-released k n [] h = refl
 none-released k n (e ∷ es) h = (λ i. released-other k n e (h .0) i ∷ none-released k n es (h .1) i)
 
-pub released-differ : (k n : ℕ) (es : List Entry) → Pairs (λ x y. x .label ≢ y .label) es → All (λ x. x .label ≡ k → heldBy x ≡ []) es → Pairs (λ x y. x ≢ y) (bookedNumbers es) → All (λ m. n ≢ m) (bookedNumbers es)
+pub released-differ : (k n : ℕ) (es : List Entry) → Pairs (λ x y. x .label ≢ y .label) es → All (λ x. x .label ≡ k → bookedNumber x ≡ []) es → Pairs (λ x y. x ≢ y) (bookedNumbers es) → All (λ m. n ≢ m) (bookedNumbers es)
     → Pairs (λ x y. x ≢ y) (bookedNumbers (map (released k n) es))
 unfolding bookedNumbers
 released-differ k n [] L W D N = tt
-released-differ k n (e ∷ es) L W D N = go (by-test (eqb (e .label) k)) (released-differ k n es (L .1) (W .1) (pairs-right (λ x y. x ≢ y) (heldBy e) (bookedNumbers es) D) (all-right (λ m. n ≢ m) (heldBy e) (bookedNumbers es) N))
+released-differ k n (e ∷ es) L W D N = go (by-test (eqb (e .label) k)) (released-differ k n es (L .1) (W .1) (pairs-right (λ x y. x ≢ y) (bookedNumber e) (bookedNumbers es) D) (all-right (λ m. n ≢ m) (bookedNumber e) (bookedNumbers es) N))
   where
-    go : (eqb (e .label) k ≡ true) ⊎ (eqb (e .label) k ≡ false) → Pairs (λ x y. x ≢ y) (bookedNumbers (map (released k n) es)) → Pairs (λ x y. x ≢ y) (heldBy (released k n e) ++ bookedNumbers (map (released k n) es))
+    go : (eqb (e .label) k ≡ true) ⊎ (eqb (e .label) k ≡ false) → Pairs (λ x y. x ≢ y) (bookedNumbers (map (released k n) es)) → Pairs (λ x y. x ≢ y) (bookedNumber (released k n e) ++ bookedNumbers (map (released k n) es))
     go (inl l) ih =
         let q = eqb-true (e .label) k l in
         let others = none-released k n es (all-imp (λ y. e .label ≢ y .label) (λ x. x .label ≢ k) es (λ y d s. d (q ∙ sym s)) (L .0)) in
-        subst (λ (a : List ℕ). Pairs (λ x y. x ≢ y) (a ++ bookedNumbers (map (released k n) es))) (sym (ap heldBy (released-there k n e q) ∙ held-booked n e))
-        (subst (λ (xs : List Entry). Pairs (λ x y. x ≢ y) (n ∷ bookedNumbers xs)) (sym others) (all-right (λ m. n ≢ m) (heldBy e) (bookedNumbers es) N, pairs-right (λ x y. x ≢ y) (heldBy e) (bookedNumbers es) D))
+        subst (λ (a : List ℕ). Pairs (λ x y. x ≢ y) (a ++ bookedNumbers (map (released k n) es))) (sym (ap bookedNumber (released-there k n e q) ∙ booked-number-booked n e))
+        (subst (λ (xs : List Entry). Pairs (λ x y. x ≢ y) (n ∷ bookedNumbers xs)) (sym others) (all-right (λ m. n ≢ m) (bookedNumber e) (bookedNumbers es) N, pairs-right (λ x y. x ≢ y) (bookedNumber e) (bookedNumbers es) D))
     go (inr l) ih =
-        subst (λ (a : List ℕ). Pairs (λ x y. x ≢ y) (a ++ bookedNumbers (map (released k n) es))) (sym (ap heldBy (released-other k n e (eqb-false (e .label) k l))))
-        (pairs-append (λ x y. x ≢ y) (heldBy e) (bookedNumbers (map (released k n) es)) (pairs-left (λ x y. x ≢ y) (heldBy e) (bookedNumbers es) D) ih
-        (all-of (λ x. All (λ y. x ≢ y) (bookedNumbers (map (released k n) es))) (heldBy e)
-        (λ x m. released-all (λ y. x ≢ y) k n es (λ s. all-mem (λ y. n ≢ y) m (all-left (λ m. n ≢ m) (heldBy e) (bookedNumbers es) N) (sym s))
-        (all-of (λ y. x ≢ y) (bookedNumbers es) (λ y m′. pairs-between (λ x y. x ≢ y) (heldBy e) (bookedNumbers es) D m m′)))))
+        subst (λ (a : List ℕ). Pairs (λ x y. x ≢ y) (a ++ bookedNumbers (map (released k n) es))) (sym (ap bookedNumber (released-other k n e (eqb-false (e .label) k l))))
+        (pairs-append (λ x y. x ≢ y) (bookedNumber e) (bookedNumbers (map (released k n) es)) (pairs-left (λ x y. x ≢ y) (bookedNumber e) (bookedNumbers es) D) ih
+        (all-of (λ x. All (λ y. x ≢ y) (bookedNumbers (map (released k n) es))) (bookedNumber e)
+        (λ x m. released-all (λ y. x ≢ y) k n es (λ s. all-mem (λ y. n ≢ y) m (all-left (λ m. n ≢ m) (bookedNumber e) (bookedNumbers es) N) (sym s))
+        (all-of (λ y. x ≢ y) (bookedNumbers es) (λ y m′. pairs-between (λ x y. x ≢ y) (bookedNumber e) (bookedNumbers es) D m m′)))))
 
 -- ---- a report
 pub reported-waits : (l : List ℕ) (e : Entry) → waits (reported l e) ≡ waits e
@@ -207,8 +207,8 @@ reported-ordered l es h =
     go x (inr d) = inr (subst (All (λ j. done (map (reported l) es) j ≡ true)) (sym (same-predecessors (reported l) (reported-plain l) x)) (all-imp (λ j. done es j ≡ true) (λ j. done (map (reported l) es) j ≡ true) (predecessors x) still d))
 
 -- an entry's number stays or goes
-pub fewer : (l : List ℕ) (e : Entry) → (heldBy (reported l e) ≡ []) ⊎ (heldBy (reported l e) ≡ heldBy e)
-fewer l e = subst (λ (s : Stage). (numberIn s ≡ []) ⊎ (numberIn s ≡ heldBy e)) (sym (reported-stage l e)) (go (stageOf e))
+pub fewer : (l : List ℕ) (e : Entry) → (bookedNumber (reported l e) ≡ []) ⊎ (bookedNumber (reported l e) ≡ bookedNumber e)
+fewer l e = subst (λ (s : Stage). (numberIn s ≡ []) ⊎ (numberIn s ≡ bookedNumber e)) (sym (reported-stage l e)) (go (stageOf e))
   where
     go : (s : Stage) → (numberIn (marked l s) ≡ []) ⊎ (numberIn (marked l s) ≡ numberIn s)
     go waiting = inl refl
@@ -222,20 +222,20 @@ fewer l e = subst (λ (s : Stage). (numberIn s ≡ []) ⊎ (numberIn s ≡ heldB
 pub reported-all : (P : ℕ → Type 0) (l : List ℕ) (es : List Entry) → All P (bookedNumbers es) → All P (bookedNumbers (map (reported l) es))
 unfolding bookedNumbers
 reported-all P l [] h = tt
-reported-all P l (e ∷ es) h = all-append P (heldBy (reported l e)) (bookedNumbers (map (reported l) es)) (go (fewer l e)) (reported-all P l es (all-right P (heldBy e) (bookedNumbers es) h))
+reported-all P l (e ∷ es) h = all-append P (bookedNumber (reported l e)) (bookedNumbers (map (reported l) es)) (go (fewer l e)) (reported-all P l es (all-right P (bookedNumber e) (bookedNumbers es) h))
   where
-    go : (heldBy (reported l e) ≡ []) ⊎ (heldBy (reported l e) ≡ heldBy e) → All P (heldBy (reported l e))
+    go : (bookedNumber (reported l e) ≡ []) ⊎ (bookedNumber (reported l e) ≡ bookedNumber e) → All P (bookedNumber (reported l e))
     go (inl q) = subst (All P) (sym q) tt
-    go (inr q) = subst (All P) (sym q) (all-left P (heldBy e) (bookedNumbers es) h)
+    go (inr q) = subst (All P) (sym q) (all-left P (bookedNumber e) (bookedNumbers es) h)
 
 pub reported-differ : (l : List ℕ) (es : List Entry) → Pairs (λ x y. x ≢ y) (bookedNumbers es) → Pairs (λ x y. x ≢ y) (bookedNumbers (map (reported l) es))
 unfolding bookedNumbers
 reported-differ l [] h = tt
-reported-differ l (e ∷ es) h = go (fewer l e) (reported-differ l es (pairs-right (λ x y. x ≢ y) (heldBy e) (bookedNumbers es) h))
+reported-differ l (e ∷ es) h = go (fewer l e) (reported-differ l es (pairs-right (λ x y. x ≢ y) (bookedNumber e) (bookedNumbers es) h))
   where
-    go : (heldBy (reported l e) ≡ []) ⊎ (heldBy (reported l e) ≡ heldBy e) → Pairs (λ x y. x ≢ y) (bookedNumbers (map (reported l) es)) → Pairs (λ x y. x ≢ y) (heldBy (reported l e) ++ bookedNumbers (map (reported l) es))
+    go : (bookedNumber (reported l e) ≡ []) ⊎ (bookedNumber (reported l e) ≡ bookedNumber e) → Pairs (λ x y. x ≢ y) (bookedNumbers (map (reported l) es)) → Pairs (λ x y. x ≢ y) (bookedNumber (reported l e) ++ bookedNumbers (map (reported l) es))
     go (inl q) ih = subst (λ (a : List ℕ). Pairs (λ x y. x ≢ y) (a ++ bookedNumbers (map (reported l) es))) (sym q) ih
     go (inr q) ih =
         subst (λ (a : List ℕ). Pairs (λ x y. x ≢ y) (a ++ bookedNumbers (map (reported l) es))) (sym q)
-        (pairs-append (λ x y. x ≢ y) (heldBy e) (bookedNumbers (map (reported l) es)) (pairs-left (λ x y. x ≢ y) (heldBy e) (bookedNumbers es) h) ih
-        (all-of (λ x. All (λ y. x ≢ y) (bookedNumbers (map (reported l) es))) (heldBy e) (λ x m. reported-all (λ y. x ≢ y) l es (all-of (λ y. x ≢ y) (bookedNumbers es) (λ y m′. pairs-between (λ x y. x ≢ y) (heldBy e) (bookedNumbers es) h m m′)))))
+        (pairs-append (λ x y. x ≢ y) (bookedNumber e) (bookedNumbers (map (reported l) es)) (pairs-left (λ x y. x ≢ y) (bookedNumber e) (bookedNumbers es) h) ih
+        (all-of (λ x. All (λ y. x ≢ y) (bookedNumbers (map (reported l) es))) (bookedNumber e) (λ x m. reported-all (λ y. x ≢ y) l es (all-of (λ y. x ≢ y) (bookedNumbers es) (λ y m′. pairs-between (λ x y. x ≢ y) (bookedNumber e) (bookedNumbers es) h m m′)))))

@@ -8,7 +8,7 @@ use native.Mathlib.Omega.{arith}
 use lib.Dec.{eqb}
 use lib.ListN.{length, getD}
 use borrow.Author.Tests.{eq-eqb}
-use Rattle.laws.specs.Define.{join, keep, refusal}
+use Rattle.laws.specs.Define.{join, filter, refusal}
 use Rattle.laws.specs.Every.{All}
 use Rattle.laws.proofs.Lists.{all-mem}
 use Rattle.laws.proofs.Search.{any-mem}
@@ -24,7 +24,7 @@ use Rattle.plan.specs.declared.Entry.{Entry}
 use Rattle.plan.specs.declared.Plan.{Plan}
 use Rattle.plan.specs.Entries.{Stage, waiting, booked, delivered, stageOf, isWaiting, isDelivered, waits, wasDelivered, used, planFits, changed, released, reported}
 use Rattle.plan.specs.Plans.{releaseTests, numberAfter, tileFor, releaseBooking, releaseAnswer, numbersIn, reportTests, reportAnswer}
-use Rattle.plan_floor.specs.Steps.{Step, call, offer, release, report, State, stepped, stateAfter, TypedStep, reportOfCall, reportsOf, callsOf, callsIn, reportedOf, reportedBy}
+use Rattle.plan_floor.specs.Steps.{Step, call, offer, release, report, State, stepped, stateAfter, StepInRange, reportOfCall, reportsOf, callsOf, callsIn, reportedOf, reportedBy}
 use Rattle.plan_floor.specs.Ending.{HandedIn, waitingIn}
 use Rattle.plan.proofs.Stages.{marked, booked-number, reported-stage, reported-label, other-label, used-changed, changed-all}
 use Rattle.plan_floor.proofs.Keeping.{reported-waits, reported-delivered}
@@ -83,7 +83,7 @@ report-marks s r k n F fits few m U =
     rw ok (changed-all (IsUnder k n) (IsDone k) (s .plan) (reported (numbersIn r)) (marks (numbersIn r) k n m) U)
 
 -- handed in somewhere in the list
-handed-marks : (s : State) (cs : List Step) (r : Report) (k n : ℕ) → All TypedStep cs → Fine s → planFits (s .plan) ≡ true → Few r → List·Memᴰ n (numbersIn r) → Under (s .plan) k n → List·Memᴰ (report r) cs
+handed-marks : (s : State) (cs : List Step) (r : Report) (k n : ℕ) → All StepInRange cs → Fine s → planFits (s .plan) ≡ true → Few r → List·Memᴰ n (numbersIn r) → Under (s .plan) k n → List·Memᴰ (report r) cs
     → Arrived (stateAfter s cs .plan) k
 unfolding stateAfter
 handed-marks s [] r k n T F fits few m U h = absurd (List·Memᴰ·not-nil h)
@@ -133,7 +133,7 @@ step-lists s (release k) j n w h m = absurd (List·Memᴰ·not-nil m)
 step-lists s (report r) j n w h m = absurd (List·Memᴰ·not-nil m)
 
 -- a number that a round of the list reports is marked
-pub round-marks : (s : State) (cs : List Step) (j k n : ℕ) → All TypedStep cs → Fine s → planFits (s .plan) ≡ true → Under (s .plan) k n → HandedIn s cs → j < 4 → List·Memᴰ n (reportedBy s cs j) → Arrived (stateAfter s cs .plan) k
+pub round-marks : (s : State) (cs : List Step) (j k n : ℕ) → All StepInRange cs → Fine s → planFits (s .plan) ≡ true → Under (s .plan) k n → HandedIn s cs → j < 4 → List·Memᴰ n (reportedBy s cs j) → Arrived (stateAfter s cs .plan) k
 unfolding stateAfter reportedBy Lists
 round-marks s [] j k n T F fits U H h m = absurd (List·Memᴰ·not-nil m)
 round-marks s (c ∷ cs) j k n T F fits U H h m =
@@ -191,12 +191,12 @@ module _ (P : Entry → Type 0) (still : (l : List ℕ) (e : Entry) → P e → 
   quiet-list s (c ∷ cs) q h = let r = quiet-split s c cs q in quiet-list (stepped s c) cs (r .1) (quiet-step s c (r .0) h)
 
 -- nobody begins or stops waiting
-same-waiting : (l : List ℕ) (es : List Entry) → length (keep waits (map (reported l) es)) ≡ length (keep waits es)
-unfolding keep
+same-waiting : (l : List ℕ) (es : List Entry) → length (filter waits (map (reported l) es)) ≡ length (filter waits es)
+unfolding filter
 same-waiting l [] = refl
-same-waiting l (e ∷ es) = ap (λ (b : Bool). length (cond b (reported l e ∷ keep waits (map (reported l) es)) (keep waits (map (reported l) es)))) (reported-waits l e) ∙ go (waits e) (same-waiting l es)
+same-waiting l (e ∷ es) = ap (λ (b : Bool). length (cond b (reported l e ∷ filter waits (map (reported l) es)) (filter waits (map (reported l) es)))) (reported-waits l e) ∙ go (waits e) (same-waiting l es)
   where
-    go : (b : Bool) → length (keep waits (map (reported l) es)) ≡ length (keep waits es) → length (cond b (reported l e ∷ keep waits (map (reported l) es)) (keep waits (map (reported l) es))) ≡ length (cond b (e ∷ keep waits es) (keep waits es))
+    go : (b : Bool) → length (filter waits (map (reported l) es)) ≡ length (filter waits es) → length (cond b (reported l e ∷ filter waits (map (reported l) es)) (filter waits (map (reported l) es))) ≡ length (cond b (e ∷ filter waits es) (filter waits es))
     go true ih = ap suc ih
     go false ih = ih
 
@@ -207,8 +207,8 @@ step-waiting s offer q = refl
 step-waiting s (release k) q = rw (quiet-refused s k q)
 step-waiting s (report r) q = go (eqb (refusal (reportTests (s .plan) r)) 0)
   where
-    go : (b : Bool) → length (keep waits (used (cond b (changed (s .plan) (reported (numbersIn r))) (s .plan)))) ≡ length (keep waits (used (s .plan)))
-    go true = ap (λ (es : List Entry). length (keep waits es)) (used-changed (s .plan) (reported (numbersIn r))) ∙ same-waiting (numbersIn r) (used (s .plan))
+    go : (b : Bool) → length (filter waits (used (cond b (changed (s .plan) (reported (numbersIn r))) (s .plan)))) ≡ length (filter waits (used (s .plan)))
+    go true = ap (λ (es : List Entry). length (filter waits es)) (used-changed (s .plan) (reported (numbersIn r))) ∙ same-waiting (numbersIn r) (used (s .plan))
     go false = refl
 
 pub quiet-waiting : (s : State) (cs : List Step) → Quiet (s .floor) (callsIn s cs) → waitingIn (stateAfter s cs .plan) ≡ waitingIn (s .plan)

@@ -14,7 +14,7 @@ use Rattle.laws.proofs.Lists.{all-mem, all-of, all-imp, true-all}
 use Rattle.laws.proofs.Search.{any-find, any-mem, first-mem, first-none}
 use Rattle.plan.specs.declared.Entry.{Entry}
 use Rattle.plan.specs.declared.Plan.{Plan}
-use Rattle.plan.specs.Entries.{waits, wasDelivered, heldBy, used, predecessors, done, present, planSound, entryFits, planFits, ready, readyLabel}
+use Rattle.plan.specs.Entries.{waits, wasDelivered, bookedNumber, used, predecessors, done, present, planSound, entryFits, planFits, ready, readyLabel}
 use Rattle.plan.specs.Plans.{offerTests, offered, offerAnswer}
 use Rattle.plan.proofs.Stages.{neither}
 use Rattle.plan_floor.specs.Promises.{Offers, OfferPromise}
@@ -108,7 +108,7 @@ module _ (p : Plan) (fits : planFits p ≡ true) where
               not-both (r .3) (n (r .0) (r .1))
 
   -- an entry below which no label waits is ready
-  module _ (none-booked : (e : Entry) → List·Memᴰ e es → heldBy e ≡ []) where
+  module _ (none-booked : (e : Entry) → List·Memᴰ e es → bookedNumber e ≡ []) where
     least-ready : (e : Entry) → List·Memᴰ e es → waits e ≡ true → ((x : Entry) → List·Memᴰ x es → waits x ≡ true → e .label ≤ x .label) → ready es e ≡ true
     unfolding ready done
     least-ready e m w low =
@@ -168,12 +168,12 @@ lowest (e ∷ es) = go (by-test (waits e)) (lowest es)
         by (inl h) = inl (r .0, List·Memᴰ·tail (r .1), r .2, theirs (omega (arith, ltb-true)))
         by (inr h) = inl (e, List·Memᴰ·head refl, w, mine (ltb-false (r .0 .label) (e .label) h))
 
-some-offered : (p : Plan) → planFits p ≡ true → anyOf waits (used p) ≡ true → All (λ e. heldBy e ≡ []) (used p) → offered p ≢ 0
+some-offered : (p : Plan) → planFits p ≡ true → anyOf waits (used p) ≡ true → All (λ e. bookedNumber e ≡ []) (used p) → offered p ≢ 0
 unfolding Lowest NoneWaits
 some-offered p fits w nb = go (lowest (used p))
   where
     go : Lowest (used p) ⊎ NoneWaits (used p) → offered p ≢ 0
-    go (inl r) = ready-offered p fits (r .0) (r .1) (least-ready p fits (λ e m. all-mem (λ e. heldBy e ≡ []) m nb) (r .0) (r .1) (r .2) (r .3))
+    go (inl r) = ready-offered p fits (r .0) (r .1) (least-ready p fits (λ e m. all-mem (λ e. bookedNumber e ≡ []) m nb) (r .0) (r .1) (r .2) (r .3))
     go (inr n) = let r = any-find waits (used p) w in not-both (r .2) (n (r .0) (r .1))
 
 -- a plan that an offer does not refuse

@@ -17,7 +17,7 @@ use Rattle.plan.specs.declared.Entry.{Entry}
 use Rattle.plan.specs.declared.Plan.{Plan}
 use Rattle.plan.specs.Entries.{isWaiting, waits, used, predecessors, done, ready, changed, released, reported}
 use Rattle.plan.specs.Plans.{numberAfter, releaseAnswer, numbersIn, reportTests, reportAnswer}
-use Rattle.plan_floor.specs.Steps.{PlanCall, planOffer, planRelease, planReport, planGiven, planAfter, bookingsOf, bookingsIn, Step, call, offer, release, report, State, stepped, planCallsIn, stepBookings, TypedStep, bookedOf}
+use Rattle.plan_floor.specs.Steps.{PlanCall, planOffer, planRelease, planReport, planGiven, planAfter, bookingsOf, bookingsIn, Step, call, offer, release, report, State, stepped, planCallsIn, stepBookings, StepInRange, bookedOf}
 use Rattle.plan_floor.specs.Promises.{OncePromise, RisingPromise}
 use Rattle.plan.proofs.Stages.{booked-stage, reported-same, released-label, reported-label, released-there, other-label, used-changed, changed-all}
 use Rattle.plan_floor.proofs.History.{accepted, ready-entry}
@@ -161,7 +161,7 @@ step-numbers P s (release k) h = go (eqb (releaseAnswer (s .plan) (s .floor) k .
     go false h = h
 step-numbers P s (report r) h = tt
 
-list-above : (s : State) (cs : List Step) (m : ℕ) → m ≤ s .floor .counters .last → wellFormed (s .floor) ≡ true → All TypedStep cs → All (λ y. m < y .1) (stepBookings s cs)
+list-above : (s : State) (cs : List Step) (m : ℕ) → m ≤ s .floor .counters .last → wellFormed (s .floor) ≡ true → All StepInRange cs → All (λ y. m < y .1) (stepBookings s cs)
 unfolding bookingsIn planCallsIn
 list-above s [] m l w t = tt
 list-above s (c ∷ cs) m l w t =

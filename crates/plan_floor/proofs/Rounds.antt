@@ -42,58 +42,58 @@ four-lists f = go (eqb (refusalOf f []) 0)
 
 -- ---- P holds of every number that a round of the list reported
 module _ (P : ℕ → Type 0) where
-  abbrev Known : Report → Type 0
-  Known r = All P (numbersIn r)
+  abbrev ReportHas : Report → Type 0
+  ReportHas r = All P (numbersIn r)
 
-  abbrev Told : Event → Type 0
-  Told (booking k n) = Unit {0}
-  Told (listing n) = P n
+  abbrev EventHas : Event → Type 0
+  EventHas (booking k n) = Unit {0}
+  EventHas (listing n) = P n
 
-  call-known : (f : Floor) (c : Call) → ((k : ℕ) → k < 4 → All P (outcome f c .reported k)) → All Known (reportOfCall f c)
+  call-report-has : (f : Floor) (c : Call) → ((k : ℕ) → k < 4 → All P (outcome f c .reported k)) → All ReportHas (reportOfCall f c)
   unfolding reportOfCall outcome numbersIn listedAt
-  call-known f (book t c) h = tt
-  call-known f (anywhere t number) h = tt
-  call-known f (stop t) h = tt
-  call-known f (repair t) h = tt
-  call-known f round h = (join-all P (roundAnswer f .report .deliveries) (λ k l. h k (omega (arith, four-lists f))), tt)
-  call-known f (keep name) h = tt
-  call-known f (forget name) h = tt
-  call-known f (recall name) h = tt
-  call-known f (list l) h = tt
+  call-report-has f (book t c) h = tt
+  call-report-has f (anywhere t number) h = tt
+  call-report-has f (stop t) h = tt
+  call-report-has f (repair t) h = tt
+  call-report-has f round h = (join-all P (roundAnswer f .report .deliveries) (λ k l. h k (omega (arith, four-lists f))), tt)
+  call-report-has f (keep name) h = tt
+  call-report-has f (forget name) h = tt
+  call-report-has f (recall name) h = tt
+  call-report-has f (list l) h = tt
 
-  step-known : (s : State) (c : Step) → ((k : ℕ) → k < 4 → All P (reportedOf s c k)) → All Known (reportsOf s c)
+  step-report-has : (s : State) (c : Step) → ((k : ℕ) → k < 4 → All P (reportedOf s c k)) → All ReportHas (reportsOf s c)
   unfolding reportsOf reportedOf
-  step-known s (call c) h = call-known (s .floor) c h
-  step-known s offer h = tt
-  step-known s (release k) h = tt
-  step-known s (report r) h = tt
+  step-report-has s (call c) h = call-report-has (s .floor) c h
+  step-report-has s offer h = tt
+  step-report-has s (release k) h = tt
+  step-report-has s (report r) h = tt
 
-  map-told : (l : List ℕ) → All P l → All Told (map listing l)
-  map-told [] h = tt
-  map-told (n ∷ l) h = (h .0, map-told l (h .1))
+  map-event-has : (l : List ℕ) → All P l → All EventHas (map listing l)
+  map-event-has [] h = tt
+  map-event-has (n ∷ l) h = (h .0, map-event-has l (h .1))
 
-  step-told : (s : State) (rs : List Report) (c : Step) → All Known rs → HandedFrom rs c → All Told (eventsAt s c)
+  step-event-has : (s : State) (rs : List Report) (c : Step) → All ReportHas rs → HandedFrom rs c → All EventHas (eventsAt s c)
   unfolding eventsAt eventsOf
-  step-told s rs (call c) kn g = tt
-  step-told s rs offer kn g = tt
-  step-told s rs (release k) kn g = go (eqb (releaseAnswer (s .plan) (s .floor) k .refusal) 0)
+  step-event-has s rs (call c) kn g = tt
+  step-event-has s rs offer kn g = tt
+  step-event-has s rs (release k) kn g = go (eqb (releaseAnswer (s .plan) (s .floor) k .refusal) 0)
     where
-      go : (b : Bool) → All Told (cond b (booking k (releaseAnswer (s .plan) (s .floor) k .number) ∷ []) [])
+      go : (b : Bool) → All EventHas (cond b (booking k (releaseAnswer (s .plan) (s .floor) k .number) ∷ []) [])
       go true = (tt, tt)
       go false = tt
-  step-told s rs (report r) kn g = go (eqb (reportAnswer (s .plan) r .refusal) 0)
+  step-event-has s rs (report r) kn g = go (eqb (reportAnswer (s .plan) r .refusal) 0)
     where
-      go : (b : Bool) → All Told (cond b (map listing (numbersIn r)) [])
-      go true = map-told (numbersIn r) (all-mem Known g kn)
+      go : (b : Bool) → All EventHas (cond b (map listing (numbersIn r)) [])
+      go true = map-event-has (numbersIn r) (all-mem ReportHas g kn)
       go false = tt
 
-  list-told : (s : State) (rs : List Report) (cs : List Step) → All Known rs → ((k : ℕ) → k < 4 → All P (reportedBy s cs k)) → FromRounds s rs cs → All Told (stepEvents s cs)
+  list-event-has : (s : State) (rs : List Report) (cs : List Step) → All ReportHas rs → ((k : ℕ) → k < 4 → All P (reportedBy s cs k)) → FromRounds s rs cs → All EventHas (stepEvents s cs)
   unfolding eventsIn planCallsIn reportedBy
-  list-told s rs [] kn h F = tt
-  list-told s rs (c ∷ cs) kn h F =
-      subst (All Told) (sym (events-next s c cs)) (all-append Told (eventsAt s c) (stepEvents (stepped s c) cs) (step-told s rs c kn (F .0))
-      (list-told (stepped s c) (reportsOf s c ++ rs) cs
-      (all-append Known (reportsOf s c) rs (step-known s c (λ k l. all-left P (reportedOf s c k) (reportedBy (stepped s c) cs k) (h k l))) kn)
+  list-event-has s rs [] kn h F = tt
+  list-event-has s rs (c ∷ cs) kn h F =
+      subst (All EventHas) (sym (events-next s c cs)) (all-append EventHas (eventsAt s c) (stepEvents (stepped s c) cs) (step-event-has s rs c kn (F .0))
+      (list-event-has (stepped s c) (reportsOf s c ++ rs) cs
+      (all-append ReportHas (reportsOf s c) rs (step-report-has s c (λ k l. all-left P (reportedOf s c k) (reportedBy (stepped s c) cs k) (h k l))) kn)
       (λ k l. all-right P (reportedOf s c k) (reportedBy (stepped s c) cs k) (h k l)) (F .1)))
 
 reported-listed : {k n : ℕ} {l : List Event} → BookedThenListed k n l → List·Memᴰ (listing n) l
@@ -105,6 +105,6 @@ unfolding reportedAll
 by-rounds s h cs F k e =
     let f = s .floor in
     let P : ℕ → Type 0 = λ n. List·Memᴰ n (cat 4 (reportedIn f (callsIn s cs))) in
-    let told = list-told P s [] cs tt (λ j l. subst (All P) (as-calls s cs .same-reported j) (all-of P (reportedIn f (callsIn s cs) j) (λ n m. mem-cat 4 (reportedIn f (callsIn s cs)) j l m))) F in
+    let events-have = list-event-has P s [] cs tt (λ j l. subst (All P) (as-calls s cs .same-reported j) (all-of P (reportedIn f (callsIn s cs) j) (λ n m. mem-cat 4 (reportedIn f (callsIn s cs)) j l m))) F in
     all-imp (λ j. (n : ℕ) × BookedThenListed j n (stepEvents s cs)) (λ j. (n : ℕ) × BookedThenListed j n (stepEvents s cs) × P n) (predecessorsOf (used (s .plan)) k)
-    (λ j r. (r .0, r .1, all-mem (Told P) (reported-listed (r .1)) told)) (history (s .plan) h (planCallsIn s cs) (stateAfter s cs .floor) k (subst (λ (p : Plan). releaseAnswer p (stateAfter s cs .floor) k .refusal ≡ 0) (sym (as-plan-calls s cs)) e))
+    (λ j r. (r .0, r .1, all-mem (EventHas P) (reported-listed (r .1)) events-have)) (history (s .plan) h (planCallsIn s cs) (stateAfter s cs .floor) k (subst (λ (p : Plan). releaseAnswer p (stateAfter s cs .floor) k .refusal ≡ 0) (sym (as-plan-calls s cs)) e))

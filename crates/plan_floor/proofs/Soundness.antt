@@ -20,11 +20,11 @@ use Rattle.floor.specs.Calls.{refusalOf, answer}
 use Rattle.floor.specs.Anywhere.{anywhereTests, anywhereAnswer}
 use Rattle.plan.specs.declared.Entry.{Entry}
 use Rattle.plan.specs.declared.Plan.{Plan}
-use Rattle.plan.specs.Entries.{waits, heldBy, used, predecessors, done, bookedNumbers, afterPredecessors, planSound, numbersUpto, entryFits, planFits, ready, readyLabel, changed, released, reported}
+use Rattle.plan.specs.Entries.{waits, bookedNumber, used, predecessors, done, bookedNumbers, afterPredecessors, planSound, numbersUpto, entryFits, planFits, ready, readyLabel, changed, released, reported}
 use Rattle.plan.specs.Plans.{offerTests, offerAnswer, releaseTests, numberAfter, tileFor, releaseBooking, releaseAnswer, numbersIn, reportTests, reportAnswer}
-use Rattle.plan_floor.specs.Steps.{PlanCall, planOffer, planRelease, planReport, planGiven, planAfter, allWaiting, Step, call, offer, release, report, State, stepped, stateAfter, TypedStep, bookedOf}
+use Rattle.plan_floor.specs.Steps.{PlanCall, planOffer, planRelease, planReport, planGiven, planAfter, allWaiting, Step, call, offer, release, report, State, stepped, stateAfter, StepInRange, bookedOf}
 use Rattle.plan_floor.specs.Promises.{PlanStays, SoundPromise, WaitingPromise, PlanSoundPromise}
-use Rattle.plan.proofs.Stages.{used-changed, waiting-held, none-held}
+use Rattle.plan.proofs.Stages.{used-changed, waiting-booked-number, none-booked-number}
 use Rattle.plan_floor.proofs.History.{accepted, all-ready}
 use Rattle.plan_floor.proofs.AsCalls.{StepKeeps, step-keeps}
 use Rattle.plan_floor.proofs.Written.{released-plain, reported-plain}
@@ -80,7 +80,7 @@ module _ (s : State) where
   release-good : (k n last′ : ℕ) → planFits p ≡ true → readyLabel (used p) k ≡ true → last < n → n ≤ last′ → Good last (p .count) (used p) → Good last′ (p .count) (map (released k n) (used p))
   unfolding ready
   release-good k n last′ fits r lo hi G =
-      let W = all-of (λ x. x .label ≡ k → heldBy x ≡ []) (used p) (λ x m q. waiting-held x (and-left (waits x) (allOf (done (used p)) (predecessors x)) (all-ready p fits k r x m q))) in
+      let W = all-of (λ x. x .label ≡ k → bookedNumber x ≡ []) (used p) (λ x m q. waiting-booked-number x (and-left (waits x) (allOf (done (used p)) (predecessors x)) (all-ready p fits k r x m q))) in
       let N = all-imp (λ m. (0 < m) × (m ≤ last)) (λ m. n ≢ m) (bookedNumbers (used p)) (λ m q e. omega (arith, q .1)) (G .upto) in
       record {
         few = G .few;
@@ -136,14 +136,14 @@ report-fine s r F = go (eqb (refusal (reportTests (s .plan) r)) 0)
     go true = ((F .0, subst (Good (s .floor .counters .last) (s .plan .count)) (sym (used-changed (s .plan) (reported l))) (report-good s l (F .1))), same-fits (reported l) (reported-plain l) (s .plan))
     go false = (F, refl)
 
-pub step-fine : (s : State) (c : Step) → TypedStep c → Fine s → Fine (stepped s c) × (planFits (stepped s c .plan) ≡ planFits (s .plan))
+pub step-fine : (s : State) (c : Step) → StepInRange c → Fine s → Fine (stepped s c) × (planFits (stepped s c .plan) ≡ planFits (s .plan))
 unfolding stepped
 step-fine s (call c) t F = let K = step-keeps s (call c) (F .0) t in ((K .well, later-last s (s .plan .count) (used (s .plan)) (stepped s (call c) .floor .counters .last) (K .rises) (F .1)), refl)
 step-fine s offer t F = (F, refl)
 step-fine s (release k) t F = release-fine s k F (step-keeps s (release k) (F .0) t)
 step-fine s (report r) t F = report-fine s r F
 
-pub list-fine : (s : State) (cs : List Step) → All TypedStep cs → Fine s → Fine (stateAfter s cs) × (planFits (stateAfter s cs .plan) ≡ planFits (s .plan))
+pub list-fine : (s : State) (cs : List Step) → All StepInRange cs → Fine s → Fine (stateAfter s cs) × (planFits (stateAfter s cs .plan) ≡ planFits (s .plan))
 unfolding stateAfter
 list-fine s [] t F = (F, refl)
 list-fine s (c ∷ cs) t F = let A = step-fine s c (t .0) F in let B = list-fine (stepped s c) cs (t .1) (A .0) in (B .0, B .1 ∙ A .1)
@@ -153,7 +153,7 @@ waiting-good : (last : ℕ) (p : Plan) → allWaiting p ≡ true → p .count �
 unfolding allWaiting afterPredecessors
 waiting-good last p h n =
     let W = all-true waits (used p) h in
-    let e = none-held (used p) (all-imp (λ e. waits e ≡ true) (λ e. heldBy e ≡ []) (used p) waiting-held W) in
+    let e = none-booked-number (used p) (all-imp (λ e. waits e ≡ true) (λ e. bookedNumber e ≡ []) (used p) waiting-booked-number W) in
     record {
       few = n;
       ordered = all-imp (λ e. waits e ≡ true) (λ e. afterPredecessors (used p) e ≡ true) (used p) (λ e w. or-left (waits e) (allOf (done (used p)) (predecessors e)) w) W;

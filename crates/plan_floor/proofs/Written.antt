@@ -5,7 +5,7 @@ use mathlib.Core.List.{List, [], _∷_, _++_, map}
 use Prim.Native.Nat.{ℕ, zero, suc}
 use lib.Dec.{ltb, eqb}
 use lib.ListN.{take, drop}
-use Rattle.laws.specs.Define.{keep, refusal}
+use Rattle.laws.specs.Define.{filter, refusal}
 use Rattle.plan.specs.declared.Entry.{Entry}
 use Rattle.plan.specs.declared.Plan.{Plan}
 use Rattle.plan.specs.Entries.{used, predecessors, changed, released, reported}
@@ -83,7 +83,7 @@ same-written p cs = record {
 module _ (g : Entry → Entry) (P : Plain g) where
   pub same-predecessors : (e : Entry) → predecessors (g e) ≡ predecessors e
   unfolding predecessors
-  same-predecessors e = (λ i. keep (λ k. ltb 0 k) (P .first e i ∷ P .second e i ∷ []))
+  same-predecessors e = (λ i. filter (λ k. ltb 0 k) (P .first e i ∷ P .second e i ∷ []))
 
   same-of : (k : ℕ) (es : List Entry) → predecessorsOf (map g es) k ≡ predecessorsOf es k
   unfolding predecessorsOf

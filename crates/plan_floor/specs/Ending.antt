@@ -4,7 +4,7 @@ use mathlib.Core.Bool.{true}
 use mathlib.Core.List.{List, [], _∷_, List·Memᴰ}
 use Prim.Native.Nat.{ℕ, zero, suc, _+_, _^_, _≤_, _<_}
 use lib.ListN.{length, take}
-use Rattle.laws.specs.Define.{bit, keep}
+use Rattle.laws.specs.Define.{bit, filter}
 use Rattle.laws.specs.Every.{All}
 use Rattle.floor.specs.declared.Floor.{Floor}
 use Rattle.floor.specs.Settings.{total}
@@ -16,13 +16,13 @@ use Rattle.floor.specs.Bound.{bound}
 use Rattle.floor.specs.Live.{LivePath}
 use Rattle.floor.specs.Demand3.{round, Quiet, roundsIn}
 use Rattle.plan.specs.declared.Plan.{Plan}
-use Rattle.plan.specs.Entries.{waits, wasDelivered, heldBy, used}
+use Rattle.plan.specs.Entries.{waits, wasDelivered, bookedNumber, used}
 use Rattle.plan.specs.Plans.{offerAnswer, releaseAnswer}
-use Rattle.plan_floor.specs.Steps.{Step, call, release, report, State, stepped, stateAfter, TypedStep, reportsOf, callsIn}
+use Rattle.plan_floor.specs.Steps.{Step, call, release, report, State, stepped, stateAfter, StepInRange, reportsOf, callsIn}
 
 -- how many labels wait
 unfoldable pub waitingIn : Plan → ℕ
-waitingIn p = length (keep waits (used p))
+waitingIn p = length (filter waits (used p))
 
 -- a fill tile with a live path, so a running one
 pub record Served (f : Floor) (t : ℕ) : Type 0 where
@@ -37,7 +37,7 @@ HandedIn s (c ∷ cs) = All (λ r. List·Memᴰ (report r) cs) (reportsOf s c) �
 
 -- what follows a release: no accepted booking, release, stop or repair, and at least (C - 1) × (1 + M) rounds, demand 3's bound with K = 1. With other bookings in between K is larger, and demand 3's bound with that K holds of each cycle
 pub record Cycle (s : State) (cs : List Step) : Type 0 where
-  pub typed : All TypedStep cs
+  pub in-range : All StepInRange cs
   pub quiet : Quiet (s .floor) (callsIn s cs)
   pub handed : HandedIn s cs
   pub enough : bound (s .floor .settings) 1 ≤ roundsIn (callsIn s cs)
@@ -64,7 +64,7 @@ refusalsIn s (cs ∷ rest) = releaseAnswer (s .plan) (s .floor) (offerAnswer (s 
 pub record Begins (s : State) : Type 0 where
   pub not-refused : offerAnswer (s .plan) .refusal ≡ 0
   -- no label is booked: each waits or is delivered
-  pub none-booked : All (λ e. heldBy e ≡ []) (used (s .plan))
+  pub none-booked : All (λ e. bookedNumber e ≡ []) (used (s .plan))
   pub well : wellFormed (s .floor) ≡ true
   pub empty : numbersOn (view (s .floor)) ≡ []
   pub served : All (λ e. waits e ≡ true → Served (s .floor) (e .tile)) (used (s .plan))

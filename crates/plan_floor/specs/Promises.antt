@@ -15,9 +15,9 @@ use Rattle.floor.specs.Well.{wellFormed}
 use Rattle.floor.specs.Demand3.{floorAfter, bookedIn, reportedIn, reportedAll, Promises}
 use Rattle.plan.specs.declared.Entry.{Entry}
 use Rattle.plan.specs.declared.Plan.{Plan}
-use Rattle.plan.specs.Entries.{waits, wasDelivered, heldBy, used, planSound, numbersUpto, planFits, ready, readyLabel, released, reported}
+use Rattle.plan.specs.Entries.{waits, wasDelivered, bookedNumber, used, planSound, numbersUpto, planFits, ready, readyLabel, released, reported}
 use Rattle.plan.specs.Plans.{offerAnswer, releaseAnswer, reportAnswer}
-use Rattle.plan_floor.specs.Steps.{PlanCall, planAfter, allWaiting, eventsIn, BookedThenListed, predecessorsOf, bookingsIn, Step, State, stateAfter, planCallsIn, stepEvents, stepBookings, TypedStep, FromRounds, callsIn, bookedBy, reportedBy}
+use Rattle.plan_floor.specs.Steps.{PlanCall, planAfter, allWaiting, eventsIn, BookedThenListed, predecessorsOf, bookingsIn, Step, State, stateAfter, planCallsIn, stepEvents, stepBookings, StepInRange, FromRounds, callsIn, bookedBy, reportedBy}
 use Rattle.plan_floor.specs.Ending.{EndsPromise, SchedulePromise}
 
 -- ---- an offer, of a plan that is not refused
@@ -30,7 +30,7 @@ pub record Offers (p : Plan) (k : ℕ) : Type 0 where
   -- "and none exactly when there is no such label"
   pub none : k ≡ 0 ↔ ((e : Entry) → List·Memᴰ e (used p) → ready (used p) e ≡ false)
   -- "While a label waits and no booked one is undelivered, one is offered."
-  pub goes-on : anyOf waits (used p) ≡ true → All (λ e. heldBy e ≡ []) (used p) → k ≢ 0
+  pub goes-on : anyOf waits (used p) ≡ true → All (λ e. bookedNumber e ≡ []) (used p) → k ≢ 0
 
 abbrev pub OfferPromise : Type 0
 OfferPromise = (p : Plan) → offerAnswer p .refusal ≡ 0 → Offers p (offerAnswer p .label)
@@ -42,7 +42,7 @@ asWritten e = e .label ∷ e .tile ∷ e .first ∷ e .second ∷ []
 
 -- a release "books a waiting label", k, under n: that label's entry alone changes
 pub record BooksEntry (k n : ℕ) (e x : Entry) : Type 0 where
-  pub booked : e .label ≡ k → heldBy x ≡ n ∷ []
+  pub booked : e .label ≡ k → bookedNumber x ≡ n ∷ []
   pub others-same : e .label ≢ k → x ≡ e
   pub same-written : asWritten x ≡ asWritten e
 
@@ -51,7 +51,7 @@ BookPromise = (k n : ℕ) (e : Entry) → BooksEntry k n e (released k n e)
 
 -- a report "marks delivered exactly the booked labels whose numbers it lists", l; nothing else of an entry changes
 pub record Marks (l : List ℕ) (e x : Entry) : Type 0 where
-  pub exactly : wasDelivered x ≡ true ↔ ((wasDelivered e ≡ true) ⊎ ((n : ℕ) × List·Memᴰ n (heldBy e) × List·Memᴰ n l))
+  pub exactly : wasDelivered x ≡ true ↔ ((wasDelivered e ≡ true) ⊎ ((n : ℕ) × List·Memᴰ n (bookedNumber e) × List·Memᴰ n l))
   pub else-same : wasDelivered x ≡ false → x ≡ e
   pub same-waiting : waits x ≡ waits e
   pub same-rest : x .tile ∷ x .number ∷ x .label ∷ x .first ∷ x .second ∷ [] ≡ e .tile ∷ e .number ∷ e .label ∷ e .first ∷ e .second ∷ []
@@ -120,7 +120,7 @@ pub record StaysSound (p : Plan) (s : State) : Type 0 where
   pub release-fits : planFits p ≡ true → (k : ℕ) → releaseAnswer (s .plan) (s .floor) k .refusal ≢ 47
 
 abbrev pub SoundPromise : Type 0
-SoundPromise = (s : State) → planSound (s .plan) ≡ true → numbersUpto (s .floor .counters .last) (s .plan) ≡ true → wellFormed (s .floor) ≡ true → (cs : List Step) → All TypedStep cs → StaysSound (s .plan) (stateAfter s cs)
+SoundPromise = (s : State) → planSound (s .plan) ≡ true → numbersUpto (s .floor .counters .last) (s .plan) ≡ true → wellFormed (s .floor) ≡ true → (cs : List Step) → All StepInRange cs → StaysSound (s .plan) (stateAfter s cs)
 
 -- a plan of up to 64 entries that all wait is such a one
 abbrev pub WaitingPromise : Type 0
@@ -131,14 +131,14 @@ pub record AsCalls (s : State) (cs : List Step) : Type 0 where
   pub same-floor : floorAfter (s .floor) (callsIn s cs) ≡ stateAfter s cs .floor
   pub same-booked : bookedIn (s .floor) (callsIn s cs) ≡ bookedBy s cs
   pub same-reported : (k : ℕ) → reportedIn (s .floor) (callsIn s cs) k ≡ reportedBy s cs k
-  pub promises : wellFormed (s .floor) ≡ true → All TypedStep cs → Promises (s .floor) (callsIn s cs)
+  pub promises : wellFormed (s .floor) ≡ true → All StepInRange cs → Promises (s .floor) (callsIn s cs)
 
 abbrev pub CallsPromise : Type 0
 CallsPromise = (s : State) (cs : List Step) → AsCalls s cs
 
 -- the labels' numbers rise
 abbrev pub RisingPromise : Type 0
-RisingPromise = (s : State) → wellFormed (s .floor) ≡ true → (cs : List Step) → All TypedStep cs → Pairs (λ x y. x .1 < y .1) (stepBookings s cs)
+RisingPromise = (s : State) → wellFormed (s .floor) ≡ true → (cs : List Step) → All StepInRange cs → Pairs (λ x y. x .1 < y .1) (stepBookings s cs)
 
 -- the canister of a booked label, number n, is on the floor until a round reports it
 pub record OnFloorUntilReported (s : State) (cs : List Step) (n : ℕ) : Type 0 where
@@ -146,7 +146,7 @@ pub record OnFloorUntilReported (s : State) (cs : List Step) (n : ℕ) : Type 0 
   pub not-both : List·Memᴰ n (numbersOn (view (stateAfter s cs .floor))) → ¬ (List·Memᴰ n (reportedAll (s .floor) (callsIn s cs)))
 
 abbrev pub CanisterPromise : Type 0
-CanisterPromise = (s : State) → wellFormed (s .floor) ≡ true → (cs : List Step) → All TypedStep cs → All (λ x. OnFloorUntilReported s cs (x .1)) (stepBookings s cs)
+CanisterPromise = (s : State) → wellFormed (s .floor) ≡ true → (cs : List Step) → All StepInRange cs → All (λ x. OnFloorUntilReported s cs (x .1)) (stepBookings s cs)
 
 pub record PlanPromises : Type 0 where
   pub offers : OfferPromise

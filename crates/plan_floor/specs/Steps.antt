@@ -7,7 +7,7 @@ use Rattle.laws.specs.Define.{allOf, refusal}
 use Rattle.floor.specs.declared.Floor.{Floor}
 use Rattle.floor.specs.declared.Report.{Report}
 use Rattle.floor.specs.Calls.{roundAnswer}
-use Rattle.floor.specs.Demand3.{Call, book, anywhere, stop, repair, round, keep, forget, recall, list, Typed, outcome}
+use Rattle.floor.specs.Demand3.{Call, book, anywhere, stop, repair, round, keep, forget, recall, list, InRange, outcome}
 use Rattle.plan.specs.declared.Entry.{Entry}
 use Rattle.plan.specs.declared.Plan.{Plan}
 use Rattle.plan.specs.Entries.{waits, used, predecessors}
@@ -111,11 +111,11 @@ abbrev pub stepBookings : State → List Step → List (ℕ × ℕ)
 stepBookings s cs = bookingsIn (s .plan) (planCallsIn s cs)
 
 -- the widths of the floor's calls, as in demand 3
-abbrev pub TypedStep : Step → Type 0
-TypedStep (call c) = Typed c
-TypedStep offer = Unit {0}
-TypedStep (release k) = Unit {0}
-TypedStep (report r) = Unit {0}
+abbrev pub StepInRange : Step → Type 0
+StepInRange (call c) = InRange c
+StepInRange offer = Unit {0}
+StepInRange (release k) = Unit {0}
+StepInRange (report r) = Unit {0}
 
 -- ---- reports of rounds
 -- the report of a round; of one that was refused it is all zeros and lists nothing

@@ -9,8 +9,8 @@ use lib.Dec.{eqb}
 use lib.ListN.{length, getD, set, take, drop}
 use Rattle.laws.specs.Define.{anyOf}
 use Rattle.plan.specs.declared.Entry.{Entry}
-use Rattle.plan.specs.Entries.{heldBy, deliveredAs, reported}
-use Rattle.plan_check.proofs.Entries.{held-code}
+use Rattle.plan.specs.Entries.{bookedNumber, deliveredAs, reported}
+use Rattle.plan_check.proofs.Entries.{booked-number-code}
 
 -- the first k elements changed
 abbrev pub mapUpto : {A : Type 0} → ℕ → (A → A) → List A → List A
@@ -25,19 +25,19 @@ pub map-turn : {A : Type 0} (k : ℕ) (g : A → A) (l now : List A) (z v : A) �
 map-turn k g l now z v h e q = rw (q, e, add-one k) (map-step k g l z h)
 
 -- an entry whose number is listed or not
-pub reported-code : (l : List ℕ) (e : Entry) {r : Entry} {b : Bool} → b ≡ anyOf (eqb (e .number)) l → r ≡ cond (anyOf (λ n. b) (heldBy e)) (deliveredAs e) e → r ≡ reported l e
+pub reported-code : (l : List ℕ) (e : Entry) {r : Entry} {b : Bool} → b ≡ anyOf (eqb (e .number)) l → r ≡ cond (anyOf (λ n. b) (bookedNumber e)) (deliveredAs e) e → r ≡ reported l e
 unfolding reported anyOf
-reported-code l e {r} {b} q h = h ∙ ap (λ (t : Bool). cond t (deliveredAs e) e) (go (not (eqb (e .stage) 0) && not (eqb (e .stage) 2)) (held-code e))
+reported-code l e {r} {b} q h = h ∙ ap (λ (t : Bool). cond t (deliveredAs e) e) (go (not (eqb (e .stage) 0) && not (eqb (e .stage) 2)) (booked-number-code e))
   where
     one : (c : Bool) → anyOf (λ n. b) (cond c (e .number ∷ []) []) ≡ anyOf (λ n. anyOf (eqb n) l) (cond c (e .number ∷ []) [])
     one true = ap (λ (t : Bool). t || anyOf {A = ℕ} (λ n. b) []) q
     one false = refl
 
-    go : (c : Bool) → cond c (e .number ∷ []) [] ≡ heldBy e → anyOf (λ n. b) (heldBy e) ≡ anyOf (λ n. anyOf (eqb n) l) (heldBy e)
+    go : (c : Bool) → cond c (e .number ∷ []) [] ≡ bookedNumber e → anyOf (λ n. b) (bookedNumber e) ≡ anyOf (λ n. anyOf (eqb n) l) (bookedNumber e)
     go c w = rw (sym w) (one c)
 
 -- the two branches: b says whether it is booked
-pub listed-yes : (e : Entry) (b listed : Bool) → cond b (e .number ∷ []) [] ≡ heldBy e → (b && listed) ≡ true → deliveredAs e ≡ cond (anyOf (λ n. listed) (heldBy e)) (deliveredAs e) e
+pub listed-yes : (e : Entry) (b listed : Bool) → cond b (e .number ∷ []) [] ≡ bookedNumber e → (b && listed) ≡ true → deliveredAs e ≡ cond (anyOf (λ n. listed) (bookedNumber e)) (deliveredAs e) e
 unfolding anyOf
 listed-yes e b listed q h = rw (sym q) (go b listed h)
   where
@@ -46,7 +46,7 @@ listed-yes e b listed q h = rw (sym q) (go b listed h)
     go true false h = absurd (false≢true h)
     go false l h = absurd (false≢true h)
 
-pub listed-no : (e : Entry) (b listed : Bool) → cond b (e .number ∷ []) [] ≡ heldBy e → (b && listed) ≡ false → e ≡ cond (anyOf (λ n. listed) (heldBy e)) (deliveredAs e) e
+pub listed-no : (e : Entry) (b listed : Bool) → cond b (e .number ∷ []) [] ≡ bookedNumber e → (b && listed) ≡ false → e ≡ cond (anyOf (λ n. listed) (bookedNumber e)) (deliveredAs e) e
 unfolding anyOf
 listed-no e b listed q h = rw (sym q) (go b listed h)
   where

@@ -193,7 +193,7 @@ pub fn listed_numbers(given: Report) -> Listing
 
 // An entry after a report that lists its number or doesn't.
 fn entry_reported(e: Entry, listed: bool) -> Entry
-    ensures { λ r. ⌜ r ≡ cond (anyOf (λ n. listed) (E.heldBy e)) (deliveredAs e) e ⌝ }
+    ensures { λ r. ⌜ r ≡ cond (anyOf (λ n. listed) (E.bookedNumber e)) (deliveredAs e) e ⌝ }
 {
     let booked = holds(e);
     if booked & listed {

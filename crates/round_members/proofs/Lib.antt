@@ -2,4 +2,4 @@ pub mod Carrying
 pub mod Crossing
 pub mod Inserting
 pub mod Loops
-pub mod Sifting
+pub mod Partitioning

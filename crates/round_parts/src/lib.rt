@@ -9,8 +9,8 @@ ghost use Rattle.floor.specs.Model.{numbers};
 ghost use Rattle.floor.specs.Memory.{zeroCanister};
 ghost use Rattle.floor.specs.Move.{wayOf, leaving};
 ghost use Rattle.floor.specs.Calls.{deliveryOf, noDelivery};
-ghost use Rattle.round_members.specs.Held.{listOf};
-ghost use Rattle.round_parts.specs.Came.{raisedBy, withCame};
+ghost use Rattle.round_members.specs.Members.{listOf};
+ghost use Rattle.round_parts.specs.Deliveries.{raisedBy, withDeliveries};
 use floor::Canister;
 use floor::Counters;
 use floor::Delivery;
@@ -20,25 +20,25 @@ use floor::Report;
 use floor::Rounded;
 use floor::Settings;
 use floor::Side;
-use round_members::sift;
+use round_members::partition;
 use sets::holds;
 
 // What the hoppers took in so far: how many of them were found, and what came to each.
-pub struct Takings {
+pub struct Intake {
     pub deliveries: [Delivery; 4],
     pub found: u8,
 }
 
-impl Takings {
+impl Intake {
     // No hopper was found yet, and nothing came.
-    pub const ZERO: Takings = Takings {
+    pub const ZERO: Intake = Intake {
         deliveries: [Delivery::ZERO; 4],
         found: 0,
     };
 }
 
 // The number where there is one, else 0.
-pub fn known(on: bool, n: u8) -> u8
+pub fn or_zero(on: bool, n: u8) -> u8
     ensures { λ r. ⌜ r ≡ cond on n 0 ⌝ }
 {
     if on { n } else { 0 }
@@ -56,7 +56,7 @@ pub fn way_of(next: Side, ahead: Side) -> Side
 }
 
 // The first n of sixteen places.
-pub fn held(n: u8, items: [Canister; 16]) -> Members
+pub fn members_of(n: u8, items: [Canister; 16]) -> Members
     ensures { λ r. ⌜ (r .count ≡ n) × (r .items ≡ items) ⌝ }
 {
     Members {
@@ -90,29 +90,29 @@ fn delivery(m: Members) -> Delivery
 }
 
 // One more delivery, behind those found so far.
-fn added(came: Takings, more: Delivery) -> Takings
-    requires { ⌜ came .found < 4 ⌝ }
-    ensures { λ r. ⌜ (r .found ≡ came .found + 1) × (r .deliveries ≡ set (came .deliveries) (came .found) more) ⌝ }
+fn added(intake: Intake, more: Delivery) -> Intake
+    requires { ⌜ intake .found < 4 ⌝ }
+    ensures { λ r. ⌜ (r .found ≡ intake .found + 1) × (r .deliveries ≡ set (intake .deliveries) (intake .found) more) ⌝ }
 {
-    let mut taken = came.deliveries;
-    let k = came.found as usize;
+    let mut taken = intake.deliveries;
+    let k = intake.found as usize;
     taken[k] = more;
-    Takings {
+    Intake {
         deliveries: taken,
-        found: came.found + 1,
+        found: intake.found + 1,
     }
 }
 
 // What the hoppers took in up to tile t, t too; at a tile that is no hopper it stays as it was.
-pub fn hopper_intake(s: Settings, t: usize, come: Side, others: Members, came: Takings) -> Takings
-    requires { ⌜ (others .count ≤ 16) × (s .length ≤ s .width) × (isHopper s t ≡ true → came .found < 4) ⌝ }
-    ensures { λ r. ⌜ (isHopper s t ≡ true → (r .found ≡ came .found + 1) × (r .deliveries ≡ set (came .deliveries) (came .found) (deliveryOf (numbers (leaving s (come .code) (listOf others)))))) × (isHopper s t ≡ false → r ≡ came) ⌝ }
+pub fn hopper_intake(s: Settings, t: usize, come: Side, others: Members, intake: Intake) -> Intake
+    requires { ⌜ (others .count ≤ 16) × (s .length ≤ s .width) × (isHopper s t ≡ true → intake .found < 4) ⌝ }
+    ensures { λ r. ⌜ (isHopper s t ≡ true → (r .found ≡ intake .found + 1) × (r .deliveries ≡ set (intake .deliveries) (intake .found) (deliveryOf (numbers (leaving s (come .code) (listOf others)))))) × (isHopper s t ≡ false → r ≡ intake) ⌝ }
 {
     if holds(s.hoppers, t) {
-        let more = delivery(sift(s, come, others));
-        return added(came, more);
+        let more = delivery(partition(s, come, others));
+        return added(intake, more);
     }
-    came
+    intake
 }
 
 // The counters, each raised by what came to its hopper.
@@ -136,15 +136,15 @@ fn raise(c: Counters, d: [Delivery; 4]) -> Counters
 // A round's answer, the counters raised by those that came.
 pub fn with_deliveries(
     f: Floor,
-    came: Takings,
+    intake: Intake,
     grants: [u8; 64],
     reasons: [u8; 64],
     missing: [u16; 64],
 ) -> Rounded
-    requires { ⌜ ((k : ℕ) → k < 4 → getD (f .counters .delivered) k 0 + getD (came .deliveries) k noDelivery .count < 2 ^ 32) ⌝ }
-    ensures { λ r. ⌜ r ≡ record { refusal = 0; floor = withCame f (came .deliveries); report = record { grants = grants; reasons = reasons; missing = missing; deliveries = came .deliveries } } ⌝ }
+    requires { ⌜ ((k : ℕ) → k < 4 → getD (f .counters .delivered) k 0 + getD (intake .deliveries) k noDelivery .count < 2 ^ 32) ⌝ }
+    ensures { λ r. ⌜ r ≡ record { refusal = 0; floor = withDeliveries f (intake .deliveries); report = record { grants = grants; reasons = reasons; missing = missing; deliveries = intake .deliveries } } ⌝ }
 {
-    let d = came.deliveries;
+    let d = intake.deliveries;
     let old = f.counters;
     let counters = raise(old, d);
     let mut out = f;

@@ -7,15 +7,15 @@ use Prim.Native.Nat.{ℕ, _+_, _*_, _≤_, _<_}
 use native.Mathlib.Omega.{arith}
 use lib.Dec.{leb, ltb}
 use borrow.Author.Tests.{leb-true, leb-false, ltb-true, lt-ltb, le-ltb}
-use Rattle.laws.specs.Define.{refusal, keep}
+use Rattle.laws.specs.Define.{refusal, filter}
 use Rattle.laws.proofs.Tests.{and-left, and-right, by-test}
 use Rattle.throughput.specs.declared.Throughput.{Throughput}
 use Rattle.throughput.specs.declared.Feeding.{Feeding}
 use Rattle.throughput.specs.declared.Fed.{Fed}
 use Rattle.throughput.specs.declared.Fed.the-variants.{Open, Closed, Refused}
 use Rattle.throughput.specs.Rate.{rateOf}
-use Rattle.throughput.specs.Window.{ratesSound, ratesInOrder, recordSound, feedRefusal, feedAnswer, opened, closedBy, toldBy, toldOf, feedTold}
-use Rattle.throughput.specs.Lists.{feedAll, ratesTold, counted}
+use Rattle.throughput.specs.Window.{ratesSound, ratesInOrder, recordSound, feedRefusal, feedAnswer, opened, closedBy, valuesBy, valuesOf, feedValues}
+use Rattle.throughput.specs.Lists.{feedAll, closedRates, counted}
 use Rattle.throughput.specs.Feeds.{RefusedNothing}
 
 abbrev pub answered : Throughput → Fed → Feeding
@@ -46,41 +46,41 @@ unfolding feedAnswer feedRefusal refusal
 feed-close t n h l k = rw (h, le-ltb 4 n l, le-ltb (t .rounds + 1) 256 (omega arith)) refl
 
 -- ---- the same by number and values
-pub told-unsound : (t : Throughput) (n : ℕ) → recordSound t ≡ false → feedTold t n ≡ toldBy t (Refused 30)
-unfolding feedTold toldOf
-told-unsound t n h = ap toldOf (sym (feed-unsound t n h))
+pub values-unsound : (t : Throughput) (n : ℕ) → recordSound t ≡ false → feedValues t n ≡ valuesBy t (Refused 30)
+unfolding feedValues valuesOf
+values-unsound t n h = ap valuesOf (sym (feed-unsound t n h))
 
-pub told-many : (t : Throughput) (n : ℕ) → recordSound t ≡ true → 4 < n → feedTold t n ≡ toldBy t (Refused 41)
-unfolding feedTold toldOf
-told-many t n h l = ap toldOf (sym (feed-many t n h l))
+pub values-many : (t : Throughput) (n : ℕ) → recordSound t ≡ true → 4 < n → feedValues t n ≡ valuesBy t (Refused 41)
+unfolding feedValues valuesOf
+values-many t n h l = ap valuesOf (sym (feed-many t n h l))
 
-pub told-open : (t : Throughput) (n : ℕ) → recordSound t ≡ true → n ≤ 4 → t .rounds < 255 → feedTold t n ≡ toldBy (opened t n) (Open (t .rounds + 1))
-unfolding feedTold toldOf
-told-open t n h l k = ap toldOf (sym (feed-open t n h l k))
+pub values-open : (t : Throughput) (n : ℕ) → recordSound t ≡ true → n ≤ 4 → t .rounds < 255 → feedValues t n ≡ valuesBy (opened t n) (Open (t .rounds + 1))
+unfolding feedValues valuesOf
+values-open t n h l k = ap valuesOf (sym (feed-open t n h l k))
 
-pub told-close : (t : Throughput) (n : ℕ) → recordSound t ≡ true → n ≤ 4 → 255 ≤ t .rounds → feedTold t n ≡ toldBy (closedBy t (rateOf (t .deliveries + n))) (Closed (rateOf (t .deliveries + n)))
-unfolding feedTold toldOf
-told-close t n h l k = ap toldOf (sym (feed-close t n h l k))
+pub values-close : (t : Throughput) (n : ℕ) → recordSound t ≡ true → n ≤ 4 → 255 ≤ t .rounds → feedValues t n ≡ valuesBy (closedBy t (rateOf (t .deliveries + n))) (Closed (rateOf (t .deliveries + n)))
+unfolding feedValues valuesOf
+values-close t n h l k = ap valuesOf (sym (feed-close t n h l k))
 
 -- a count above 4 is refused, by 30 or by 41
-pub told-above : (t : Throughput) (n : ℕ) → 4 < n → (k : ℕ) × (feedTold t n ≡ toldBy t (Refused k))
-told-above t n l = go (by-test (recordSound t))
+pub values-above : (t : Throughput) (n : ℕ) → 4 < n → (k : ℕ) × (feedValues t n ≡ valuesBy t (Refused k))
+values-above t n l = go (by-test (recordSound t))
   where
-    go : (recordSound t ≡ true) ⊎ (recordSound t ≡ false) → (k : ℕ) × (feedTold t n ≡ toldBy t (Refused k))
-    go (inl h) = (41, told-many t n h l)
-    go (inr h) = (30, told-unsound t n h)
+    go : (recordSound t ≡ true) ⊎ (recordSound t ≡ false) → (k : ℕ) × (feedValues t n ≡ valuesBy t (Refused k))
+    go (inl h) = (41, values-many t n h l)
+    go (inr h) = (30, values-unsound t n h)
 
 -- ---- refused counts change nothing
-step-out : (n : ℕ) (l : List ℕ) → ((t : Throughput) → (feedAll t l ≡ feedAll t (counted l)) × (ratesTold t l ≡ ratesTold t (counted l)))
-    → (t : Throughput) → (feedAll t (n ∷ l) ≡ feedAll t (counted (n ∷ l))) × (ratesTold t (n ∷ l) ≡ ratesTold t (counted (n ∷ l)))
-unfolding feedAll ratesTold counted keep
+step-out : (n : ℕ) (l : List ℕ) → ((t : Throughput) → (feedAll t l ≡ feedAll t (counted l)) × (closedRates t l ≡ closedRates t (counted l)))
+    → (t : Throughput) → (feedAll t (n ∷ l) ≡ feedAll t (counted (n ∷ l))) × (closedRates t (n ∷ l) ≡ closedRates t (counted (n ∷ l)))
+unfolding feedAll closedRates counted filter
 step-out n l ih t = go (by-test (leb n 4))
   where
-    go : (leb n 4 ≡ true) ⊎ (leb n 4 ≡ false) → (feedAll t (n ∷ l) ≡ feedAll t (counted (n ∷ l))) × (ratesTold t (n ∷ l) ≡ ratesTold t (counted (n ∷ l)))
-    go (inl h) = let i = ih (feedTold t n .throughput) in rw h (i .0, rw (i .1) refl)
-    go (inr h) = let e = told-above t n (leb-false n 4 h) in rw (h, e .1) (ih t)
+    go : (leb n 4 ≡ true) ⊎ (leb n 4 ≡ false) → (feedAll t (n ∷ l) ≡ feedAll t (counted (n ∷ l))) × (closedRates t (n ∷ l) ≡ closedRates t (counted (n ∷ l)))
+    go (inl h) = let i = ih (feedValues t n .throughput) in rw h (i .0, rw (i .1) refl)
+    go (inr h) = let e = values-above t n (leb-false n 4 h) in rw (h, e .1) (ih t)
 
 pub refused-nothing : RefusedNothing
-unfolding feedAll ratesTold counted keep
+unfolding feedAll closedRates counted filter
 refused-nothing t [] = (refl, refl)
 refused-nothing t (n ∷ l) = step-out n l (λ r. refused-nothing r l) t

@@ -9,7 +9,7 @@ use Rattle.laws.specs.Define.{refusal, allOf}
 use Rattle.laws.proofs.Lists.{same}
 use Rattle.throughput.specs.declared.Throughput.{Throughput}
 use Rattle.throughput.specs.Rate.{rateOf, rateSound}
-use Rattle.throughput.specs.Window.{ratesSound, ratesInOrder, recordSound, feedRefusal, opened, lower, higher, closedBy, feedAnswer, toldOf, feedTold}
+use Rattle.throughput.specs.Window.{ratesSound, ratesInOrder, recordSound, feedRefusal, opened, lower, higher, closedBy, feedAnswer, valuesOf, feedValues}
 use Rattle.throughput.specs.Lists.{zeroThroughput, feedAll}
 
 abbrev part : ℕ
@@ -44,8 +44,8 @@ bitsOf t = toBits binary64 (t .last) ∷ toBits binary64 (t .least) ∷ toBits b
 
 -- refusal, kind, rounds and rate, then the record
 unfoldable pub fed : Throughput → ℕ → List ℕ
-unfolding bitsOf toBits feedTold toldOf feedAnswer feedRefusal refusal recordSound ratesSound rateSound ratesInOrder le lt eq opened closedBy lower higher rateOf div ofInt ofBits
-fed t n = let a = feedTold t n in a .refusal ∷ a .kind ∷ a .rounds ∷ toBits binary64 (a .rate) ∷ bitsOf (a .throughput)
+unfolding bitsOf toBits feedValues valuesOf feedAnswer feedRefusal refusal recordSound ratesSound rateSound ratesInOrder le lt eq opened closedBy lower higher rateOf div ofInt ofBits
+fed t n = let a = feedValues t n in a .refusal ∷ a .kind ∷ a .rounds ∷ toBits binary64 (a .rate) ∷ bitsOf (a .throughput)
 
 -- refused by k, and the record as it came
 unfoldable pub refused : ℕ → Throughput → List ℕ

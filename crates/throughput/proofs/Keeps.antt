@@ -10,15 +10,15 @@ use borrow.Author.Tests.{ltb-true, ltb-false, lt-ltb, le-leb}
 use Rattle.laws.proofs.Tests.{by-test, and-left, and-right, and-true}
 use Rattle.throughput.specs.declared.Throughput.{Throughput}
 use Rattle.throughput.specs.Rate.{rateOf, rateSound}
-use Rattle.throughput.specs.Window.{ratesSound, ratesInOrder, recordSound, feedTold, opened, closedBy, lower, higher}
-use Rattle.throughput.specs.Feeds.{Held64}
+use Rattle.throughput.specs.Window.{ratesSound, ratesInOrder, recordSound, feedValues, opened, closedBy, lower, higher}
+use Rattle.throughput.specs.Feeds.{AreBinary64}
 use Rattle.throughput.proofs.Exact.{rate-fits, sound-rate}
 use Rattle.throughput.proofs.Order.{rate-lower, rate-higher}
-use Rattle.throughput.proofs.Answers.{sound-window, told-many, told-open, told-close}
+use Rattle.throughput.proofs.Answers.{sound-window, values-many, values-open, values-close}
 use Rattle.throughput.proofs.Records.{closed-sound}
 
 abbrev Kept : Throughput → Type 0
-Kept r = Held64 r × (recordSound r ≡ true)
+Kept r = AreBinary64 r × (recordSound r ≡ true)
 
 pub rest-sound : (r : Throughput) → recordSound r ≡ true → (ratesSound (r .last) (r .least) (r .greatest) && ratesInOrder (r .last) (r .least) (r .greatest) (r .closed)) ≡ true
 unfolding recordSound
@@ -26,13 +26,13 @@ rest-sound r h =
     let rest = ratesSound (r .last) (r .least) (r .greatest) && ratesInOrder (r .last) (r .least) (r .greatest) (r .closed) in
     and-right (leb (r .deliveries) (4 * r .rounds)) rest (and-right (ltb (r .rounds) 256) (leb (r .deliveries) (4 * r .rounds) && rest) h)
 
-open-keeps : (r : Throughput) (n : ℕ) → n ≤ 4 → r .rounds + 1 < 256 → Held64 r → recordSound r ≡ true → Kept (opened r n)
+open-keeps : (r : Throughput) (n : ℕ) → n ≤ 4 → r .rounds + 1 < 256 → AreBinary64 r → recordSound r ≡ true → Kept (opened r n)
 unfolding recordSound opened
 open-keeps r n h k f s =
     let w = sound-window r s in
     (f, and-true (lt-ltb (r .rounds + 1) 256 k) (and-true (le-leb (r .deliveries + n) (4 * (r .rounds + 1)) (omega (arith, w .1, h))) (rest-sound r s)))
 
-close-keeps : (r : Throughput) (m : ℕ) → m ≤ 1024 → Held64 r → recordSound r ≡ true → Kept (closedBy r (rateOf m))
+close-keeps : (r : Throughput) (m : ℕ) → m ≤ 1024 → AreBinary64 r → recordSound r ≡ true → Kept (closedBy r (rateOf m))
 unfolding closedBy ratesSound
 close-keeps r m h f s = go (by-test (eqb (r .closed) 0))
   where
@@ -53,17 +53,17 @@ close-keeps r m h f s = go (by-test (eqb (r .closed) 0))
         let u : higher (r .greatest) (rateOf m) ≡ rateOf (max (g .0) m) = ap (λ (x : Float). higher x (rateOf m)) (g .2) ∙ rate-higher (g .0) m q h in
         rw (e, l, u) ((rate-fits m, rate-fits (min (a .0) m), rate-fits (max (g .0) m)), closed-sound m (min (a .0) m) (max (g .0) m) 0 0 (omega arith, omega arith, omega (arith, q, h)) (omega arith, omega arith))
 
-pub feed-keeps : (r : Throughput) (n : ℕ) → Held64 r → recordSound r ≡ true → Kept (feedTold r n .throughput)
+pub feed-keeps : (r : Throughput) (n : ℕ) → AreBinary64 r → recordSound r ≡ true → Kept (feedValues r n .throughput)
 feed-keeps r n f s = go (by-test (ltb 4 n)) (by-test (ltb (r .rounds + 1) 256))
   where
-    go : (ltb 4 n ≡ true) ⊎ (ltb 4 n ≡ false) → (ltb (r .rounds + 1) 256 ≡ true) ⊎ (ltb (r .rounds + 1) 256 ≡ false) → Kept (feedTold r n .throughput)
-    go (inl m) y = rw (told-many r n s (ltb-true 4 n m)) (f, s)
+    go : (ltb 4 n ≡ true) ⊎ (ltb 4 n ≡ false) → (ltb (r .rounds + 1) 256 ≡ true) ⊎ (ltb (r .rounds + 1) 256 ≡ false) → Kept (feedValues r n .throughput)
+    go (inl m) y = rw (values-many r n s (ltb-true 4 n m)) (f, s)
     go (inr m) (inl y) =
         let c = ltb-false 4 n m in
         let d = ltb-true (r .rounds + 1) 256 y in
-        rw (told-open r n s c (omega arith)) (open-keeps r n c d f s)
+        rw (values-open r n s c (omega arith)) (open-keeps r n c d f s)
     go (inr m) (inr y) =
         let c = ltb-false 4 n m in
         let d = ltb-false (r .rounds + 1) 256 y in
         let w = sound-window r s in
-        rw (told-close r n s c (omega arith)) (close-keeps r (r .deliveries + n) (omega (arith, w .0, w .1, c)) f s)
+        rw (values-close r n s c (omega arith)) (close-keeps r (r .deliveries + n) (omega (arith, w .0, w .1, c)) f s)

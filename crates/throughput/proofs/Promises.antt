@@ -11,18 +11,18 @@ use lib.Ieee.{Float, nan, inf, fin, binary64, up, down, fits, le, eq, ofBits}
 use lib.Ieee.Exact.{HasValue}
 use lib.Ieee.Fits.{down-pos}
 use borrow.Author.Tests.{leb-true, ltb-true, ltb-false, lt-ltb, le-leb, eqb-true, eq-eqb, ne-eqb}
-use Rattle.laws.specs.Define.{keep, sum}
+use Rattle.laws.specs.Define.{filter, sum}
 use Rattle.laws.specs.Every.{All}
 use Rattle.laws.proofs.Tests.{by-test, and-left, and-right, and-true}
-use Rattle.laws.proofs.Lists.{all-of, all-imp, all-keep}
+use Rattle.laws.proofs.Lists.{all-of, all-imp, all-filter}
 use Rattle.throughput.specs.declared.Throughput.{Throughput}
-use Rattle.throughput.specs.declared.Told.{Told}
+use Rattle.throughput.specs.declared.FedValues.{FedValues}
 use Rattle.throughput.specs.Rate.{rateOf, rateSound, deliveriesOf}
-use Rattle.throughput.specs.Window.{zero64, ratesSound, ratesInOrder, recordSound, closedBy, feedTold}
-use Rattle.throughput.specs.Lists.{zeroThroughput, feedAll, ratesTold, counted, windows, openRounds, openDeliveries, lastOf, leastOf, greatestOf, recordAfter}
-use Rattle.throughput.specs.Feeds.{IsRate, Held64, SoundRecord, SoundIs, Opens, Closes, FeedIs, Feeds}
+use Rattle.throughput.specs.Window.{zero64, ratesSound, ratesInOrder, recordSound, closedBy, feedValues}
+use Rattle.throughput.specs.Lists.{zeroThroughput, feedAll, closedRates, counted, windows, openRounds, openDeliveries, lastOf, leastOf, greatestOf, recordAfter}
+use Rattle.throughput.specs.Feeds.{IsRate, AreBinary64, SoundRecord, SoundIs, Opens, Closes, FeedIs, Feeds}
 use Rattle.throughput.proofs.Exact.{cut as cut-back, rate-exact, rate-fits, value-sound, sound-value, sound-rate, times}
-use Rattle.throughput.proofs.Answers.{sound-window, told-unsound, told-many, told-open, told-close, refused-nothing}
+use Rattle.throughput.proofs.Answers.{sound-window, values-unsound, values-many, values-open, values-close, refused-nothing}
 use Rattle.throughput.proofs.Order.{rate-zero, zero-is}
 use Rattle.throughput.proofs.Windows.{cut, cuts-sum, cuts-most}
 use Rattle.throughput.proofs.Records.{start, feeds-start}
@@ -71,7 +71,7 @@ module _ (t : Throughput) where
   zeros : Bool
   zeros = eq (t .last) zero64 && (eq (t .least) zero64 && eq (t .greatest) zero64)
 
-  sound-facts : Held64 t → recordSound t ≡ true → SoundRecord t
+  sound-facts : AreBinary64 t → recordSound t ≡ true → SoundRecord t
   unfolding ratesSound ratesInOrder a b zeros
   sound-facts f h =
       let w = sound-window t h in
@@ -118,14 +118,14 @@ pub sound-record : SoundIs
 sound-record t f = (sound-facts t f, facts-sound t)
 
 -- ---- one feed
-opens : (t : Throughput) (n : ℕ) → recordSound t ≡ true → n ≤ 4 → t .rounds < 255 → Opens t n (feedTold t n)
-opens t n h l k = rw (told-open t n h l k) (record { accepted = refl; kind = refl; rounds = refl; most = omega arith; after = refl })
+opens : (t : Throughput) (n : ℕ) → recordSound t ≡ true → n ≤ 4 → t .rounds < 255 → Opens t n (feedValues t n)
+opens t n h l k = rw (values-open t n h l k) (record { accepted = refl; kind = refl; rounds = refl; most = omega arith; after = refl })
 
-closes : (t : Throughput) (n : ℕ) → recordSound t ≡ true → n ≤ 4 → t .rounds ≡ 255 → Closes t n (feedTold t n)
+closes : (t : Throughput) (n : ℕ) → recordSound t ≡ true → n ≤ 4 → t .rounds ≡ 255 → Closes t n (feedValues t n)
 unfolding closedBy
 closes t n h l k =
     let w = sound-window t h in
-    rw (told-close t n h l (omega arith)) (record {
+    rw (values-close t n h l (omega arith)) (record {
       accepted = refl;
       kind = refl;
       rate = is-rate (t .deliveries + n) (omega (arith, w .0, w .1));
@@ -136,22 +136,22 @@ closes t n h l k =
       closed = refl;
     })
 
-abbrev Unchanged : Throughput → Told → Type 0
+abbrev Unchanged : Throughput → FedValues → Type 0
 Unchanged t x = x .refusal ≢ 0 → (x .throughput ≡ t) × (x .rate ≡ zero64) × (x .rounds ≡ 0)
 
-unchanged : (t : Throughput) (n : ℕ) → Unchanged t (feedTold t n)
+unchanged : (t : Throughput) (n : ℕ) → Unchanged t (feedValues t n)
 unchanged t n = go (by-test (recordSound t)) (by-test (ltb 4 n)) (by-test (ltb (t .rounds) 255))
   where
-    go : (recordSound t ≡ true) ⊎ (recordSound t ≡ false) → (ltb 4 n ≡ true) ⊎ (ltb 4 n ≡ false) → (ltb (t .rounds) 255 ≡ true) ⊎ (ltb (t .rounds) 255 ≡ false) → Unchanged t (feedTold t n)
-    go (inr h) m y = rw (told-unsound t n h) (λ _. (refl, refl, refl))
-    go (inl h) (inl m) y = rw (told-many t n h (ltb-true 4 n m)) (λ _. (refl, refl, refl))
-    go (inl h) (inr m) (inl y) = rw (told-open t n h (ltb-false 4 n m) (ltb-true (t .rounds) 255 y)) (λ z. absurd (z refl))
-    go (inl h) (inr m) (inr y) = rw (told-close t n h (ltb-false 4 n m) (ltb-false (t .rounds) 255 y)) (λ z. absurd (z refl))
+    go : (recordSound t ≡ true) ⊎ (recordSound t ≡ false) → (ltb 4 n ≡ true) ⊎ (ltb 4 n ≡ false) → (ltb (t .rounds) 255 ≡ true) ⊎ (ltb (t .rounds) 255 ≡ false) → Unchanged t (feedValues t n)
+    go (inr h) m y = rw (values-unsound t n h) (λ _. (refl, refl, refl))
+    go (inl h) (inl m) y = rw (values-many t n h (ltb-true 4 n m)) (λ _. (refl, refl, refl))
+    go (inl h) (inr m) (inl y) = rw (values-open t n h (ltb-false 4 n m) (ltb-true (t .rounds) 255 y)) (λ z. absurd (z refl))
+    go (inl h) (inr m) (inr y) = rw (values-close t n h (ltb-false 4 n m) (ltb-false (t .rounds) 255 y)) (λ z. absurd (z refl))
 
 pub feed-promises : FeedIs
 feed-promises t n = record {
-  unsound = λ h. rw (told-unsound t n h) (refl, refl);
-  above = λ h l. rw (told-many t n h l) (refl, refl);
+  unsound = λ h. rw (values-unsound t n h) (refl, refl);
+  above = λ h l. rw (values-many t n h l) (refl, refl);
   unchanged = unchanged t n;
   opens = opens t n;
   closes = closes t n;
@@ -161,16 +161,16 @@ feed-promises t n = record {
 -- ---- lists
 pub counted-few : (l : List ℕ) → All (λ n. n ≤ 4) (counted l)
 unfolding counted
-counted-few l = all-imp (λ n. Unit {0} × (leb n 4 ≡ true)) (λ n. n ≤ 4) (keep (λ n. leb n 4) l) (λ n p. leb-true n 4 (p .1)) (all-keep (λ _. Unit {0}) (λ n. leb n 4) l (all-of (λ _. Unit {0}) l (λ _ _. tt)))
+counted-few l = all-imp (λ n. Unit {0} × (leb n 4 ≡ true)) (λ n. n ≤ 4) (filter (λ n. leb n 4) l) (λ n p. leb-true n 4 (p .1)) (all-filter (λ _. Unit {0}) (λ n. leb n 4) l (all-of (λ _. Unit {0}) l (λ _ _. tt)))
 
 zero-start : zeroThroughput ≡ start 0 0
 unfolding zeroThroughput
 zero-start = refl
 
-record-held : (ws : List ℕ) (k s : ℕ) → Held64 (recordAfter ws k s)
+record-binary64 : (ws : List ℕ) (k s : ℕ) → AreBinary64 (recordAfter ws k s)
 unfolding recordAfter fits
-record-held [] k s = (tt, tt, tt)
-record-held (w ∷ ws) k s = (rate-fits (lastOf w ws), rate-fits (leastOf w ws), rate-fits (greatestOf w ws))
+record-binary64 [] k s = (tt, tt, tt)
+record-binary64 (w ∷ ws) k s = (rate-fits (lastOf w ws), rate-fits (leastOf w ws), rate-fits (greatestOf w ws))
 
 pub feeds : Feeds
 feeds l =
@@ -183,8 +183,8 @@ feeds l =
     let e : feedAll zeroThroughput l ≡ recordAfter (windows m) (openRounds m) (openDeliveries m) = z ∙ s .0 ∙ (λ i. recordAfter (c .0 i) (c .1 i) (c .2 i)) in
     record {
       after = e;
-      sound = sound-facts (feedAll zeroThroughput l) (subst Held64 (sym e) (record-held (windows m) (openRounds m) (openDeliveries m))) (ap recordSound z ∙ s .2);
-      told = k .1 ∙ ap (λ (t : Throughput). ratesTold t m) zero-start ∙ s .1 ∙ ap (map rateOf) (c .0);
+      sound = sound-facts (feedAll zeroThroughput l) (subst AreBinary64 (sym e) (record-binary64 (windows m) (openRounds m) (openDeliveries m))) (ap recordSound z ∙ s .2);
+      closed-rates = k .1 ∙ ap (λ (t : Throughput). closedRates t m) zero-start ∙ s .1 ∙ ap (map rateOf) (c .0);
       rates = all-imp (λ w. w ≤ 1024) (λ w. IsRate (rateOf w) w) (windows m) is-rate (subst (All (λ w. w ≤ 1024)) (c .0) (cuts-most m few 0 0 (omega arith) (omega arith)));
       total = (λ i. sum (sym (c .0) i) + sym (c .2) i) ∙ cuts-sum m 0 0 ∙ zero-add (sum m);
     }

@@ -11,10 +11,10 @@ use lib.Ieee.Exact.{HasValue}
 use Rattle.laws.specs.Define.{sum}
 use Rattle.laws.specs.Every.{All}
 use Rattle.throughput.specs.declared.Throughput.{Throughput}
-use Rattle.throughput.specs.declared.Told.{Told}
+use Rattle.throughput.specs.declared.FedValues.{FedValues}
 use Rattle.throughput.specs.Rate.{perWindow, rateOf}
-use Rattle.throughput.specs.Window.{zero64, recordSound, opened, lower, higher, feedTold}
-use Rattle.throughput.specs.Lists.{zeroThroughput, feedAll, ratesTold, counted, windows, openRounds, openDeliveries, recordAfter}
+use Rattle.throughput.specs.Window.{zero64, recordSound, opened, lower, higher, feedValues}
+use Rattle.throughput.specs.Lists.{zeroThroughput, feedAll, closedRates, counted, windows, openRounds, openDeliveries, recordAfter}
 
 -- "The rate times 256 is the deliveries exactly, and lies between 0 and 1,024": x is an f64 and n its whole number of deliveries
 pub record IsRate (x : Float) (n : ℕ) : Type 0 where
@@ -25,8 +25,8 @@ pub record IsRate (x : Float) (n : ℕ) : Type 0 where
   pub most : n ≤ 1024
 
 -- three values that memory can hold: each is an f64
-abbrev pub Held64 : Throughput → Type 0
-Held64 t = T (fits binary64 (t .last)) × T (fits binary64 (t .least)) × T (fits binary64 (t .greatest))
+abbrev pub AreBinary64 : Throughput → Type 0
+AreBinary64 t = T (fits binary64 (t .last)) × T (fits binary64 (t .least)) × T (fits binary64 (t .greatest))
 
 -- what a sound record is: 30 refuses nothing else
 pub record SoundRecord (t : Throughput) : Type 0 where
@@ -40,10 +40,10 @@ pub record SoundRecord (t : Throughput) : Type 0 where
   pub before : t .closed ≡ 0 → (t .last ≡ zero64) × (t .least ≡ zero64) × (t .greatest ≡ zero64)
 
 abbrev pub SoundIs : Type 0
-SoundIs = (t : Throughput) → Held64 t → recordSound t ≡ true ↔ SoundRecord t
+SoundIs = (t : Throughput) → AreBinary64 t → recordSound t ≡ true ↔ SoundRecord t
 
 -- an open round's answer a: "that the window is still open and how many rounds it has"
-pub record Opens (t : Throughput) (n : ℕ) (a : Told) : Type 0 where
+pub record Opens (t : Throughput) (n : ℕ) (a : FedValues) : Type 0 where
   pub accepted : a .refusal ≡ 0
   pub kind : a .kind ≡ 1
   pub rounds : a .rounds ≡ t .rounds + 1
@@ -51,7 +51,7 @@ pub record Opens (t : Throughput) (n : ℕ) (a : Told) : Type 0 where
   pub after : a .throughput ≡ opened t n
 
 -- a closing round's answer a: "its rate as an f64"
-pub record Closes (t : Throughput) (n : ℕ) (a : Told) : Type 0 where
+pub record Closes (t : Throughput) (n : ℕ) (a : FedValues) : Type 0 where
   pub accepted : a .refusal ≡ 0
   pub kind : a .kind ≡ 2
   pub rate : IsRate (a .rate) (t .deliveries + n)
@@ -63,27 +63,27 @@ pub record Closes (t : Throughput) (n : ℕ) (a : Told) : Type 0 where
 
 -- one feed of count n to any record t
 pub record FeedPromises (t : Throughput) (n : ℕ) : Type 0 where
-  pub unsound : recordSound t ≡ false → (feedTold t n .refusal ≡ 30) × (feedTold t n .kind ≡ 0)
-  pub above : recordSound t ≡ true → 4 < n → (feedTold t n .refusal ≡ 41) × (feedTold t n .kind ≡ 0)
+  pub unsound : recordSound t ≡ false → (feedValues t n .refusal ≡ 30) × (feedValues t n .kind ≡ 0)
+  pub above : recordSound t ≡ true → 4 < n → (feedValues t n .refusal ≡ 41) × (feedValues t n .kind ≡ 0)
   -- "A refusal gives the record back unchanged"
-  pub unchanged : feedTold t n .refusal ≢ 0 → (feedTold t n .throughput ≡ t) × (feedTold t n .rate ≡ zero64) × (feedTold t n .rounds ≡ 0)
-  pub opens : recordSound t ≡ true → n ≤ 4 → t .rounds < 255 → Opens t n (feedTold t n)
-  pub closes : recordSound t ≡ true → n ≤ 4 → t .rounds ≡ 255 → Closes t n (feedTold t n)
-  pub sound : Held64 t → recordSound t ≡ true → Held64 (feedTold t n .throughput) × (recordSound (feedTold t n .throughput) ≡ true)
+  pub unchanged : feedValues t n .refusal ≢ 0 → (feedValues t n .throughput ≡ t) × (feedValues t n .rate ≡ zero64) × (feedValues t n .rounds ≡ 0)
+  pub opens : recordSound t ≡ true → n ≤ 4 → t .rounds < 255 → Opens t n (feedValues t n)
+  pub closes : recordSound t ≡ true → n ≤ 4 → t .rounds ≡ 255 → Closes t n (feedValues t n)
+  pub sound : AreBinary64 t → recordSound t ≡ true → AreBinary64 (feedValues t n .throughput) × (recordSound (feedValues t n .throughput) ≡ true)
 
 abbrev pub FeedIs : Type 0
 FeedIs = (t : Throughput) (n : ℕ) → FeedPromises t n
 
 -- a refused count in a list changes nothing, whatever record the list begins with
 abbrev pub RefusedNothing : Type 0
-RefusedNothing = (t : Throughput) (l : List ℕ) → (feedAll t l ≡ feedAll t (counted l)) × (ratesTold t l ≡ ratesTold t (counted l))
+RefusedNothing = (t : Throughput) (l : List ℕ) → (feedAll t l ≡ feedAll t (counted l)) × (closedRates t l ≡ closedRates t (counted l))
 
 -- any list of counts l, fed to the all-zero record
 pub record ListPromises (l : List ℕ) : Type 0 where
   pub after : feedAll zeroThroughput l ≡ recordAfter (windows (counted l)) (openRounds (counted l)) (openDeliveries (counted l))
   pub sound : SoundRecord (feedAll zeroThroughput l)
   -- the k-th closed rate is that of the k-th window
-  pub told : ratesTold zeroThroughput l ≡ map rateOf (windows (counted l))
+  pub closed-rates : closedRates zeroThroughput l ≡ map rateOf (windows (counted l))
   pub rates : All (λ w. IsRate (rateOf w) w) (windows (counted l))
   -- nothing is lost: the closed windows and the open one have all that was counted
   pub total : sum (windows (counted l)) + openDeliveries (counted l) ≡ sum (counted l)

@@ -5,11 +5,11 @@ use Prim.Native.Nat.{ℕ, _*_, _/_, _%_, min, max}
 use lib.Dec.{leb, eqb}
 use lib.ListN.{length, take, drop}
 use lib.Ieee.{Float}
-use Rattle.laws.specs.Define.{tab, keep, sum}
+use Rattle.laws.specs.Define.{tab, filter, sum}
 use Rattle.throughput.specs.declared.Throughput.{Throughput}
-use Rattle.throughput.specs.declared.Told.{Told}
+use Rattle.throughput.specs.declared.FedValues.{FedValues}
 use Rattle.throughput.specs.Rate.{rateOf}
-use Rattle.throughput.specs.Window.{zero64, feedTold}
+use Rattle.throughput.specs.Window.{zero64, feedValues}
 
 -- ---- what the calls do
 -- "before that all three are 0"
@@ -19,21 +19,21 @@ zeroThroughput = record { last = zero64; least = zero64; greatest = zero64; roun
 -- the record after the counts, each fed to the record that the one before it left
 unfoldable pub feedAll : Throughput → List ℕ → Throughput
 feedAll t [] = t
-feedAll t (n ∷ l) = feedAll (feedTold t n .throughput) l
+feedAll t (n ∷ l) = feedAll (feedValues t n .throughput) l
 
 -- the rate that an answer tells, if it tells one
-abbrev pub rateIn : Told → List Float
+abbrev pub rateIn : FedValues → List Float
 rateIn a = cond (eqb (a .kind) 2) (a .rate ∷ []) []
 
 -- the closed rates, in order
-unfoldable pub ratesTold : Throughput → List ℕ → List Float
-ratesTold t [] = []
-ratesTold t (n ∷ l) = rateIn (feedTold t n) ++ ratesTold (feedTold t n .throughput) l
+unfoldable pub closedRates : Throughput → List ℕ → List Float
+closedRates t [] = []
+closedRates t (n ∷ l) = rateIn (feedValues t n) ++ closedRates (feedValues t n .throughput) l
 
 -- ---- what they should do
 -- the counts that are not refused
 unfoldable pub counted : List ℕ → List ℕ
-counted l = keep (λ n. leb n 4) l
+counted l = filter (λ n. leb n 4) l
 
 -- "windows of 256 rounds": the deliveries of each full window of the counts l, in order
 unfoldable pub windows : List ℕ → List ℕ

@@ -10,7 +10,7 @@ use Rattle.throughput.specs.declared.Throughput.{Throughput}
 use Rattle.throughput.specs.declared.Fed.{Fed}
 use Rattle.throughput.specs.declared.Fed.the-variants.{Open, Closed, Refused}
 use Rattle.throughput.specs.declared.Feeding.{Feeding}
-use Rattle.throughput.specs.declared.Told.{Told}
+use Rattle.throughput.specs.declared.FedValues.{FedValues}
 use Rattle.throughput.specs.Rate.{rateOf, rateSound}
 
 -- the f64 0
@@ -63,14 +63,14 @@ feedAnswer t n =
     (let x = rateOf (t .deliveries + n) in record { throughput = closedBy t x; fed = Closed x }))
 
 -- the papers' number and values for each case of the answer: the refusal, 0 where the count was taken; kind 0 refused, 1 open with its rounds, 2 closed with its rate; what a case does not have is 0
-abbrev pub toldBy : Throughput → Fed → Told
-toldBy t (Open k) = record { throughput = t; rate = zero64; rounds = k; kind = 1; refusal = 0 }
-toldBy t (Closed x) = record { throughput = t; rate = x; rounds = 0; kind = 2; refusal = 0 }
-toldBy t (Refused n) = record { throughput = t; rate = zero64; rounds = 0; kind = 0; refusal = n }
+abbrev pub valuesBy : Throughput → Fed → FedValues
+valuesBy t (Open k) = record { throughput = t; rate = zero64; rounds = k; kind = 1; refusal = 0 }
+valuesBy t (Closed x) = record { throughput = t; rate = x; rounds = 0; kind = 2; refusal = 0 }
+valuesBy t (Refused n) = record { throughput = t; rate = zero64; rounds = 0; kind = 0; refusal = n }
 
-unfoldable pub toldOf : Feeding → Told
-toldOf a = toldBy (a .throughput) (a .fed)
+unfoldable pub valuesOf : Feeding → FedValues
+valuesOf a = valuesBy (a .throughput) (a .fed)
 
 -- what feeding count n to t tells: the promises speak of this
-unfoldable pub feedTold : Throughput → ℕ → Told
-feedTold t n = toldOf (feedAnswer t n)
+unfoldable pub feedValues : Throughput → ℕ → FedValues
+feedValues t n = valuesOf (feedAnswer t n)

@@ -3,7 +3,7 @@ ghost use mathlib.Core.Path.{_≡_};
 ghost use Prim.Native.Nat.{_≤_};
 ghost use Rattle.throughput.specs.Rate.{rateOf, rateSound, deliveriesOf};
 ghost use Rattle.throughput.specs.Lists.{zeroThroughput};
-ghost use Rattle.throughput.specs.Window.{ratesSound, ratesInOrder, recordSound, lower, higher, closedBy, feedAnswer, toldOf, feedTold};
+ghost use Rattle.throughput.specs.Window.{ratesSound, ratesInOrder, recordSound, lower, higher, closedBy, feedAnswer, valuesOf, feedValues};
 
 // "A record is 30 if …"
 pub const UNSOUND: u8 = 30;
@@ -45,7 +45,7 @@ pub const FED_CLOSED: u8 = 2;
 
 // The same for C and Rust; what a kind does not have is 0.
 #[repr(C)]
-pub struct Told {
+pub struct FedValues {
     pub throughput: Throughput,
     pub rate: f64,
     pub rounds: u16,
@@ -213,27 +213,27 @@ pub fn feed(throughput: Throughput, count: u32) -> Feeding
 }
 
 // An answer's number and values.
-fn tell(feeding: Feeding) -> Told
-    ensures { λ r. ⌜ r ≡ toldOf feeding ⌝ }
+fn values_of(feeding: Feeding) -> FedValues
+    ensures { λ r. ⌜ r ≡ valuesOf feeding ⌝ }
 {
     let throughput = feeding.throughput;
     let fed = feeding.fed;
     match fed {
-        Fed::Open(k) => Told {
+        Fed::Open(k) => FedValues {
             throughput: throughput,
             rate: 0.0,
             rounds: k,
             kind: FED_OPEN,
             refusal: 0,
         },
-        Fed::Closed(x) => Told {
+        Fed::Closed(x) => FedValues {
             throughput: throughput,
             rate: x,
             rounds: 0,
             kind: FED_CLOSED,
             refusal: 0,
         },
-        Fed::Refused(n) => Told {
+        Fed::Refused(n) => FedValues {
             throughput: throughput,
             rate: 0.0,
             rounds: 0,
@@ -244,11 +244,11 @@ fn tell(feeding: Feeding) -> Told
 }
 
 // The same call, answered as C and Rust get it.
-pub fn feed_told(throughput: Throughput, count: u32) -> Told
-    ensures { λ r. ⌜ r ≡ feedTold throughput count ⌝ }
+pub fn feed_values(throughput: Throughput, count: u32) -> FedValues
+    ensures { λ r. ⌜ r ≡ feedValues throughput count ⌝ }
 {
     let feeding = feed(throughput, count);
-    tell(feeding)
+    values_of(feeding)
 }
 
 // The all-zero record: no window has closed, and the open one has no rounds.

@@ -10,14 +10,14 @@ use Rattle.laws.specs.Every.{All}
 use Rattle.laws.proofs.Tables.{tab-length}
 use Rattle.floor.specs.declared.Floor.{Floor}
 use Rattle.floor.specs.Well.{wellFormed}
-use Rattle.floor.specs.Demand3.{Call, book, stop, round, Typed, outcome, floorAfter}
+use Rattle.floor.specs.Demand3.{Call, book, stop, round, InRange, outcome, floorAfter}
 use Rattle.floor.proofs.Calling.{can, holds}
 use Rattle.floor.proofs.Lists.{list-keeps}
-use Rattle.floor.proofs.Instances.{rounds, typed-rounds}
+use Rattle.floor.proofs.Instances.{rounds, in-range-rounds}
 use Rattle.throughput.specs.declared.Throughput.{Throughput}
 use Rattle.throughput.specs.Rate.{rateOf}
 use Rattle.throughput.specs.Window.{zero64}
-use Rattle.throughput.specs.Lists.{zeroThroughput, feedAll, ratesTold, windows, openRounds, openDeliveries, recordAfter}
+use Rattle.throughput.specs.Lists.{zeroThroughput, feedAll, closedRates, windows, openRounds, openDeliveries, recordAfter}
 use Rattle.throughput_floor.specs.Rounds.{countOf, countsIn, Follows}
 use Rattle.throughput_floor.proofs.Joined.{joined}
 use Rattle.throughput_floor.proofs.Several.{ends, eight}
@@ -30,16 +30,16 @@ eight-well : wellFormed eight ≡ true
 unfolding holds eight ends
 eight-well = refl
 
-calls-typed : All Typed calls
+calls-in-range : All InRange calls
 unfolding calls can
-calls-typed = (tt, (tt, (omega arith, (tt, tt))))
+calls-in-range = (tt, (tt, (omega arith, (tt, tt))))
 
 calls-counts : countsIn eight calls 1 ≡ 4 ∷ 1 ∷ []
 unfolding holds eight ends calls outcome countOf countsIn
 calls-counts = refl
 
 abbrev follows : Follows eight calls 1
-follows = joined eight eight-well calls calls-typed 1
+follows = joined eight eight-well calls calls-in-range 1
 
 eight-counts : follows .counts ≡ 4 ∷ 1 ∷ []
 eight-counts = follows .are-counts ∙ calls-counts
@@ -55,9 +55,9 @@ eight-after : feedAll zeroThroughput (4 ∷ 1 ∷ []) ≡ record { last = zero64
 unfolding windows openRounds openDeliveries recordAfter tab sum
 eight-after = rw eight-counts at (follows .after)
 
-eight-told : ratesTold zeroThroughput (4 ∷ 1 ∷ []) ≡ []
+eight-rates : closedRates zeroThroughput (4 ∷ 1 ∷ []) ≡ []
 unfolding windows tab
-eight-told = rw eight-counts at (follows .told)
+eight-rates = rw eight-counts at (follows .closed-rates)
 
 eight-before : getD (eight .counters .delivered) 1 0 ≡ 0
 unfolding holds eight ends
@@ -74,9 +74,9 @@ later = floorAfter eight calls
 unfoldable further : List Call
 further = book 2 (can 10 79 0) ∷ round ∷ []
 
-further-typed : All Typed further
+further-in-range : All InRange further
 unfolding further can
-further-typed = (omega arith, (tt, tt))
+further-in-range = (omega arith, (tt, tt))
 
 further-counts : countsIn later further 1 ≡ 1 ∷ []
 unfolding holds eight ends calls further outcome floorAfter countOf countsIn
@@ -85,17 +85,17 @@ further-counts = refl
 later-rose : getD (floorAfter later further .counters .delivered) 1 0 ≡ 6
 unfolding windows openDeliveries tab sum
 later-rose =
-    let F = joined later (list-keeps eight eight-well calls calls-typed .0) further further-typed 1 in
+    let F = joined later (list-keeps eight eight-well calls calls-in-range .0) further further-in-range 1 in
     rw (F .are-counts, further-counts, eight-rose) at (F .rose)
 
 -- ---- 256 rounds: one rate is told, and the open window is empty
 abbrev window : Follows eight (rounds 256) 1
-window = joined eight eight-well (rounds 256) (typed-rounds 256) 1
+window = joined eight eight-well (rounds 256) (in-range-rounds 256) 1
 
-one-rate : length (ratesTold zeroThroughput (window .counts)) ≡ 1
+one-rate : length (closedRates zeroThroughput (window .counts)) ≡ 1
 unfolding windows
 one-rate =
-    ap length (window .told) ∙ length-map (windows (window .counts)) rateOf
+    ap length (window .closed-rates) ∙ length-map (windows (window .counts)) rateOf
     ∙ tab-length (length (window .counts) / 256) (λ k. sum _) ∙ ap (λ (n : ℕ). n / 256) (window .rounds)
 
 rounds-after : (ws : List ℕ) (k s : ℕ) → recordAfter ws k s .rounds ≡ k

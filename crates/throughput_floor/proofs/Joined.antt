@@ -10,7 +10,7 @@ use lib.ListN.{length, getD, replicate, length-append}
 use borrow.Author.Tests.{le-leb}
 use Rattle.laws.specs.Define.{sum, refusal}
 use Rattle.laws.specs.Every.{All}
-use Rattle.laws.proofs.Lists.{all-imp, keep-all}
+use Rattle.laws.proofs.Lists.{all-imp, filter-all}
 use Rattle.laws.proofs.Tests.{by-test}
 use Rattle.floor.specs.declared.Delivery.{Delivery}
 use Rattle.floor.specs.declared.Floor.{Floor}
@@ -21,7 +21,7 @@ use Rattle.floor.specs.Calls.{noDelivery, deliveryOf, roundAnswer, refusalOf, z
 use Rattle.floor.specs.Reports.{listed, listedAt}
 use Rattle.floor.specs.Demand3.{Call, book, anywhere, stop, repair, round, keep, forget, recall, list, outcome, reportedIn, roundsIn}
 use Rattle.floor.proofs.Pack.{well-sound}
-use Rattle.floor.proofs.Fields.{went}
+use Rattle.floor.proofs.Fields.{deliveredTo}
 use Rattle.floor.proofs.Deliveries.{delivered-few}
 use Rattle.floor.proofs.Lists.{report-at, round-report, listed-all}
 use Rattle.floor.proofs.Theorem.{demand3}
@@ -60,7 +60,7 @@ round-counts f k = go (by-test (wellFormed f))
     go : (wellFormed f ≡ true) ⊎ (wellFormed f ≡ false) → Counts (getD (roundAnswer f .report .deliveries) k noDelivery)
     go (inl w) =
         let S = well-sound f w in
-        subst Counts (sym (ap (λ (r : Report). getD (r .deliveries) k noDelivery) (round-report f w) ∙ report-at (view f) S k)) (some-counts (went (view f) k) (delivered-few (view f) S k))
+        subst Counts (sym (ap (λ (r : Report). getD (r .deliveries) k noDelivery) (round-report f w) ∙ report-at (view f) S k)) (some-counts (deliveredTo (view f) k) (delivered-few (view f) S k))
     go (inr w) = subst (λ (r : Report). Counts (getD (r .deliveries) k noDelivery)) (sym (refused-report f w)) (zero-counts k)
 
 -- ---- the counts of a list of calls: at most four each, one for each round, and together as many as the numbers reported
@@ -86,7 +86,7 @@ adds (round ∷ cs) f k =
 -- none of them is refused
 all-counted : (l : List ℕ) → All (λ n. n ≤ 4) l → counted l ≡ l
 unfolding counted
-all-counted l h = keep-all (λ n. leb n 4) l (all-imp (λ n. n ≤ 4) (λ n. leb n 4 ≡ true) l (λ n. le-leb n 4) h)
+all-counted l h = filter-all (λ n. leb n 4) l (all-imp (λ n. n ≤ 4) (λ n. leb n 4 ≡ true) l (λ n. le-leb n 4) h)
 
 pub joined : Joined
 joined f w cs t k =
@@ -102,6 +102,6 @@ joined f w cs t k =
       rounds = a .1;
       few = a .0;
       after = p .after ∙ ap (λ (m : List ℕ). recordAfter (windows m) (openRounds m) (openDeliveries m)) e;
-      told = p .told ∙ ap (λ (m : List ℕ). map rateOf (windows m)) e;
+      closed-rates = p .closed-rates ∙ ap (λ (m : List ℕ). map rateOf (windows m)) e;
       rose = ap (λ (g : Floor). getD (g .counters .delivered) k 0) (sym (d .is-now)) ∙ d .delivered k ∙ ap (λ (n : ℕ). getD (f .counters .delivered) k 0 + n) (sym total);
     }

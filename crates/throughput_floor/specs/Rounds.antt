@@ -10,9 +10,9 @@ use Rattle.floor.specs.declared.Floor.{Floor}
 use Rattle.floor.specs.declared.Report.{Report}
 use Rattle.floor.specs.Well.{wellFormed}
 use Rattle.floor.specs.Calls.{noDelivery, roundAnswer}
-use Rattle.floor.specs.Demand3.{Call, book, anywhere, stop, repair, round, keep, forget, recall, list, Typed, outcome, floorAfter, roundsIn}
+use Rattle.floor.specs.Demand3.{Call, book, anywhere, stop, repair, round, keep, forget, recall, list, InRange, outcome, floorAfter, roundsIn}
 use Rattle.throughput.specs.Rate.{rateOf}
-use Rattle.throughput.specs.Lists.{zeroThroughput, feedAll, ratesTold, windows, openRounds, openDeliveries, recordAfter}
+use Rattle.throughput.specs.Lists.{zeroThroughput, feedAll, closedRates, windows, openRounds, openDeliveries, recordAfter}
 
 -- a report's delivered count for hopper k, the hoppers in tile order from 0 on
 abbrev pub countAt : Report → ℕ → ℕ
@@ -42,9 +42,9 @@ pub record Follows (f : Floor) (cs : List Call) (k : ℕ) : Type 0 where
   pub rounds : length counts ≡ roundsIn cs
   pub few : All (λ n. n ≤ 4) counts
   pub after : feedAll zeroThroughput counts ≡ recordAfter (windows counts) (openRounds counts) (openDeliveries counts)
-  pub told : ratesTold zeroThroughput counts ≡ map rateOf (windows counts)
+  pub closed-rates : closedRates zeroThroughput counts ≡ map rateOf (windows counts)
   -- the closed windows and the open one have what the hopper's delivered counter rose by
   pub rose : getD (floorAfter f cs .counters .delivered) k 0 ≡ getD (f .counters .delivered) k 0 + (sum (windows counts) + openDeliveries counts)
 
 abbrev pub Joined : Type 0
-Joined = (f : Floor) → wellFormed f ≡ true → (cs : List Call) → All Typed cs → (k : ℕ) → Follows f cs k
+Joined = (f : Floor) → wellFormed f ≡ true → (cs : List Call) → All InRange cs → (k : ℕ) → Follows f cs k

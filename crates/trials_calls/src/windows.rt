@@ -1,17 +1,17 @@
 // Throughput ([2]): windows of 256 rounds, through the compiled calls.
 use floor::Floor;
+use throughput::FedValues;
 use throughput::Throughput;
-use throughput::Told;
 use trials_tally::Tally;
 use trials_tally::floors;
 use trials_tally::trial;
 
 // What the last of n feeds of this count tells; n is at least 1.
-fn fed(t: Throughput, count: u32, n: u16) -> Told {
-    let mut told = throughput::feed_told(t, count);
+fn fed(t: Throughput, count: u32, n: u16) -> FedValues {
+    let mut told = throughput::feed_values(t, count);
     let mut k: u16 = 1;
     while k < n {
-        told = throughput::feed_told(told.throughput, count);
+        told = throughput::feed_values(told.throughput, count);
         k += 1;
     }
     told
@@ -30,7 +30,7 @@ fn of(rate: f64) -> u64 {
 fn first(t: Tally) -> Tally {
     let none = throughput::empty();
     let open = fed(none, 1, 255);
-    let closed = throughput::feed_told(open.throughput, 1);
+    let closed = throughput::feed_values(open.throughput, 1);
     let r = closed.throughput;
     let next = trial(
         t,
@@ -64,7 +64,7 @@ fn first(t: Tally) -> Tally {
 
 // The refusal of a count for a record, and 1 where the open window came back.
 fn refusal(t: Throughput, count: u32) -> u64 {
-    let told = throughput::feed_told(t, count);
+    let told = throughput::feed_values(t, count);
     let r = told.throughput;
     let same = (r.rounds == t.rounds) & (r.deliveries == t.deliveries) & (r.closed == t.closed);
     if same {
@@ -130,7 +130,7 @@ fn next_round(f: Following) -> Following {
     let answer = calls::round(floor);
     let report = answer.report;
     let taken = report.deliveries[0];
-    let told = throughput::feed_told(f.throughput, taken.count as u32);
+    let told = throughput::feed_values(f.throughput, taken.count as u32);
     let next = answer.floor;
     let after = told.throughput;
     Following {

@@ -1,7 +1,7 @@
 use mathlib.Core.Path.{sym, _∙_}
 use Rattle.barge.proofs.Sized.{floors-length}
 use Rattle.barge_parts.proofs.Joint.{On, begun-on}
-use Rattle.barge_calls.proofs.Presses.{repair-begins, repair-refused, repair-accepted}
+use Rattle.barge_calls.proofs.RunningChanges.{repair-begins, repair-refused, repair-accepted}
 use borrow.Author.Needs.{needs}
 use Rattle.barge_calls.proofs.repair.Statement.{statement}
 use Rattle.barge_calls.proofs.repair.Tie as tie

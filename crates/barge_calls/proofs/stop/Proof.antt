@@ -1,7 +1,7 @@
 use mathlib.Core.Path.{sym, _∙_}
 use Rattle.barge.proofs.Sized.{floors-length}
 use Rattle.barge_parts.proofs.Joint.{On, begun-on}
-use Rattle.barge_calls.proofs.Presses.{stop-begins, stop-refused, stop-accepted}
+use Rattle.barge_calls.proofs.RunningChanges.{stop-begins, stop-refused, stop-accepted}
 use borrow.Author.Needs.{needs}
 use Rattle.barge_calls.proofs.stop.Statement.{statement}
 use Rattle.barge_calls.proofs.stop.Tie as tie

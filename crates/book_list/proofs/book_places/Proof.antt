@@ -35,7 +35,7 @@ loop-holds c =
       list-length = search needs;
       answered = refl;
       floored = refl;
-      known = λ h. ap (λ (b : Begun). b .well) e ∙ begun-well g.floor g.n 0 (subst (λ (b : Begun). 0 < b .entries) e h);
+      well-is = λ h. ap (λ (b : Begun). b .well) e ∙ begun-well g.floor g.n 0 (subst (λ (b : Begun). 0 < b .entries) e h);
     }
 
 mul-b : tie.Need-mul-b Inv-loop μ-loop
@@ -45,7 +45,7 @@ array-copy-out-b : tie.Need-array-copy-out-b Inv-loop μ-loop
 array-copy-out-b c = omega arith
 
 book-entry-requires : tie.Need-book-entry-requires Inv-loop μ-loop
-book-entry-requires c κs = c .before .before .loop .inv .known (omega arith)
+book-entry-requires c κs = c .before .before .loop .inv .well-is (omega arith)
 
 mul-places : tie.Need-mul-places Inv-loop μ-loop
 mul-places c = search needs
@@ -74,7 +74,7 @@ loop-again c =
       list-length = l .inv .list-length;
       answered = (λ j. set (l .inv .answered j) (l .i) (answered (y (l .inv .answered j)) (e j .refusal))) ∙ list-step (l .i) g.floor g.list zeroBooking small ∙ ap (λ (k : ℕ). listUpto k g.floor g.list) (sym (add-one (l .i)));
       floored = ap (λ (a : Answer). a .floor) e ∙ floor-step (l .i) g.floor g.list zeroBooking small ∙ ap (λ (k : ℕ). floorUpto k g.floor g.list) (sym (add-one (l .i)));
-      known = λ h. l .inv .known (omega arith) ∙ sym (r .ensures .1);
+      well-is = λ h. l .inv .well-is (omega arith) ∙ sym (r .ensures .1);
     }
 
 answer-of-requires : tie.Need-answer-of-requires Inv-loop μ-loop

@@ -2,7 +2,7 @@ use mathlib.Core.Path.{_≡_, refl, sym, subst}
 use Prim.Native.Nat.{ℕ, _+_, _-_, _*_, _/_, _<_}
 use native.Mathlib.Omega.{arith}
 use lib.ListN.{length, length-set}
-use Rattle.check_numbers.proofs.Chain.{at, Unlike, Unseen, Linked, Following, heads-none, prev-below, run-empty, unseen-start, unseen-step, heads-zero, prevs-zero, unlike-zero, heads-step, prevs-step, unlike-step, told-unlike, told-equal}
+use Rattle.check_numbers.proofs.Chain.{at, Unlike, Unseen, Linked, Following, heads-none, prev-below, run-empty, unseen-start, unseen-step, heads-zero, prevs-zero, unlike-zero, heads-step, prevs-step, unlike-step, verdict-unlike, verdict-equal}
 use borrow.Author.Needs.{needs}
 use Rattle.check_numbers.proofs.chained.Statement.{statement}
 use Rattle.check_numbers.proofs.chained.Tie as tie
@@ -68,7 +68,7 @@ returns : tie.Need-returns Inv-loop2 μ-loop2 Inv-loop μ-loop
 returns c =
     let z = c .before .before in
     let o = outer z in
-    (λ _. told-equal (o .before .args .t1) (z .loop2 .p - 1) (o .loop .i) (omega arith) (omega arith) (c .if2 .taken) (taken z), λ e. absurd (omega (arith, e)))
+    (λ _. verdict-equal (o .before .args .t1) (z .loop2 .p - 1) (o .loop .i) (omega arith) (omega arith) (c .if2 .taken) (taken z), λ e. absurd (omega (arith, e)))
 
 returns-2 : tie.Need-returns-2 Inv-loop2 μ-loop2 Inv-loop μ-loop
 returns-2 c = (λ e. absurd (omega (arith, e)), λ e. absurd (omega (arith, e)))
@@ -120,7 +120,7 @@ returns-3 c =
     let l = c .before .loop in
     let g = c .before .before .args in
     let e : l .i ≡ length g.t1 = omega arith in
-    (λ e. absurd (omega (arith, e)), λ _. told-unlike g.t1 (subst (λ (x : ℕ). Unlike g.t1 x) e (l .inv .unlike)))
+    (λ e. absurd (omega (arith, e)), λ _. verdict-unlike g.t1 (subst (λ (x : ℕ). Unlike g.t1 x) e (l .inv .unlike)))
 
 pub chained-spec : {M : Type 1} → statement M
 chained-spec =

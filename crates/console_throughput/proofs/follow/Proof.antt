@@ -5,19 +5,19 @@ use Rattle.console_throughput.proofs.follow.Tie as tie
 use Rattle.console_throughput.proofs.follow.Reads as reads
 use Rattle.console_throughput.proofs.follow.Lts as lts
 use Rattle.console_throughput.proofs.fed.Reads as fed-reads
-use Rattle.throughput.proofs.feed_told.Reads as feed-told-reads
+use Rattle.throughput.proofs.feed_values.Reads as feed-values-reads
 
 array-copy-out-taken : tie.Need-array-copy-out-taken
 array-copy-out-taken c = search needs
 
-array-copy-out-feed-told : tie.Need-array-copy-out-feed-told
-array-copy-out-feed-told c = search needs
+array-copy-out-feed-values : tie.Need-array-copy-out-feed-values
+array-copy-out-feed-values c = search needs
 
-cast-feed-told : tie.Need-cast-feed-told
-cast-feed-told c = search needs
+cast-feed-values : tie.Need-cast-feed-values
+cast-feed-values c = search needs
 
-feed-told-requires : tie.Need-feed-told-requires
-feed-told-requires c κs = search needs
+feed-values-requires : tie.Need-feed-values-requires
+feed-values-requires c κs = search needs
 
 array-copy-out-fed : tie.Need-array-copy-out-fed
 array-copy-out-fed c = search needs
@@ -47,16 +47,16 @@ fed-requires-3 : tie.Need-fed-requires-3
 fed-requires-3 c κs = search needs
 
 returns : tie.Need-returns
-returns c = rw (c .before .before .before .before .before .before .before .before .before .before .before .feed-told .ensures, c .before .before .before .before .before .before .before .fed .ensures, c .before .before .before .before .fed2 .ensures, c .before .fed3 .ensures) (fed-four (c .before .before .before .before .before .before .before .before .before .before .before .before .before .before .before .args .t1) (c .before .before .before .before .before .before .before .before .before .before .before .before .before .before .before .args .t2) (c .before .before .before .before .before .before .before .before .before .before .before .before .before .before .before .good .0 .1 .0 .1) (c .before .before .before .before .before .before .before .before .before .before .before .before .before .before .before .good .1 .0 .1 .0 .1))
+returns c = rw (c .before .before .before .before .before .before .before .before .before .before .before .feed-values .ensures, c .before .before .before .before .before .before .before .fed .ensures, c .before .before .before .before .fed2 .ensures, c .before .fed3 .ensures) (fed-four (c .before .before .before .before .before .before .before .before .before .before .before .before .before .before .before .args .t1) (c .before .before .before .before .before .before .before .before .before .before .before .before .before .before .before .args .t2) (c .before .before .before .before .before .before .before .before .before .before .before .before .before .before .before .good .0 .1 .0 .1) (c .before .before .before .before .before .before .before .before .before .before .before .before .before .before .before .good .1 .0 .1 .0 .1))
 
 pub follow-spec : {M : Type 1} → statement M
 follow-spec =
     tie.close
     (tie.spec
     array-copy-out-taken
-    array-copy-out-feed-told
-    cast-feed-told
-    feed-told-requires
+    array-copy-out-feed-values
+    cast-feed-values
+    feed-values-requires
     array-copy-out-fed
     array-copy-out-fed-2
     fed-requires

@@ -20,8 +20,8 @@ made k = record { refusal = 0; length = k }
 abbrev start : tie.After-image-length → tie.Start
 start c = let W = c .before .before in W .before .before
 
-known : (c : tie.After-image-length) → let f = start c .args .floor in (wellFormed f ≡ true) × (c .image-length .result ≡ length (encode (view f)))
-known c = (sym (c .before .before .well-formed .ensures) ∙ not-false _ (c .before .if1 .left), c .image-length .ensures)
+length-facts : (c : tie.After-image-length) → let f = start c .args .floor in (wellFormed f ≡ true) × (c .image-length .result ≡ length (encode (view f)))
+length-facts c = (sym (c .before .before .well-formed .ensures) ∙ not-false _ (c .before .if1 .left), c .image-length .ensures)
 
 returns : tie.Need-returns
 returns c = write-malformed (c .before .before .before .args .floor) (c .before .before .before .args .buffer .now) (sym (c .before .well-formed .ensures) ∙ not-true _ (c .if1 .taken))
@@ -32,11 +32,11 @@ image-length-requires c κs = sym (c .before .well-formed .ensures) ∙ not-fals
 returns-2 : tie.Need-returns-2
 returns-2 c =
     let g = start (c .before) .args in
-    let k = known (c .before) in
+    let k = length-facts (c .before) in
     write-short g.floor (g.buffer .now) (k .0) (omega (arith, k .1, c .if2 .taken))
 
 write-image-requires : tie.Need-write-image-requires
-write-image-requires c κs = let k = known (c .before .before) in (k .0, omega (arith, k .1, c .before .if2 .left))
+write-image-requires c κs = let k = length-facts (c .before .before) in (k .0, omega (arith, k .1, c .before .if2 .left))
 
 returns-3 : tie.Need-returns-3
 unfolding made
@@ -44,7 +44,7 @@ returns-3 c =
     let P = c .before .before in
     let E = P .before .before in
     let g = start (E .before) .args in
-    let k = known (E .before) in
+    let k = length-facts (E .before) in
     let p = write-whole g.floor (g.buffer .now) (k .0) (omega (arith, k .1, E .if2 .left)) in
     (ap (λ (k : ℕ). made k) (k .1) ∙ p .0, P .write-image .ensures ∙ p .1)
 

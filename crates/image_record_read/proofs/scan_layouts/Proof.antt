@@ -20,7 +20,7 @@ loop-holds c = let g = c .before .args in record {
   below = omega arith;
   reached = omega arith;
   passed = passed-none (g.s .now) g.from (omega arith);
-  laid = filled-none 8 (layoutAt (g.s .now) g.from) zeroLayout;
+  layouts-filled = filled-none 8 (layoutAt (g.s .now) g.from) zeroLayout;
 }
 
 is-layout-requires : tie.Need-is-layout-requires Inv-loop μ-loop
@@ -59,7 +59,7 @@ returns-3 : tie.Need-returns-3 Inv-loop μ-loop
 returns-3 c =
     let l = c .before .loop in
     let g = c .before .before .before .args in
-    let r = passed-all (g.s .now) g.from (l .n) (l .inv .passed) (l .layouts) (l .inv .laid) (omega arith) in
+    let r = passed-all (g.s .now) g.from (l .n) (l .inv .passed) (l .layouts) (l .inv .layouts-filled) (omega arith) in
     (sym (r .0), λ z. r .1)
 
 pub scan-layouts-spec : {M : Type 1} → statement M

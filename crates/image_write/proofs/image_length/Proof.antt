@@ -10,22 +10,22 @@ use Rattle.image_write.proofs.image_length.Statement.{statement}
 use Rattle.image_write.proofs.image_length.Tie as tie
 
 abbrev Inv-loop : tie.InvT-loop
-Inv-loop tiles c h first laid n₀ t₀ n t = TilesMeasured tiles c h first laid n t
+Inv-loop tiles c h first filled n₀ t₀ n t = TilesMeasured tiles c h first filled n t
 
 abbrev μ-loop : tie.MeasureT-loop
-μ-loop tiles c h first laid n₀ t₀ n t = c - t
+μ-loop tiles c h first filled n₀ t₀ n t = c - t
 
 -- after the last of the calls
-abbrev sized : tie.After-laid-out Inv-loop μ-loop → tie.After-size Inv-loop μ-loop
+abbrev sized : tie.After-layout-count Inv-loop μ-loop → tie.After-size Inv-loop μ-loop
 sized c = c .before .before .before
 
-abbrev floor : tie.After-laid-out Inv-loop μ-loop → Floor
+abbrev floor : tie.After-layout-count Inv-loop μ-loop → Floor
 floor c = let C = sized c .before in C .before .before .before .args .f
 
-parts : (c : tie.After-laid-out Inv-loop μ-loop) → Parts (floor c) (sized c .before .tile-count .result) (sized c .size .result) (c .before .before .first-length .result) (c .laid-out .result)
+parts : (c : tie.After-layout-count Inv-loop μ-loop) → Parts (floor c) (sized c .before .tile-count .result) (sized c .size .result) (c .before .before .first-length .result) (c .layout-count .result)
 parts c =
     let C = sized c .before in
-    parts-of (floor c) _ _ _ _ (C .before .before .before .pre) (C .tile-count .ensures) (sized c .size .ensures) (c .before .before .first-length .ensures) (c .laid-out .ensures)
+    parts-of (floor c) _ _ _ _ (C .before .before .before .pre) (C .tile-count .ensures) (sized c .size .ensures) (c .before .before .first-length .ensures) (c .layout-count .ensures)
 
 cast-n : tie.Need-cast-n Inv-loop μ-loop
 cast-n c = let b = parts c in record { fits = omega arith }

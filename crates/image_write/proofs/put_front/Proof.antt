@@ -8,7 +8,7 @@ use Rattle.image_write.proofs.put_front.Tie as tie
 abbrev one : tie.After-put-counters-arg → tie.After-put-settings
 one c = c .before .before .before
 
-abbrev two : tie.After-laid-out → tie.After-put-counters
+abbrev two : tie.After-layout-count → tie.After-put-counters
 two c = c .before .before .before
 
 room : (c : tie.After-first-length) → let g = c .before .before .args in FrontRoom g.x g.y g.all g.h (c .first-length .result) (g.s .now)
@@ -34,16 +34,16 @@ put-layouts-requires c κs =
     let A = c .before in
     let C = two A in
     let r = third (C .before) in
-    (A .laid-out .ensures .1, omega (arith, A .laid-out .ensures .0, one (C .before) .put-settings .kept .0, C .put-counters .kept .0))
+    (A .layout-count .ensures .1, omega (arith, A .layout-count .ensures .0, one (C .before) .put-settings .kept .0, C .put-counters .kept .0))
 
 mul-result : tie.Need-mul-result
-mul-result c = let A = c .before .before .before in omega (arith, A .before .laid-out .ensures .1)
+mul-result c = let A = c .before .before .before in omega (arith, A .before .layout-count .ensures .1)
 
 add-result : tie.Need-add-result
 add-result c =
     let A = c .before .before .before in
     let r = third (two (A .before) .before) in
-    omega (arith, A .before .laid-out .ensures .0)
+    omega (arith, A .before .layout-count .ensures .0)
 
 returns : tie.Need-returns
 returns c =
@@ -51,7 +51,7 @@ returns c =
     let A = L .before .before in
     let C = two A in
     let r = third (C .before) in
-    let n = A .laid-out .ensures .0 in
+    let n = A .layout-count .ensures .0 in
     (omega (arith, n), front-put r _ _ _ _ _ n (omega arith) (one (C .before) .put-settings .ensures) (C .put-counters .ensures) (L .put-layouts .ensures))
 
 pub put-front-spec : {M : Type 1} → statement M

@@ -3,8 +3,8 @@ use borrow.Author.Needs.{needs}
 use Rattle.layout_calls.proofs.forget.Statement.{statement}
 use Rattle.layout_calls.proofs.forget.Tie as tie
 
-held-refusal-requires : tie.Need-held-refusal-requires
-held-refusal-requires c κs = search (layouts-fit, needs)
+name-held-refusal-requires : tie.Need-name-held-refusal-requires
+name-held-refusal-requires c κs = search (layouts-fit, needs)
 
 returns : tie.Need-returns
 returns c = search (forget-accepted, needs)
@@ -21,7 +21,7 @@ forget-spec =
     (tie.spec
     (λ c κs. search needs)  -- well-formed-requires
     (λ c κs. search needs)  -- name-number-requires
-    held-refusal-requires
+    name-held-refusal-requires
     (λ c κs. search needs)  -- forget-in-requires
     returns
     returns-2

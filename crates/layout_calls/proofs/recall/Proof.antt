@@ -3,8 +3,8 @@ use borrow.Author.Needs.{needs}
 use Rattle.layout_calls.proofs.recall.Statement.{statement}
 use Rattle.layout_calls.proofs.recall.Tie as tie
 
-held-refusal-requires : tie.Need-held-refusal-requires
-held-refusal-requires c κs = search (layouts-fit, needs)
+name-held-refusal-requires : tie.Need-name-held-refusal-requires
+name-held-refusal-requires c κs = search (layouts-fit, needs)
 
 recall-tiles-requires : tie.Need-recall-tiles-requires
 recall-tiles-requires c κs = search (tiles-few, needs)
@@ -24,7 +24,7 @@ recall-spec =
     (tie.spec
     (λ c κs. search needs)  -- well-formed-requires
     (λ c κs. search needs)  -- name-number-requires
-    held-refusal-requires
+    name-held-refusal-requires
     (λ c κs. search needs)  -- set-under-requires
     recall-tiles-requires
     returns

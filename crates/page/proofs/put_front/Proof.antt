@@ -3,7 +3,7 @@ use Prim.Native.Nat.{_-_}
 use native.Mathlib.Omega.{arith}
 use lib.ListN.{length-set}
 use Rattle.image_bytes.proofs.PutLaws.{put-none}
-use Rattle.page.proofs.Told.{front-turn}
+use Rattle.page.proofs.PrintedText.{front-turn}
 use Rattle.page.proofs.Loops.{BytesPut}
 use borrow.Author.Needs.{needs}
 use Rattle.page.proofs.put_front.Statement.{statement}

@@ -1,5 +1,5 @@
 use native.Mathlib.Omega.{arith}
-use Rattle.page.proofs.Told.{one-digit, two-digits}
+use Rattle.page.proofs.PrintedText.{one-digit, two-digits}
 use borrow.Author.Needs.{needs}
 use Rattle.page.proofs.refused.Statement.{statement}
 use Rattle.page.proofs.refused.Tie as tie

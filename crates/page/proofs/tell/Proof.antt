@@ -2,7 +2,7 @@ use mathlib.Core.Path.{_≡_, sym, _∙_}
 use native.Mathlib.Omega.{arith}
 use lib.ListN.{length, length-map}
 use denote.Struct.Field.{u8-field}
-use Rattle.page.proofs.Told.{tell-refused, tell-page}
+use Rattle.page.proofs.PrintedText.{tell-refused, tell-page}
 use borrow.Author.Needs.{needs}
 use Rattle.page.proofs.tell.Statement.{statement}
 use Rattle.page.proofs.tell.Tie as tie

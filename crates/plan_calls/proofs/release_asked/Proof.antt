@@ -1,4 +1,4 @@
-use Rattle.plan_calls.proofs.Answers.{few-sound, release-unsound, release-malformed, release-unknown, release-misfit, release-early, release-ready, ready-tile}
+use Rattle.plan_calls.proofs.Answers.{few-sound, release-unsound, release-malformed, release-out-of-range, release-misfit, release-early, release-ready, ready-tile}
 use borrow.Author.Needs.{needs}
 use Rattle.plan_calls.proofs.release_asked.Statement.{statement}
 use Rattle.plan_calls.proofs.release_asked.Tie as tie
@@ -13,7 +13,7 @@ booked-numbers-requires : tie.Need-booked-numbers-requires
 booked-numbers-requires c κs = search (few-sound, needs)
 
 returns-3 : tie.Need-returns-3
-returns-3 c = search (release-unknown, needs) fits 200
+returns-3 c = search (release-out-of-range, needs) fits 200
 
 fits-requires : tie.Need-fits-requires
 fits-requires c κs = search (few-sound, needs)

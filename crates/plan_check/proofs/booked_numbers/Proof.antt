@@ -4,7 +4,7 @@ use lib.ListN.{take, replicate, length-set, length-replicate}
 use Rattle.laws.proofs.Tables.{ended}
 use Rattle.plan.specs.Entries.{bookedNumbers}
 use Rattle.plan_check.proofs.Sized.{entries-length}
-use Rattle.plan_check.proofs.Tables.{held-none, held-turn}
+use Rattle.plan_check.proofs.Tables.{booked-number-none, booked-number-turn}
 use Rattle.plan_check.proofs.Loops.{Gathered}
 use borrow.Author.Needs.{needs}
 use Rattle.plan_check.proofs.booked_numbers.Statement.{statement}
@@ -24,13 +24,13 @@ loop-holds c =
       entries-length = entries-length (c .args .t1) _ (c .good .0);
       items-length = length-replicate 64 zero;
       no-more = omega arith;
-      gathered = held-none (c .args .t1 .entries) (replicate 64 zero);
+      gathered = booked-number-none (c .args .t1 .entries) (replicate 64 zero);
     }
 
 loop-again : tie.Need-loop-again Inv-loop μ-loop
 loop-again c =
     let l = c .before .before .before .loop in
-    let t = held-turn _ (l .k) (l .m) (c .counted .result) (l .items) (omega arith) (omega arith) (c .counted .ensures) (l .inv .gathered) in
+    let t = booked-number-turn _ (l .k) (l .m) (c .counted .result) (l .items) (omega arith) (omega arith) (c .counted .ensures) (l .inv .gathered) in
     record {
       below = omega arith;
       few = l .inv .few;

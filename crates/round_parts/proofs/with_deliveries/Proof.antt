@@ -16,7 +16,7 @@ returns c =
     (λ (x : Counters). record {
       refusal = 0;
       floor = refilled f x (f .tiles) (f .canisters);
-      report = record { grants = a .grants; reasons = a .reasons; missing = a .missing; deliveries = a .came .deliveries };
+      report = record { grants = a .grants; reasons = a .reasons; missing = a .missing; deliveries = a .intake .deliveries };
     })
     (c .raise .ensures)
 

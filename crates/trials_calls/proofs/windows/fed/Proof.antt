@@ -4,7 +4,7 @@ use Rattle.trials_calls.proofs.windows.fed.Statement.{statement}
 use Rattle.trials_calls.proofs.windows.fed.Tie as tie
 use Rattle.trials_calls.proofs.windows.fed.Reads as reads
 use Rattle.trials_calls.proofs.windows.fed.Lts as lts
-use Rattle.throughput.proofs.feed_told.Reads as feed-told-reads
+use Rattle.throughput.proofs.feed_values.Reads as feed-values-reads
 
 abbrev Inv-loop : tie.InvT-loop
 Inv-loop count n told₀ k₀ told k = Unit {0}
@@ -12,14 +12,14 @@ Inv-loop count n told₀ k₀ told k = Unit {0}
 abbrev μ-loop : tie.MeasureT-loop
 μ-loop count n told₀ k₀ told k = n - k
 
-feed-told-requires : tie.Need-feed-told-requires Inv-loop μ-loop
-feed-told-requires c κs = search needs
+feed-values-requires : tie.Need-feed-values-requires Inv-loop μ-loop
+feed-values-requires c κs = search needs
 
 loop-holds : tie.Need-loop-holds Inv-loop μ-loop
 loop-holds c = search needs
 
-feed-told-requires-2 : tie.Need-feed-told-requires-2 Inv-loop μ-loop
-feed-told-requires-2 c κs = search needs
+feed-values-requires-2 : tie.Need-feed-values-requires-2 Inv-loop μ-loop
+feed-values-requires-2 c κs = search needs
 
 add-k : tie.Need-add-k Inv-loop μ-loop
 add-k c = search needs
@@ -39,9 +39,9 @@ fed-spec =
     (tie.spec
     Inv-loop
     μ-loop
-    feed-told-requires
+    feed-values-requires
     loop-holds
-    feed-told-requires-2
+    feed-values-requires-2
     add-k
     loop-less
     loop-again

@@ -19,16 +19,16 @@ use Rattle.floor.specs.Layouts.{layoutsSound, setOf}
 use Rattle.floor.specs.Model.{Model, tileOf, withTile, numbersOn}
 use Rattle.floor.specs.Memory.{zeroTile, zeroCanister, stateOf, usedLayouts, view, head, pack, stateFits, layoutsFit, relaid}
 use Rattle.floor.specs.Well.{stateSound, stateWell, layoutsWell, wellFormed}
-use Rattle.floor.specs.Calls.{refusalOf, answer, bookTests, booked, bookAnswer, stopTests, stopped, stopAnswer, repairTests, repaired, repairAnswer, keepTests, keptUnder, keepAnswer, heldTests, forgotten, forgetAnswer, recalled, recallAnswer, afterRound, reportOf, roundAnswer, readTests, readAnswer}
+use Rattle.floor.specs.Calls.{refusalOf, answer, bookTests, booked, bookAnswer, stopTests, stopped, stopAnswer, repairTests, repaired, repairAnswer, keepTests, keptUnder, keepAnswer, nameHeldTests, forgotten, forgetAnswer, recalled, recallAnswer, afterRound, reportOf, roundAnswer, readTests, readAnswer}
 use Rattle.floor.specs.Anywhere.{anywhereTests, placedAt, anywhereAnswer}
 use Rattle.floor.specs.Bookings.{answered, single, floorSingly, entriesSingly, tooLong, listAnswer, listAfter}
-use Rattle.floor.specs.Demand3.{Call, book, anywhere, stop, repair, round, keep, forget, recall, list, Typed, outcome}
-use Rattle.floor.specs.Together.{placeTo, listTo}
+use Rattle.floor.specs.Demand3.{Call, book, anywhere, stop, repair, round, keep, forget, recall, list, InRange, outcome}
+use Rattle.floor.specs.CommutingCalls.{placeTo, listTo}
 use Rattle.floor.proofs.Sound.{Sound}
 use Rattle.floor.proofs.Pack.{well-sound, well-parts}
 use Rattle.floor.proofs.Capacity.{view-packed}
 use Rattle.floor.proofs.Calls.{Accepted, book-keeps, anywhere-keeps, stop-keeps, repair-keeps}
-use Rattle.floor.proofs.Laying.{keep-keeps, forget-keeps}
+use Rattle.floor.proofs.SoundLayouts.{keep-keeps, forget-keeps}
 use Rattle.floor.proofs.Stages.{recall-keeps}
 use Rattle.floor.proofs.Lists.{list-refused, list-made, passed, round-accepted, round-report, view-round, call-keeps}
 
@@ -57,8 +57,8 @@ testsOf m (stop t) = stopTests m t
 testsOf m (repair t) = repairTests m t
 testsOf m round = []
 testsOf m (keep name) = keepTests (m .layouts) name
-testsOf m (forget name) = heldTests (m .layouts) name
-testsOf m (recall name) = heldTests (m .layouts) name
+testsOf m (forget name) = nameHeldTests (m .layouts) name
+testsOf m (recall name) = nameHeldTests (m .layouts) name
 testsOf m (list l) = (tooLong (length l), 42) ∷ []
 
 unfoldable pub changed : Model → Call → Model
@@ -134,8 +134,8 @@ module _ (f : Floor) (w : wellFormed f ≡ true) where
   refusal-here (repair t) = plain (repairTests (view f) t)
   refusal-here round = plain []
   refusal-here (keep name) = plain (keepTests (view f .layouts) name)
-  refusal-here (forget name) = plain (heldTests (view f .layouts) name)
-  refusal-here (recall name) = plain (heldTests (view f .layouts) name)
+  refusal-here (forget name) = plain (nameHeldTests (view f .layouts) name)
+  refusal-here (recall name) = plain (nameHeldTests (view f .layouts) name)
   refusal-here (list l) = refl
 
   value-booked : (t : ℕ) (c : Canister) → c .number < 2 ^ 32 → view (bookAnswer f t c .floor) ≡ cond (eqb (refusal (bookTests (view f) t c)) 0) (booked (view f) t c) (view f)
@@ -151,14 +151,14 @@ step-singly : (f : Floor) → wellFormed f ≡ true → (b : Booking) → b .can
 unfolding outcome valueBooked
 step-singly f w b h = (call-keeps f w (book (b .tile) (b .canister)) h .0, value-booked f w (b .tile) (b .canister) h)
 
-value-singly : (f : Floor) → wellFormed f ≡ true → (l : List Booking) → Typed (list l) → view (floorSingly f l) ≡ valueSingly (view f) l
+value-singly : (f : Floor) → wellFormed f ≡ true → (l : List Booking) → InRange (list l) → view (floorSingly f l) ≡ valueSingly (view f) l
 unfolding floorSingly valueSingly
 value-singly f w [] h = refl
 value-singly f w (b ∷ l) h =
     let n = step-singly f w b (h .0) in
     value-singly (single f b .floor) (n .0) l (h .1) ∙ ap (λ (m : Model). valueSingly m l) (n .1)
 
-entries-singly : (f : Floor) → wellFormed f ≡ true → (l : List Booking) → Typed (list l) → entriesSingly f l ≡ answersSingly (view f) l
+entries-singly : (f : Floor) → wellFormed f ≡ true → (l : List Booking) → InRange (list l) → entriesSingly f l ≡ answersSingly (view f) l
 unfolding entriesSingly answersSingly
 entries-singly f w [] h = refl
 entries-singly f w (b ∷ l) h =
@@ -166,7 +166,7 @@ entries-singly f w (b ∷ l) h =
     (λ i. answered b (refusal-booked f w (b .tile) (b .canister) i) ∷ entries-singly (single f b .floor) (n .0) l (h .1) i) ∙ ap (λ (m : Model). answered b (refusal (bookTests (view f) (b .tile) (b .canister))) ∷ answersSingly m l) (n .1)
 
 module _ (f : Floor) (w : wellFormed f ≡ true) where
-  value-list : (l : List Booking) → Typed (list l) → view (outcome f (list l) .floor) ≡ valueBy (view f) (list l)
+  value-list : (l : List Booking) → InRange (list l) → view (outcome f (list l) .floor) ≡ valueBy (view f) (list l)
   unfolding valueBy refusalBy testsOf changed refusal
   value-list l h = go (by-test (tooLong (length l)))
     where
@@ -174,8 +174,8 @@ module _ (f : Floor) (w : wellFormed f ≡ true) where
       go (inl e) = rw (list-refused f l e .1, e)
       go (inr e) = rw (list-made f l e .1, e) (value-singly f w l h)
 
-  value-here : (c : Call) → Typed c → view (outcome f c .floor) ≡ valueBy (view f) c
-  unfolding outcome anywhereAnswer stopAnswer repairAnswer keepAnswer forgetAnswer recallAnswer answer anywhereTests stopTests repairTests keepTests heldTests valueBy refusalBy testsOf changed refusal
+  value-here : (c : Call) → InRange c → view (outcome f c .floor) ≡ valueBy (view f) c
+  unfolding outcome anywhereAnswer stopAnswer repairAnswer keepAnswer forgetAnswer recallAnswer answer anywhereTests stopTests repairTests keepTests nameHeldTests valueBy refusalBy testsOf changed refusal
   value-here (book t c) h = value-booked f w t c h
   value-here (anywhere t number) h =
       after f w (anywhereTests (view f) t number) (omega arith) (booked (view f) t (placedAt (view f) t number)) (λ T. anywhere-keeps (view f) (S f w) t number T h .well)
@@ -183,8 +183,8 @@ module _ (f : Floor) (w : wellFormed f ≡ true) where
   value-here (repair t) h = after f w (repairTests (view f) t) (omega arith) (withTile (view f) t (repaired (tileOf (view f) t))) (λ T. repair-keeps (view f) (S f w) t T .well)
   value-here round h = view-round f w round refl
   value-here (keep name) h = after f w (keepTests (view f .layouts) name) (omega arith) (keptUnder (view f) name) (λ T. keep-keeps (view f) (S f w) name T .well)
-  value-here (forget name) h = after f w (heldTests (view f .layouts) name) (omega arith) (forgotten (view f) name) (λ _. forget-keeps (view f) (S f w) name .well)
-  value-here (recall name) h = after f w (heldTests (view f .layouts) name) (omega arith) (recalled (view f) (setOf (view f .layouts) name)) (λ T. recall-keeps (view f) (S f w) name T .well)
+  value-here (forget name) h = after f w (nameHeldTests (view f .layouts) name) (omega arith) (forgotten (view f) name) (λ _. forget-keeps (view f) (S f w) name .well)
+  value-here (recall name) h = after f w (nameHeldTests (view f .layouts) name) (omega arith) (recalled (view f) (setOf (view f .layouts) name)) (λ T. recall-keeps (view f) (S f w) name T .well)
   value-here (list l) h = value-list l h
 
   read-here : (t : ℕ) → readAnswer f t ≡ readBy (view f) t
@@ -195,7 +195,7 @@ module _ (f : Floor) (m : Model) (s : Shows f m) where
   pub shows-refusal : (c : Call) → outcome f c .refusal ≡ refusalBy m c
   shows-refusal c = refusal-here f (s .well) c ∙ ap (λ (x : Model). refusalBy x c) (s .value)
 
-  pub shows-call : (c : Call) → Typed c → Shows (outcome f c .floor) (valueBy m c)
+  pub shows-call : (c : Call) → InRange c → Shows (outcome f c .floor) (valueBy m c)
   shows-call c h = record { well = call-keeps f (s .well) c h .0; value = value-here f (s .well) c h ∙ ap (λ (x : Model). valueBy x c) (s .value) }
 
   pub shows-read : (t : ℕ) → readAnswer f t ≡ readBy m t
@@ -228,10 +228,10 @@ module _ (f : Floor) (m : Model) (s : Shows f m) where
   pub shows-booking : (b : Booking) → single f b .refusal ≡ refusal (bookTests m (b .tile) (b .canister))
   shows-booking b = refusal-booked f (s .well) (b .tile) (b .canister) ∙ ap (λ (x : Model). refusal (bookTests x (b .tile) (b .canister))) (s .value)
 
-  pub shows-entries : (l : List Booking) → Typed (list l) → entriesSingly f l ≡ answersSingly m l
+  pub shows-entries : (l : List Booking) → InRange (list l) → entriesSingly f l ≡ answersSingly m l
   shows-entries l h = entries-singly f (s .well) l h ∙ ap (λ (x : Model). answersSingly x l) (s .value)
 
-  pub shows-list-after : (c : Call) → Typed c → listTo f c ≡ listBy m c
+  pub shows-list-after : (c : Call) → InRange c → listTo f c ≡ listBy m c
   unfolding listTo listBy listAfter
   shows-list-after (list l) h = ap (λ (k : List Booking). cond (tooLong (length l)) l k) (shows-entries l h)
   shows-list-after (book t c) h = refl

@@ -11,16 +11,16 @@ use lib.Dec.{leb, ltb, eqb}
 use lib.Bits.{bitOr, or-shifted-r}
 use lib.ListN.{length}
 use borrow.Author.Tests.{eqb-true, eqb-false, ne-eqb, leb-true, leb-false, le-leb, lt-ltb, le-ltb, ltb-true, ltb-false, not-false}
-use Rattle.laws.specs.Define.{allOf, anyOf, keep, bit, bitsBelow}
+use Rattle.laws.specs.Define.{allOf, anyOf, filter, bit, bitsBelow}
 use Rattle.laws.specs.Every.{All, Pairs}
 use Rattle.laws.proofs.Tests.{by-test, same-test, and-yes, and-no, and-left, and-right, and-true, r-pairs, r-lt, or-no}
-use Rattle.laws.proofs.Lists.{all-imp, all-keep, pairs-keep, all-true, true-all, cat-nil}
+use Rattle.laws.proofs.Lists.{all-imp, all-filter, pairs-filter, all-true, true-all, cat-nil}
 use Rattle.laws.proofs.Bits.{with-bit}
 use Rattle.laws.proofs.SetBits.{bits-all, bits-each, bit-below}
 use Rattle.floor.specs.declared.Settings.{Settings}
 use Rattle.floor.specs.declared.Layout.{Layout}
 use Rattle.floor.specs.Settings.{total, isHopper, hoppersOf}
-use Rattle.floor.specs.Layouts.{nameOk, layoutOk, layoutsSound, setBelow, held, setOf, keepIn, forgetIn}
+use Rattle.floor.specs.Layouts.{nameOk, layoutOk, layoutsSound, setBelow, nameHeld, setOf, keepIn, forgetIn}
 use Rattle.floor.specs.Model.{Model, runsOf, numbersOn, withLayouts}
 use Rattle.floor.specs.Calls.{keepTests, runningSet, keptUnder, forgotten}
 use Rattle.floor.proofs.Sound.{Measured, Sound}
@@ -74,14 +74,14 @@ below-bit p (suc n) k = go (by-test (p n)) (below-bit p n k)
 abbrev pub Rises : List Layout → Type 0
 Rises = Pairs (λ x y. x .name < y .name)
 
-pub record Laid (s : Settings) (l : List Layout) : Type 0 where
+pub record SoundLayouts (s : Settings) (l : List Layout) : Type 0 where
   pub eight : length l ≤ 8
   pub each : All (λ x. layoutOk s x ≡ true) l
   pub rise : Rises l
 
-pub laid-of : (s : Settings) (l : List Layout) → layoutsSound s l ≡ true → Laid s l
+pub sound-layouts-of : (s : Settings) (l : List Layout) → layoutsSound s l ≡ true → SoundLayouts s l
 unfolding layoutsSound
-laid-of s l h =
+sound-layouts-of s l h =
     let k = and-right (leb (length l) 8) _ h in
     record {
       eight = leb-true (length l) 8 (and-left (leb (length l) 8) _ h);
@@ -89,28 +89,28 @@ laid-of s l h =
       rise = r-pairs (λ x y. ltb (x .name) (y .name)) (λ x y. x .name < y .name) (λ x y. r-lt (x .name) (y .name)) l .0 (and-right (allOf (layoutOk s) l) _ k);
     }
 
-pub laid-is : (s : Settings) (l : List Layout) → Laid s l → layoutsSound s l ≡ true
+pub sound-layouts-is : (s : Settings) (l : List Layout) → SoundLayouts s l → layoutsSound s l ≡ true
 unfolding layoutsSound
-laid-is s l L = and-true (le-leb (length l) 8 (L .eight)) (and-true (true-all (layoutOk s) l (L .each)) (r-pairs (λ x y. ltb (x .name) (y .name)) (λ x y. x .name < y .name) (λ x y. r-lt (x .name) (y .name)) l .1 (L .rise)))
+sound-layouts-is s l L = and-true (le-leb (length l) 8 (L .eight)) (and-true (true-all (layoutOk s) l (L .each)) (r-pairs (λ x y. ltb (x .name) (y .name)) (λ x y. x .name < y .name) (λ x y. r-lt (x .name) (y .name)) l .1 (L .rise)))
 
 -- forgetting
-keep-length : {A : Type 0} (p : A → Bool) (l : List A) → length (keep p l) ≤ length l
-unfolding keep
-keep-length p [] = omega arith
-keep-length p (x ∷ l) = go (p x) (keep-length p l)
+filter-length : {A : Type 0} (p : A → Bool) (l : List A) → length (filter p l) ≤ length l
+unfolding filter
+filter-length p [] = omega arith
+filter-length p (x ∷ l) = go (p x) (filter-length p l)
   where
-    go : (b : Bool) → length (keep p l) ≤ length l → length (cond b (x ∷ keep p l) (keep p l)) ≤ length (x ∷ l)
+    go : (b : Bool) → length (filter p l) ≤ length l → length (cond b (x ∷ filter p l) (filter p l)) ≤ length (x ∷ l)
     go true h = omega arith
     go false h = omega arith
 
-pub forget-laid : (s : Settings) (name : ℕ) (l : List Layout) → Laid s l → Laid s (forgetIn name l)
+pub forget-sound : (s : Settings) (name : ℕ) (l : List Layout) → SoundLayouts s l → SoundLayouts s (forgetIn name l)
 unfolding forgetIn
-forget-laid s name l L =
+forget-sound s name l L =
     let p : Layout → Bool = λ x. not (eqb (x .name) name) in
     record {
-      eight = omega (arith, keep-length p l, L .eight);
-      each = all-imp (λ x. (layoutOk s x ≡ true) × (p x ≡ true)) (λ x. layoutOk s x ≡ true) (keep p l) (λ x h. h .0) (all-keep (λ x. layoutOk s x ≡ true) p l (L .each));
-      rise = pairs-keep (λ x y. x .name < y .name) p l (L .rise);
+      eight = omega (arith, filter-length p l, L .eight);
+      each = all-imp (λ x. (layoutOk s x ≡ true) × (p x ≡ true)) (λ x. layoutOk s x ≡ true) (filter p l) (λ x h. h .0) (all-filter (λ x. layoutOk s x ≡ true) p l (L .each));
+      rise = pairs-filter (λ x y. x .name < y .name) p l (L .rise);
     }
 
 -- keeping: what holds of the new one and of the old ones holds of all
@@ -139,42 +139,42 @@ keep-rises x (y ∷ l) h = go (by-test (eqb (x .name) (y .name))) (by-test (ltb 
     go (inr e) (inr k) ih = rw (e, k) (kept-all (λ w. y .name < w .name) x l (omega (arith, ltb-false (x .name) (y .name) k, eqb-false (x .name) (y .name) e)) (h .0), ih)
 
 -- at most one more, none where the name is held
-not-held : (l : List Layout) (name : ℕ) → All (λ w. name < w .name) l → held l name ≡ false
-unfolding held anyOf
-not-held [] name h = refl
-not-held (y ∷ l) name h = rw (ne-eqb (y .name) name (λ e. omega (arith, h .0))) (not-held l name (h .1))
+name-not-held : (l : List Layout) (name : ℕ) → All (λ w. name < w .name) l → nameHeld l name ≡ false
+unfolding nameHeld anyOf
+name-not-held [] name h = refl
+name-not-held (y ∷ l) name h = rw (ne-eqb (y .name) name (λ e. omega (arith, h .0))) (name-not-held l name (h .1))
 
-held-tail : (y : Layout) (l : List Layout) (name : ℕ) → y .name ≢ name → held (y ∷ l) name ≡ held l name
-unfolding held anyOf
-held-tail y l name n = rw (ne-eqb (y .name) name n)
+name-held-tail : (y : Layout) (l : List Layout) (name : ℕ) → y .name ≢ name → nameHeld (y ∷ l) name ≡ nameHeld l name
+unfolding nameHeld anyOf
+name-held-tail y l name n = rw (ne-eqb (y .name) name n)
 
-keep-length-le : (x : Layout) (l : List Layout) → Rises l → length (keepIn x l) ≤ length l + cond (held l (x .name)) 0 1
+keep-length-le : (x : Layout) (l : List Layout) → Rises l → length (keepIn x l) ≤ length l + cond (nameHeld l (x .name)) 0 1
 unfolding keepIn
 keep-length-le x [] h = one
   where
-    one : 1 ≤ 0 + cond (held [] (x .name)) 0 1
-    one = rw (not-held [] (x .name) tt) (omega arith)
+    one : 1 ≤ 0 + cond (nameHeld [] (x .name)) 0 1
+    one = rw (name-not-held [] (x .name) tt) (omega arith)
 keep-length-le x (y ∷ l) h = go (by-test (eqb (x .name) (y .name))) (by-test (ltb (x .name) (y .name))) (keep-length-le x l (h .1))
   where
-    tail : eqb (x .name) (y .name) ≡ false → held (y ∷ l) (x .name) ≡ held l (x .name)
-    tail e = held-tail y l (x .name) (λ q. eqb-false (x .name) (y .name) e (sym q))
+    tail : eqb (x .name) (y .name) ≡ false → nameHeld (y ∷ l) (x .name) ≡ nameHeld l (x .name)
+    tail e = name-held-tail y l (x .name) (λ q. eqb-false (x .name) (y .name) e (sym q))
 
-    go : (eqb (x .name) (y .name) ≡ true) ⊎ (eqb (x .name) (y .name) ≡ false) → (ltb (x .name) (y .name) ≡ true) ⊎ (ltb (x .name) (y .name) ≡ false) → length (keepIn x l) ≤ length l + cond (held l (x .name)) 0 1
-        → length (cond (eqb (x .name) (y .name)) (x ∷ l) (cond (ltb (x .name) (y .name)) (x ∷ y ∷ l) (y ∷ keepIn x l))) ≤ suc (length l) + cond (held (y ∷ l) (x .name)) 0 1
+    go : (eqb (x .name) (y .name) ≡ true) ⊎ (eqb (x .name) (y .name) ≡ false) → (ltb (x .name) (y .name) ≡ true) ⊎ (ltb (x .name) (y .name) ≡ false) → length (keepIn x l) ≤ length l + cond (nameHeld l (x .name)) 0 1
+        → length (cond (eqb (x .name) (y .name)) (x ∷ l) (cond (ltb (x .name) (y .name)) (x ∷ y ∷ l) (y ∷ keepIn x l))) ≤ suc (length l) + cond (nameHeld (y ∷ l) (x .name)) 0 1
     go (inl e) b ih = rw e (omega arith)
     go (inr e) (inl k) ih =
         let low = ltb-true (x .name) (y .name) k in
-        rw (e, k, tail e, not-held l (x .name) (all-imp (λ w. y .name < w .name) (λ w. x .name < w .name) l (λ w r. omega arith) (h .0))) (omega arith)
+        rw (e, k, tail e, name-not-held l (x .name) (all-imp (λ w. y .name < w .name) (λ w. x .name < w .name) l (λ w r. omega arith) (h .0))) (omega arith)
     go (inr e) (inr k) ih = rw (e, k, tail e) (omega arith)
 
-pub keep-laid : (s : Settings) (x : Layout) (l : List Layout) → Laid s l → layoutOk s x ≡ true → (leb 8 (length l) && not (held l (x .name))) ≡ false → Laid s (keepIn x l)
-keep-laid s x l L ok h = record {
-  eight = go (by-test (held l (x .name))) (keep-length-le x l (L .rise));
+pub keep-sound : (s : Settings) (x : Layout) (l : List Layout) → SoundLayouts s l → layoutOk s x ≡ true → (leb 8 (length l) && not (nameHeld l (x .name))) ≡ false → SoundLayouts s (keepIn x l)
+keep-sound s x l L ok h = record {
+  eight = go (by-test (nameHeld l (x .name))) (keep-length-le x l (L .rise));
   each = kept-all (λ y. layoutOk s y ≡ true) x l ok (L .each);
   rise = keep-rises x l (L .rise);
 }
   where
-    go : (held l (x .name) ≡ true) ⊎ (held l (x .name) ≡ false) → length (keepIn x l) ≤ length l + cond (held l (x .name)) 0 1 → length (keepIn x l) ≤ 8
+    go : (nameHeld l (x .name) ≡ true) ⊎ (nameHeld l (x .name) ≡ false) → length (keepIn x l) ≤ length l + cond (nameHeld l (x .name)) 0 1 → length (keepIn x l) ≤ 8
     go (inl e) n = let q = rw e at n in omega (arith, L .eight)
     go (inr e) n =
         let q = rw e at n in
@@ -192,19 +192,19 @@ covers s M x h t e =
     bits-each (λ u. bit (x .set) u ≡ true) (s .hoppers) (total s) (all-true (bit (x .set)) (bitsBelow (s .hoppers) (total s)) k) t (bit-below (s .hoppers) (total s) t (M .hoppers-on) e) e
 
 -- a held set is that of a sound layout
-pub held-covers : (s : Settings) → Measured s → (l : List Layout) (name : ℕ) → All (λ x. layoutOk s x ≡ true) l → held l name ≡ true → Covers s (setOf l name)
-unfolding setOf held anyOf
-held-covers s M [] name h e = absurd (false≢true e)
-held-covers s M (x ∷ l) name h e = go (by-test (eqb (x .name) name)) (held-covers s M l name (h .1))
+pub name-held-covers : (s : Settings) → Measured s → (l : List Layout) (name : ℕ) → All (λ x. layoutOk s x ≡ true) l → nameHeld l name ≡ true → Covers s (setOf l name)
+unfolding setOf nameHeld anyOf
+name-held-covers s M [] name h e = absurd (false≢true e)
+name-held-covers s M (x ∷ l) name h e = go (by-test (eqb (x .name) name)) (name-held-covers s M l name (h .1))
   where
     go : (eqb (x .name) name ≡ true) ⊎ (eqb (x .name) name ≡ false) → (anyOf (λ y. eqb (y .name) name) l ≡ true → Covers s (setOf l name)) → Covers s (cond (eqb (x .name) name) (x .set) (setOf l name))
     go (inl q) ih = rw q (covers s M x (h .0))
     go (inr q) ih = rw q (ih (rw q at e))
 
 -- ---- the floor with other layouts
-pub laid-keeps : (m : Model) → Sound m → (l : List Layout) → Laid (m .settings) l → Keeps m (withLayouts m l) [] none
+pub layouts-keep : (m : Model) → Sound m → (l : List Layout) → SoundLayouts (m .settings) l → Keeps m (withLayouts m l) [] none
 unfolding numbersOn
-laid-keeps m S l L = record {
+layouts-keep m S l L = record {
   well = record {
     measured = S .measured;
     len = S .len;
@@ -232,7 +232,7 @@ laid-keeps m S l L = record {
     counted = S .counted;
     booked-last = S .booked-last;
     last-fits = S .last-fits;
-    laid-out = laid-is (m .settings) l L;
+    layouts-sound = sound-layouts-is (m .settings) l L;
   };
   same-settings = refl;
   nums = rw (cat-nil {A = ℕ} 4) (Permᴰ·refl (numbersOn m ++ []));
@@ -259,8 +259,8 @@ unfolding keepTests keptUnder
 keep-keeps m S name T =
     let s = m .settings in
     let x : Layout = record { name = name; set = runningSet m } in
-    laid-keeps m S (keepIn x (m .layouts)) (keep-laid s x (m .layouts) (laid-of s (m .layouts) (S .laid-out)) (kept-ok m S name (not-false (nameOk name) (T .0))) (T .1 .0))
+    layouts-keep m S (keepIn x (m .layouts)) (keep-sound s x (m .layouts) (sound-layouts-of s (m .layouts) (S .layouts-sound)) (kept-ok m S name (not-false (nameOk name) (T .0))) (T .1 .0))
 
 pub forget-keeps : (m : Model) → Sound m → (name : ℕ) → Keeps m (forgotten m name) [] none
 unfolding forgotten
-forget-keeps m S name = laid-keeps m S (forgetIn name (m .layouts)) (forget-laid (m .settings) name (m .layouts) (laid-of (m .settings) (m .layouts) (S .laid-out)))
+forget-keeps m S name = layouts-keep m S (forgetIn name (m .layouts)) (forget-sound (m .settings) name (m .layouts) (sound-layouts-of (m .settings) (m .layouts) (S .layouts-sound)))

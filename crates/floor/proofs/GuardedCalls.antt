@@ -15,15 +15,15 @@ use Rattle.floor.specs.Layouts.{setOf}
 use Rattle.floor.specs.Model.{TileState, Model, tileOf, withTile}
 use Rattle.floor.specs.Memory.{view, pack}
 use Rattle.floor.specs.Well.{wellFormed}
-use Rattle.floor.specs.Calls.{refusalOf, answer, bookTests, booked, bookAnswer, stopTests, stopped, stopAnswer, repairTests, repaired, repairAnswer, keepTests, keptUnder, keepAnswer, heldTests, forgotten, forgetAnswer, recalled, recallAnswer}
+use Rattle.floor.specs.Calls.{refusalOf, answer, bookTests, booked, bookAnswer, stopTests, stopped, stopAnswer, repairTests, repaired, repairAnswer, keepTests, keptUnder, keepAnswer, nameHeldTests, forgotten, forgetAnswer, recalled, recallAnswer}
 use Rattle.floor.specs.Anywhere.{anywhereTests, placedAt, anywhereAnswer}
-use Rattle.floor.specs.Demand3.{Call, keep, forget, recall, Typed, outcome}
-use Rattle.floor.specs.Together.{Presses, stops, repairs, Books, placed, unplaced}
+use Rattle.floor.specs.Demand3.{Call, keep, forget, recall, InRange, outcome}
+use Rattle.floor.specs.CommutingCalls.{RunningChange, stops, repairs, Books, placed, unplaced}
 use Rattle.floor.proofs.Sound.{Sound}
 use Rattle.floor.proofs.Pack.{well-sound}
 use Rattle.floor.proofs.Capacity.{sound-well, view-packed}
 use Rattle.floor.proofs.Calls.{Accepted, book-keeps, anywhere-accepts, stop-keeps, repair-keeps}
-use Rattle.floor.proofs.Laying.{keep-keeps, forget-keeps}
+use Rattle.floor.proofs.SoundLayouts.{keep-keeps, forget-keeps}
 use Rattle.floor.proofs.Stages.{recall-keeps}
 use Rattle.floor.proofs.Lists.{passed}
 
@@ -72,14 +72,14 @@ module _ (F : Form) where
       go false e = no′
 
   -- accepted, from a floor that shows m
-  pub record Went (f : Floor) (m : Model) : Type 0 where
+  pub record Applied (f : Floor) (m : Model) : Type 0 where
     pub number : numberBy F f ≡ 0
     pub well : wellFormed (floorBy F f) ≡ true
     pub is : floorBy F f ≡ pack (F .change m)
     pub sees : view (floorBy F f) ≡ F .change m
 
-  pub went : (f : Floor) (m : Model) → wellFormed f ≡ true → view f ≡ m → Accepted (F .tests m) → Went f m
-  went f m w v A =
+  pub applied : (f : Floor) (m : Model) → wellFormed f ≡ true → view f ≡ m → Accepted (F .tests m) → Applied f m
+  applied f m w v A =
       let S : Sound (F .change m) = F .sound m (subst Sound v (well-sound f w)) A in
       let n : numberBy F f ≡ 0 = number-well (F .tests (view f)) f w ∙ ap (λ (x : Model). refusal (F .tests x)) v ∙ refusal-all-false (F .tests m) A in
       let is : floorBy F f ≡ pack (F .change m) = rw n (ap (λ (x : Model). pack (F .change x)) v) in
@@ -139,33 +139,33 @@ module _ (F G : Form) (B : Beside F G) (f : Floor) where
 
 -- ---- the calls in that form
 -- a stop's or a repair's tests, and what it makes of its tile
-abbrev pub pressTests : {t : ℕ} {c : Call} → Presses t c → Model → List (Bool × ℕ)
-pressTests {t} stops m = stopTests m t
-pressTests {t} repairs m = repairTests m t
+abbrev pub runningTests : {t : ℕ} {c : Call} → RunningChange t c → Model → List (Bool × ℕ)
+runningTests {t} stops m = stopTests m t
+runningTests {t} repairs m = repairTests m t
 
-abbrev pub pressTile : {t : ℕ} {c : Call} → Presses t c → TileState → TileState
-pressTile stops x = stopped x
-pressTile repairs x = repaired x
+abbrev pub runningTile : {t : ℕ} {c : Call} → RunningChange t c → TileState → TileState
+runningTile stops x = stopped x
+runningTile repairs x = repaired x
 
-abbrev pub pressed : {t : ℕ} {c : Call} → Presses t c → Model → Model
-pressed {t} p m = withTile m t (pressTile p (tileOf m t))
+abbrev pub runningChanged : {t : ℕ} {c : Call} → RunningChange t c → Model → Model
+runningChanged {t} p m = withTile m t (runningTile p (tileOf m t))
 
-pub press-pos : {t : ℕ} {c : Call} (p : Presses t c) (m : Model) → All (λ x. 0 < x .1) (pressTests p m)
+pub running-pos : {t : ℕ} {c : Call} (p : RunningChange t c) (m : Model) → All (λ x. 0 < x .1) (runningTests p m)
 unfolding stopTests repairTests
-press-pos stops m = omega arith
-press-pos repairs m = omega arith
+running-pos stops m = omega arith
+running-pos repairs m = omega arith
 
-pub press-sound : {t : ℕ} {c : Call} (p : Presses t c) (m : Model) → Sound m → Accepted (pressTests p m) → Sound (pressed p m)
-press-sound {t} stops m S A = stop-keeps m S t A .well
-press-sound {t} repairs m S A = repair-keeps m S t A .well
+pub running-sound : {t : ℕ} {c : Call} (p : RunningChange t c) (m : Model) → Sound m → Accepted (runningTests p m) → Sound (runningChanged p m)
+running-sound {t} stops m S A = stop-keeps m S t A .well
+running-sound {t} repairs m S A = repair-keeps m S t A .well
 
-abbrev pub pressForm : {t : ℕ} {c : Call} → Presses t c → Form
-pressForm p = record { tests = pressTests p; change = pressed p; pos = press-pos p; sound = press-sound p }
+abbrev pub runningForm : {t : ℕ} {c : Call} → RunningChange t c → Form
+runningForm p = record { tests = runningTests p; change = runningChanged p; pos = running-pos p; sound = running-sound p }
 
-pub press-answers : {t : ℕ} {c : Call} (p : Presses t c) → Answers c (pressForm p)
+pub running-answers : {t : ℕ} {c : Call} (p : RunningChange t c) → Answers c (runningForm p)
 unfolding outcome stopAnswer repairAnswer answer
-press-answers stops = record { number = λ f. refl; floor = λ f. refl }
-press-answers repairs = record { number = λ f. refl; floor = λ f. refl }
+running-answers stops = record { number = λ f. refl; floor = λ f. refl }
+running-answers repairs = record { number = λ f. refl; floor = λ f. refl }
 
 -- a booking's tests, and the canister that it adds
 abbrev pub bookTestsOf : {t : ℕ} {c : Call} → Books t c → Model → List (Bool × ℕ)
@@ -185,15 +185,15 @@ pub booking-accepts : {t : ℕ} {c : Call} (p : Books t c) (m : Model) → Accep
 booking-accepts (placed b) m A = A
 booking-accepts {t} (unplaced number) m A = anywhere-accepts m t number A
 
-pub booking-fits : {t : ℕ} {c : Call} (p : Books t c) → Typed c → (m : Model) → canisterOf p m .number < 2 ^ 32
+pub booking-fits : {t : ℕ} {c : Call} (p : Books t c) → InRange c → (m : Model) → canisterOf p m .number < 2 ^ 32
 unfolding placedAt
 booking-fits (placed b) h m = h
 booking-fits (unplaced number) h m = h
 
-abbrev pub bookForm : {t : ℕ} {c : Call} → Books t c → Typed c → Form
+abbrev pub bookForm : {t : ℕ} {c : Call} → Books t c → InRange c → Form
 bookForm {t} p h = record { tests = bookTestsOf p; change = λ m. booked m t (canisterOf p m); pos = booking-pos p; sound = λ m S A. book-keeps m S t (canisterOf p m) (booking-accepts p m A) (booking-fits p h m) .well }
 
-pub book-answers : {t : ℕ} {c : Call} (p : Books t c) (h : Typed c) → Answers c (bookForm p h)
+pub book-answers : {t : ℕ} {c : Call} (p : Books t c) (h : InRange c) → Answers c (bookForm p h)
 unfolding outcome bookAnswer anywhereAnswer answer
 book-answers (placed b) h = record { number = λ f. refl; floor = λ f. refl }
 book-answers (unplaced number) h = record { number = λ f. refl; floor = λ f. refl }
@@ -203,18 +203,18 @@ pub keep-pos : (name : ℕ) (m : Model) → All (λ x. 0 < x .1) (keepTests (m .
 unfolding keepTests
 keep-pos name m = omega arith
 
-pub held-pos : (name : ℕ) (m : Model) → All (λ x. 0 < x .1) (heldTests (m .layouts) name)
-unfolding heldTests
-held-pos name m = omega arith
+pub name-held-pos : (name : ℕ) (m : Model) → All (λ x. 0 < x .1) (nameHeldTests (m .layouts) name)
+unfolding nameHeldTests
+name-held-pos name m = omega arith
 
 abbrev pub keepForm : ℕ → Form
 keepForm name = record { tests = λ m. keepTests (m .layouts) name; change = λ m. keptUnder m name; pos = keep-pos name; sound = λ m S A. keep-keeps m S name A .well }
 
 abbrev pub forgetForm : ℕ → Form
-forgetForm name = record { tests = λ m. heldTests (m .layouts) name; change = λ m. forgotten m name; pos = held-pos name; sound = λ m S A. forget-keeps m S name .well }
+forgetForm name = record { tests = λ m. nameHeldTests (m .layouts) name; change = λ m. forgotten m name; pos = name-held-pos name; sound = λ m S A. forget-keeps m S name .well }
 
 abbrev pub recallForm : ℕ → Form
-recallForm name = record { tests = λ m. heldTests (m .layouts) name; change = λ m. recalled m (setOf (m .layouts) name); pos = held-pos name; sound = λ m S A. recall-keeps m S name A .well }
+recallForm name = record { tests = λ m. nameHeldTests (m .layouts) name; change = λ m. recalled m (setOf (m .layouts) name); pos = name-held-pos name; sound = λ m S A. recall-keeps m S name A .well }
 
 pub keep-answers : (name : ℕ) → Answers (keep name) (keepForm name)
 unfolding outcome keepAnswer answer

@@ -1,4 +1,4 @@
--- Two phones, two tiles: which calls may change places, and what stop, repair, stop comes to. The theorem is `two-phones` of proofs/Together.
+-- Calls that commute ([14]): which calls may change places, and what stop, repair, stop comes to. The theorem is `commuting-calls` of proofs/CommutingCalls.
 use mathlib.Core.Path.{_≡_}
 use mathlib.Core.Logic.{_≢_}
 use mathlib.Core.Bool.{true, false}
@@ -16,12 +16,12 @@ use Rattle.floor.specs.Well.{wellFormed}
 use Rattle.floor.specs.Calls.{zeroReport, roundAnswer}
 use Rattle.floor.specs.Anywhere.{anywhereAnswer}
 use Rattle.floor.specs.Bookings.{listAfter}
-use Rattle.floor.specs.Demand3.{Call, book, anywhere, stop, repair, round, keep, forget, recall, list, Typed, outcome, floorAfter}
+use Rattle.floor.specs.Demand3.{Call, book, anywhere, stop, repair, round, keep, forget, recall, list, InRange, outcome, floorAfter}
 
 -- a stop or a repair of tile t
-pub data Presses (t : ℕ) : Call → Type 0 where
-  stops : Presses t (stop t)
-  repairs : Presses t (repair t)
+pub data RunningChange (t : ℕ) : Call → Type 0 where
+  stops : RunningChange t (stop t)
+  repairs : RunningChange t (repair t)
 
 -- a booking on tile t, with a place or without one ([1])
 pub data Books (t : ℕ) : Call → Type 0 where
@@ -31,11 +31,11 @@ pub data Books (t : ℕ) : Call → Type 0 where
 -- two calls that may change places; each pair stands here one way round, since what is said of it reads the same both ways
 pub data Exchangeable : Call → Call → Type 0 where
   -- "Stops and repairs of different tiles"
-  presses : {t u : ℕ} {c e : Call} → t ≢ u → Presses t c → Presses u e → Exchangeable c e
+  runningChanges : {t u : ℕ} {c e : Call} → t ≢ u → RunningChange t c → RunningChange u e → Exchangeable c e
   -- "A booking and a stop or repair of another tile"; the number has its width, 32 bits
-  booking : {t u : ℕ} {c e : Call} → t ≢ u → Books t c → Typed c → Presses u e → Exchangeable c e
+  booking : {t u : ℕ} {c e : Call} → t ≢ u → Books t c → InRange c → RunningChange u e → Exchangeable c e
   -- so a list of bookings, none of them on that tile
-  listing : {u : ℕ} {l : List Booking} {e : Call} → All (λ b. b .tile ≢ u) l → Typed (list l) → Presses u e → Exchangeable (list l) e
+  listing : {u : ℕ} {l : List Booking} {e : Call} → All (λ b. b .tile ≢ u) l → InRange (list l) → RunningChange u e → Exchangeable (list l) e
 
 -- the place that a booking without one tells; zeros for the other calls, which tell none
 unfoldable pub placeTo : Floor → Call → ℕ × ℕ
@@ -74,17 +74,17 @@ listTo f (recall name) = []
 listTo f (list l) = listAfter f l
 
 -- all that a call answers beside its floor: its refusal number, the place found, its report and its entries
-abbrev pub Said : Type 0
-Said = ℕ × (ℕ × ℕ) × Report × List Booking
+abbrev pub Reply : Type 0
+Reply = ℕ × (ℕ × ℕ) × Report × List Booking
 
-abbrev pub said : Floor → Call → Said
-said f c = (outcome f c .refusal, placeTo f c, reportTo f c, listTo f c)
+abbrev pub reply : Floor → Call → Reply
+reply f c = (outcome f c .refusal, placeTo f c, reportTo f c, listTo f c)
 
 -- c and e from f: "the same floor and the same two answers in either order"
 pub record EitherOrder (f : Floor) (c e : Call) : Type 0 where
   pub same-floor : floorAfter f (c ∷ e ∷ []) ≡ floorAfter f (e ∷ c ∷ [])
-  pub first-answer : said (outcome f e .floor) c ≡ said f c
-  pub second-answer : said (outcome f c .floor) e ≡ said f e
+  pub first-answer : reply (outcome f e .floor) c ≡ reply f c
+  pub second-answer : reply (outcome f c .floor) e ≡ reply f e
 
 -- the refusal numbers of a list, in its order
 unfoldable pub answersIn : Floor → List Call → List ℕ
@@ -92,24 +92,24 @@ answersIn f [] = []
 answersIn f (c ∷ cs) = outcome f c .refusal ∷ answersIn (outcome f c .floor) cs
 
 -- the answers of a list, in its order
-unfoldable pub saidIn : Floor → List Call → List Said
-saidIn f [] = []
-saidIn f (c ∷ cs) = said f c ∷ saidIn (outcome f c .floor) cs
+unfoldable pub repliesIn : Floor → List Call → List Reply
+repliesIn f [] = []
+repliesIn f (c ∷ cs) = reply f c ∷ repliesIn (outcome f c .floor) cs
 
 -- c and e as neighbours in a list from f: exchanged, they take their answers along, and no other answer changes
 pub record Exchanged (f : Floor) (before : List Call) (c e : Call) (after : List Call) : Type 0 where
   pub here : Floor
   pub is-here : here ≡ floorAfter f before
   pub same-floor : floorAfter f (before ++ (c ∷ e ∷ after)) ≡ floorAfter f (before ++ (e ∷ c ∷ after))
-  pub answers : saidIn f (before ++ (c ∷ e ∷ after)) ≡ saidIn f before ++ (said here c ∷ said here e ∷ saidIn (floorAfter here (c ∷ e ∷ [])) after)
-  pub exchanged : saidIn f (before ++ (e ∷ c ∷ after)) ≡ saidIn f before ++ (said here e ∷ said here c ∷ saidIn (floorAfter here (c ∷ e ∷ [])) after)
+  pub answers : repliesIn f (before ++ (c ∷ e ∷ after)) ≡ repliesIn f before ++ (reply here c ∷ reply here e ∷ repliesIn (floorAfter here (c ∷ e ∷ [])) after)
+  pub exchanged : repliesIn f (before ++ (e ∷ c ∷ after)) ≡ repliesIn f before ++ (reply here e ∷ reply here c ∷ repliesIn (floorAfter here (c ∷ e ∷ [])) after)
 
 -- c and then e are both accepted
 abbrev pub BothBooked : Floor → Call → Call → Type 0
 BothBooked f c e = (outcome f c .refusal ≡ 0) × (outcome (outcome f c .floor) e .refusal ≡ 0)
 
 -- f is any floor, well formed or not; t and u are any numbers, of tiles or not
-pub record TwoPhones (f : Floor) : Type 0 where
+pub record CallsCommute (f : Floor) : Type 0 where
   -- "the same floor and the same two answers in either order, refused ones included"; and so anywhere in a list
   pub either : (c e : Call) → Exchangeable c e → EitherOrder f c e
   pub in-lists : (before : List Call) (c e : Call) (after : List Call) → Exchangeable c e → Exchanged f before c e after
@@ -120,8 +120,8 @@ pub record TwoPhones (f : Floor) : Type 0 where
   -- "Two bookings of given numbers on one floor, both accepted in one order, never are in the other"; of either sort
   pub rising : (t u : ℕ) (c e : Call) → Books t c → Books u e → BothBooked f c e → ¬ (BothBooked f e c)
   -- "because numbers must rise": in the other order the first is accepted, and the second refused by 33
-  pub rising-answers : (t u : ℕ) (c e : Call) → Books t c → Books u e → Typed e → BothBooked f c e → (outcome f e .refusal ≡ 0) × (outcome (outcome f e .floor) c .refusal ≡ 33)
+  pub rising-answers : (t u : ℕ) (c e : Call) → Books t c → Books u e → InRange e → BothBooked f c e → (outcome f e .refusal ≡ 0) × (outcome (outcome f e .floor) c .refusal ≡ 33)
 
 -- the theorem: for every floor
-abbrev pub Together : Type 0
-Together = (f : Floor) → TwoPhones f
+abbrev pub CommutingCalls : Type 0
+CommutingCalls = (f : Floor) → CallsCommute f

@@ -22,45 +22,45 @@ use Rattle.floor.specs.Memory.{view}
 use Rattle.floor.specs.Calls.{bookTests, zeroReport, reportOf}
 use Rattle.floor.specs.Bookings.{single, entriesSingly, tooLong, acceptedIn}
 use Rattle.floor.specs.Reports.{listedAt}
-use Rattle.floor.specs.Demand3.{Call, book, anywhere, stop, repair, round, keep, forget, recall, list, Typed, outcome, floorAfter, bookedIn, reportedIn, recallSet, recallMakes, runsAfter, isRound, changesRunning, disturbs, Quiet}
-use Rattle.floor.specs.Together.{reportTo, Said, answersIn, saidIn}
-use Rattle.floor.specs.Fairness.{wants, Waiting, granted, grantsIn}
-use Rattle.floor.specs.Arrows.{Unpressed}
+use Rattle.floor.specs.Demand3.{Call, book, anywhere, stop, repair, round, keep, forget, recall, list, InRange, outcome, floorAfter, bookedIn, reportedIn, recallSet, recallMakes, runsAfter, isRound, changesRunning, disturbs, Quiet}
+use Rattle.floor.specs.CommutingCalls.{reportTo, Reply, answersIn, repliesIn}
+use Rattle.floor.specs.BoundedBypass.{wants, Waiting, granted, grantsIn}
+use Rattle.floor.specs.Arrows.{RunningUnchanged}
 use Rattle.floor.proofs.Lists.{list-refused, list-made, single-refused, list-runs}
-use Rattle.floor.proofs.Shown.{Shows, answersSingly, refusalBy, placeBy, listBy, valueBy, shows-refusal, shows-place, shows-booking, shows-entries, shows-list-after, shows-call, shows-report}
+use Rattle.floor.proofs.CallsByValue.{Shows, answersSingly, refusalBy, placeBy, listBy, valueBy, shows-refusal, shows-place, shows-booking, shows-entries, shows-list-after, shows-call, shows-report}
 
 -- all that is asked of a call: a booking's number has 32 bits
 unfoldable pub isNarrow : Booking → Bool
 isNarrow b = ltb (b .canister .number) (2 ^ 32)
 
-unfoldable pub isTyped : Call → Bool
+unfoldable pub isInRange : Call → Bool
 unfolding isNarrow
-isTyped (book t c) = ltb (c .number) (2 ^ 32)
-isTyped (anywhere t number) = ltb number (2 ^ 32)
-isTyped (stop t) = true
-isTyped (repair t) = true
-isTyped round = true
-isTyped (keep name) = true
-isTyped (forget name) = true
-isTyped (recall name) = true
-isTyped (list l) = allOf isNarrow l
+isInRange (book t c) = ltb (c .number) (2 ^ 32)
+isInRange (anywhere t number) = ltb number (2 ^ 32)
+isInRange (stop t) = true
+isInRange (repair t) = true
+isInRange round = true
+isInRange (keep name) = true
+isInRange (forget name) = true
+isInRange (recall name) = true
+isInRange (list l) = allOf isNarrow l
 
-pub typed : (c : Call) → isTyped c ≡ true → Typed c
-unfolding isNarrow isTyped
-typed (book t c) h = ltb-true (c .number) (2 ^ 32) h
-typed (anywhere t number) h = ltb-true number (2 ^ 32) h
-typed (stop t) h = tt
-typed (repair t) h = tt
-typed round h = tt
-typed (keep name) h = tt
-typed (forget name) h = tt
-typed (recall name) h = tt
-typed (list l) h = all-imp (λ b. isNarrow b ≡ true) (λ b. b .canister .number < 2 ^ 32) l (λ b e. ltb-true (b .canister .number) (2 ^ 32) e) (all-true isNarrow l h)
+pub in-range : (c : Call) → isInRange c ≡ true → InRange c
+unfolding isNarrow isInRange
+in-range (book t c) h = ltb-true (c .number) (2 ^ 32) h
+in-range (anywhere t number) h = ltb-true number (2 ^ 32) h
+in-range (stop t) h = tt
+in-range (repair t) h = tt
+in-range round h = tt
+in-range (keep name) h = tt
+in-range (forget name) h = tt
+in-range (recall name) h = tt
+in-range (list l) h = all-imp (λ b. isNarrow b ≡ true) (λ b. b .canister .number < 2 ^ 32) l (λ b e. ltb-true (b .canister .number) (2 ^ 32) e) (all-true isNarrow l h)
 
-pub all-typed : (cs : List Call) → allOf isTyped cs ≡ true → All Typed cs
+pub all-in-range : (cs : List Call) → allOf isInRange cs ≡ true → All InRange cs
 unfolding allOf
-all-typed [] h = tt
-all-typed (c ∷ cs) h = (typed c (and-left (isTyped c) _ h), all-typed cs (and-right (isTyped c) _ h))
+all-in-range [] h = tt
+all-in-range (c ∷ cs) h = (in-range c (and-left (isInRange c) _ h), all-in-range cs (and-right (isInRange c) _ h))
 
 -- ---- by the value
 unfoldable pub valueAfter : Model → List Call → Model
@@ -98,9 +98,9 @@ reportBy m (forget name) = zeroReport
 reportBy m (recall name) = zeroReport
 reportBy m (list l) = zeroReport
 
-unfoldable pub saidBy : Model → List Call → List Said
-saidBy m [] = []
-saidBy m (c ∷ cs) = (refusalBy m c, placeBy m c, reportBy m c, listBy m c) ∷ saidBy (valueBy m c) cs
+unfoldable pub repliesBy : Model → List Call → List Reply
+repliesBy m [] = []
+repliesBy m (c ∷ cs) = (refusalBy m c, placeBy m c, reportBy m c, listBy m c) ∷ repliesBy (valueBy m c) cs
 
 unfoldable pub reportedOf : Model → Call → ℕ → List ℕ
 reportedOf m (book t c) k = []
@@ -158,10 +158,10 @@ unfolding disturbsBy
 quietBy m [] = true
 quietBy m (c ∷ cs) = not (disturbsBy m c) && quietBy (valueBy m c) cs
 
-unfoldable pub unpressedBy : Model → List Call → Bool
+unfoldable pub runningUnchangedBy : Model → List Call → Bool
 unfolding changesBy
-unpressedBy m [] = true
-unpressedBy m (c ∷ cs) = not (changesBy m c) && unpressedBy (valueBy m c) cs
+runningUnchangedBy m [] = true
+runningUnchangedBy m (c ∷ cs) = not (changesBy m c) && runningUnchangedBy (valueBy m c) cs
 
 unfoldable pub waitingBy : Model → List Call → ℕ → ℕ → Bool
 waitingBy m [] t k = true
@@ -184,7 +184,7 @@ one-accepted f (b ∷ l) = go (eqb (single f b .refusal) 0) refl (one-accepted (
     go false e ih = ih ∙ ap some (single-refused f b e)
 
 module _ (f : Floor) (m : Model) (s : Shows f m) where
-  list-booked : (l : List Booking) → Typed (list l) → outcome f (list l) .booked ≡ bookedOf m (outcome f (list l) .refusal) (list l)
+  list-booked : (l : List Booking) → InRange (list l) → outcome f (list l) .booked ≡ bookedOf m (outcome f (list l) .refusal) (list l)
   unfolding bookedOf
   list-booked l h = go (by-test (tooLong (length l)))
     where
@@ -192,7 +192,7 @@ module _ (f : Floor) (m : Model) (s : Shows f m) where
       go (inl e) = let k = list-refused f l e in rw (k .2, k .0)
       go (inr e) = let k = list-made f l e in rw (k .2, k .0) (ap acceptedIn (shows-entries f m s l h))
 
-  call-booked : (c : Call) → Typed c → outcome f c .booked ≡ bookedOf m (outcome f c .refusal) c
+  call-booked : (c : Call) → InRange c → outcome f c .booked ≡ bookedOf m (outcome f c .refusal) c
   unfolding outcome bookedOf
   call-booked (book t c) h = refl
   call-booked (anywhere t number) h = refl
@@ -266,56 +266,56 @@ module _ (f : Floor) (m : Model) (s : Shows f m) where
       go (inl e) = rw (list-refused f l e .2, e)
       go (inr e) = rw (list-made f l e .2, e) (one-accepted f l ∙ takes-same l)
 
-pub shows-list : (f : Floor) (m : Model) → Shows f m → (cs : List Call) → All Typed cs → Shows (floorAfter f cs) (valueAfter m cs)
+pub shows-list : (f : Floor) (m : Model) → Shows f m → (cs : List Call) → All InRange cs → Shows (floorAfter f cs) (valueAfter m cs)
 unfolding floorAfter valueAfter
 shows-list f m s [] h = s
 shows-list f m s (c ∷ cs) h = shows-list (outcome f c .floor) (valueBy m c) (shows-call f m s c (h .0)) cs (h .1)
 
-pub answers-same : (f : Floor) (m : Model) → Shows f m → (cs : List Call) → All Typed cs → answersIn f cs ≡ answersBy m cs
+pub answers-same : (f : Floor) (m : Model) → Shows f m → (cs : List Call) → All InRange cs → answersIn f cs ≡ answersBy m cs
 unfolding answersIn answersBy
 answers-same f m s [] h = refl
 answers-same f m s (c ∷ cs) h = rw (shows-refusal f m s c, answers-same (outcome f c .floor) (valueBy m c) (shows-call f m s c (h .0)) cs (h .1))
 
-pub booked-same : (f : Floor) (m : Model) → Shows f m → (cs : List Call) → All Typed cs → bookedIn f cs ≡ bookedBy m cs
+pub booked-same : (f : Floor) (m : Model) → Shows f m → (cs : List Call) → All InRange cs → bookedIn f cs ≡ bookedBy m cs
 unfolding bookedIn bookedBy
 booked-same f m s [] h = refl
 booked-same f m s (c ∷ cs) h = rw (call-booked f m s c (h .0), shows-refusal f m s c, booked-same (outcome f c .floor) (valueBy m c) (shows-call f m s c (h .0)) cs (h .1))
 
-pub said-same : (f : Floor) (m : Model) → Shows f m → (cs : List Call) → All Typed cs → saidIn f cs ≡ saidBy m cs
-unfolding saidIn saidBy
-said-same f m s [] h = refl
-said-same f m s (c ∷ cs) h = rw (shows-refusal f m s c, shows-place f m s c, call-report f m s c, shows-list-after f m s c (h .0), said-same (outcome f c .floor) (valueBy m c) (shows-call f m s c (h .0)) cs (h .1))
+pub replies-same : (f : Floor) (m : Model) → Shows f m → (cs : List Call) → All InRange cs → repliesIn f cs ≡ repliesBy m cs
+unfolding repliesIn repliesBy
+replies-same f m s [] h = refl
+replies-same f m s (c ∷ cs) h = rw (shows-refusal f m s c, shows-place f m s c, call-report f m s c, shows-list-after f m s c (h .0), replies-same (outcome f c .floor) (valueBy m c) (shows-call f m s c (h .0)) cs (h .1))
 
-pub reported-same : (f : Floor) (m : Model) → Shows f m → (cs : List Call) → All Typed cs → (k : ℕ) → reportedIn f cs k ≡ reportedBy m cs k
+pub reported-same : (f : Floor) (m : Model) → Shows f m → (cs : List Call) → All InRange cs → (k : ℕ) → reportedIn f cs k ≡ reportedBy m cs k
 unfolding reportedIn reportedBy
 reported-same f m s [] h k = refl
 reported-same f m s (c ∷ cs) h k = rw (call-reported f m s c k, reported-same (outcome f c .floor) (valueBy m c) (shows-call f m s c (h .0)) cs (h .1) k)
 
-pub grants-same : (f : Floor) (m : Model) → Shows f m → (cs : List Call) → All Typed cs → (t : ℕ) → grantsIn f cs t ≡ grantsBy m cs t
+pub grants-same : (f : Floor) (m : Model) → Shows f m → (cs : List Call) → All InRange cs → (t : ℕ) → grantsIn f cs t ≡ grantsBy m cs t
 unfolding grantsIn grantsBy
 grants-same f m s [] h t = refl
 grants-same f m s (c ∷ cs) h t = rw (call-granted f m s t, grants-same (outcome f c .floor) (valueBy m c) (shows-call f m s c (h .0)) cs (h .1) t)
 
 -- the history tells what runs on the value after it
-pub runs-same : (f : Floor) (m : Model) → Shows f m → (cs : List Call) → All Typed cs → (t : ℕ) → runsAfter f cs t ≡ runsOf (valueAfter m cs) t
+pub runs-same : (f : Floor) (m : Model) → Shows f m → (cs : List Call) → All InRange cs → (t : ℕ) → runsAfter f cs t ≡ runsOf (valueAfter m cs) t
 unfolding runsAfter
 runs-same f m s cs h t = list-runs f (s .well) cs h t ∙ ap (λ (x : Model). runsOf x t) (shows-list f m s cs h .value)
 
-pub quiet : (f : Floor) (m : Model) → Shows f m → (cs : List Call) → All Typed cs → quietBy m cs ≡ true → Quiet f cs
+pub quiet : (f : Floor) (m : Model) → Shows f m → (cs : List Call) → All InRange cs → quietBy m cs ≡ true → Quiet f cs
 unfolding quietBy
 quiet f m s [] h q = tt
 quiet f m s (c ∷ cs) h q =
     let p = not (disturbsBy m c) in
     (call-disturbs f m s c ∙ not-true (disturbsBy m c) (and-left p _ q), quiet (outcome f c .floor) (valueBy m c) (shows-call f m s c (h .0)) cs (h .1) (and-right p _ q))
 
-pub unpressed : (f : Floor) (m : Model) → Shows f m → (cs : List Call) → All Typed cs → unpressedBy m cs ≡ true → Unpressed f cs
-unfolding unpressedBy
-unpressed f m s [] h q = tt
-unpressed f m s (c ∷ cs) h q =
+pub running-unchanged : (f : Floor) (m : Model) → Shows f m → (cs : List Call) → All InRange cs → runningUnchangedBy m cs ≡ true → RunningUnchanged f cs
+unfolding runningUnchangedBy
+running-unchanged f m s [] h q = tt
+running-unchanged f m s (c ∷ cs) h q =
     let p = not (changesBy m c) in
-    (call-changes f m s c ∙ not-true (changesBy m c) (and-left p _ q), unpressed (outcome f c .floor) (valueBy m c) (shows-call f m s c (h .0)) cs (h .1) (and-right p _ q))
+    (call-changes f m s c ∙ not-true (changesBy m c) (and-left p _ q), running-unchanged (outcome f c .floor) (valueBy m c) (shows-call f m s c (h .0)) cs (h .1) (and-right p _ q))
 
-pub waiting : (f : Floor) (m : Model) → Shows f m → (cs : List Call) → All Typed cs → (t k : ℕ) → waitingBy m cs t k ≡ true → Waiting f cs t k
+pub waiting : (f : Floor) (m : Model) → Shows f m → (cs : List Call) → All InRange cs → (t k : ℕ) → waitingBy m cs t k ≡ true → Waiting f cs t k
 unfolding waitingBy
 waiting f m s [] h t k q = tt
 waiting f m s (c ∷ cs) h t k q =

@@ -1,4 +1,4 @@
--- Two phones, two tiles: calls on different tiles change places. The statement is specs/Together.
+-- Calls that commute ([14]): calls on different tiles change places. The statement is specs/CommutingCalls.
 use mathlib.Core.Path.{_≡_, refl, sym, ap, _∙_, subst}
 use mathlib.Core.Logic.{_⊎_, inl, inr, _≢_}
 use mathlib.Core.Bool.{Bool, true, false, cond, not}
@@ -25,24 +25,24 @@ use Rattle.floor.specs.Move.{insert}
 use Rattle.floor.specs.Calls.{answer, bookTests, withBooking, booked, bookAnswer, stopTests, stopped, stopAnswer, repairTests, repaired, repairAnswer, zeroReport}
 use Rattle.floor.specs.Anywhere.{placeB, placeA, anywhereTests, placedAt, anywhereAnswer}
 use Rattle.floor.specs.Bookings.{answered, single, floorSingly, entriesSingly, tooLong, listAnswer, listAfter}
-use Rattle.floor.specs.Demand3.{Call, book, list, Typed, outcome, floorAfter}
-use Rattle.floor.specs.Together.{Presses, stops, repairs, Books, placed, unplaced, Exchangeable, presses, booking, listing, placeTo, reportTo, listTo, Said, said, EitherOrder, saidIn, Exchanged, BothBooked, Together}
+use Rattle.floor.specs.Demand3.{Call, book, list, InRange, outcome, floorAfter}
+use Rattle.floor.specs.CommutingCalls.{RunningChange, stops, repairs, Books, placed, unplaced, Exchangeable, runningChanges, booking, listing, placeTo, reportTo, listTo, Reply, reply, EitherOrder, repliesIn, Exchanged, BothBooked, CommutingCalls}
 use Rattle.floor.proofs.Sound.{Sound}
 use Rattle.floor.proofs.Pack.{well-sound}
-use Rattle.floor.proofs.First.{pack-view-well}
+use Rattle.floor.proofs.FreshAndWidths.{pack-view-well}
 use Rattle.floor.proofs.Lowest.{at}
 use Rattle.floor.proofs.Calls.{Accepted, book-tests-passed, book-tests-pass, anywhere-tests-passed, book-anywhere, stop-keeps, book-runs}
 use Rattle.floor.proofs.Insertion.{insert-perm}
 use Rattle.floor.proofs.Tables.{run-on}
 use Rattle.floor.proofs.Lists.{after-both, passed}
-use Rattle.floor.proofs.Forms.{Form, numberBy, floorBy, Answers, floor-bad, number-well, accepted, by-form, Went, went, new-view, Beside, number-first, number-second, floor-same, pressTests, pressTile, pressed, pressForm, press-answers, bookTestsOf, canisterOf, booking-pos, booking-accepts, bookForm, book-answers}
+use Rattle.floor.proofs.GuardedCalls.{Form, numberBy, floorBy, Answers, floor-bad, number-well, accepted, by-form, Applied, applied, new-view, Beside, number-first, number-second, floor-same, runningTests, runningTile, runningChanged, runningForm, running-answers, bookTestsOf, canisterOf, booking-pos, booking-accepts, bookForm, book-answers}
 
 -- ---- calls on different tiles are beside each other
--- a press tests its own tile, and no counter
-press-tests : {t : ℕ} {c : Call} (p : Presses t c) (m n : Model) → n .settings ≡ m .settings → tileOf n t ≡ tileOf m t → pressTests p n ≡ pressTests p m
+-- a stop or repair tests its own tile, and no counter
+running-tests : {t : ℕ} {c : Call} (p : RunningChange t c) (m n : Model) → n .settings ≡ m .settings → tileOf n t ≡ tileOf m t → runningTests p n ≡ runningTests p m
 unfolding stopTests repairTests
-press-tests stops m n es et = rw (es, et)
-press-tests repairs m n es et = rw (es, et)
+running-tests stops m n es et = rw (es, et)
+running-tests repairs m n es et = rw (es, et)
 
 module _ (t u : ℕ) (n : t ≢ u) where
   first-tile : (m : Model) (x : TileState) → tileOf (withTile m u x) t ≡ tileOf m t
@@ -59,11 +59,11 @@ module _ (t u : ℕ) (n : t ≢ u) where
       ∙ set-comm (m .tiles) u t (h (tileOf m u)) (g (tileOf m t)) (λ e. n (sym e))
       ∙ sym (ap (λ (x : TileState). set (set (m .tiles) t (g (tileOf m t))) u (h x)) (second-tile m (g (tileOf m t))))
 
-  press-beside : {c e : Call} (p : Presses t c) (q : Presses u e) → Beside (pressForm p) (pressForm q)
-  press-beside p q = record {
-    tests-first = λ m. press-tests p m (pressed q m) refl (first-tile m (pressTile q (tileOf m u)));
-    tests-second = λ m. press-tests q m (pressed p m) refl (second-tile m (pressTile p (tileOf m t)));
-    changes = λ m. ap (λ (l : List TileState). withTiles m l) (tiles-swap (pressTile p) (pressTile q) m);
+  running-beside : {c e : Call} (p : RunningChange t c) (q : RunningChange u e) → Beside (runningForm p) (runningForm q)
+  running-beside p q = record {
+    tests-first = λ m. running-tests p m (runningChanged q m) refl (first-tile m (runningTile q (tileOf m u)));
+    tests-second = λ m. running-tests q m (runningChanged p m) refl (second-tile m (runningTile p (tileOf m t)));
+    changes = λ m. ap (λ (l : List TileState). withTiles m l) (tiles-swap (runningTile p) (runningTile q) m);
   }
 
   members-same : (m : Model) (x : TileState) → membersOf (withTile m u x) t ≡ membersOf m t
@@ -80,62 +80,62 @@ module _ (t u : ℕ) (n : t ≢ u) where
   book-canister (placed b) m x = refl
   book-canister (unplaced number) m x = ap (λ (l : List Canister). at number (placeA (m .settings) l) (placeB (m .settings) l)) (members-same m x)
 
-  book-beside : {c e : Call} (p : Books t c) (h : Typed c) (q : Presses u e) → Beside (bookForm p h) (pressForm q)
+  book-beside : {c e : Call} (p : Books t c) (h : InRange c) (q : RunningChange u e) → Beside (bookForm p h) (runningForm q)
   unfolding booked
   book-beside p h q = record {
-    tests-first = λ m. book-tests p m (pressTile q (tileOf m u));
-    tests-second = λ m. press-tests q m (booked m t (canisterOf p m)) refl (second-tile m (withMembers (tileOf m t) (insert (canisterOf p m) (membersOf m t))));
+    tests-first = λ m. book-tests p m (runningTile q (tileOf m u));
+    tests-second = λ m. running-tests q m (booked m t (canisterOf p m)) refl (second-tile m (withMembers (tileOf m t) (insert (canisterOf p m) (membersOf m t))));
     changes = λ m.
         let b = canisterOf p m in
-        ap (λ (c : Canister). booked (pressed q m) t c) (book-canister p m (pressTile q (tileOf m u)))
-        ∙ ap (λ (l : List TileState). withCounters (withTiles m l) (withBooking (m .counters) (b .number))) (tiles-swap (λ x. withMembers x (insert b (x .members))) (pressTile q) m);
+        ap (λ (c : Canister). booked (runningChanged q m) t c) (book-canister p m (runningTile q (tileOf m u)))
+        ∙ ap (λ (l : List TileState). withCounters (withTiles m l) (withBooking (m .counters) (b .number))) (tiles-swap (λ x. withMembers x (insert b (x .members))) (runningTile q) m);
   }
 
 -- ---- what they say beside their refusal numbers
--- a press says no more
-said-press : {t : ℕ} {c : Call} → Presses t c → (f : Floor) → said f c ≡ (outcome f c .refusal, (0, 0), zeroReport, [])
+-- a stop or repair says no more
+reply-running : {t : ℕ} {c : Call} → RunningChange t c → (f : Floor) → reply f c ≡ (outcome f c .refusal, (0, 0), zeroReport, [])
 unfolding placeTo reportTo listTo
-said-press stops f = refl
-said-press repairs f = refl
+reply-running stops f = refl
+reply-running repairs f = refl
 
-press-says : {t : ℕ} {c : Call} → Presses t c → (f g : Floor) → outcome g c .refusal ≡ outcome f c .refusal → said g c ≡ said f c
-press-says p f g e = said-press p g ∙ ap (λ (n : ℕ). (n, (0, 0), zeroReport, [])) e ∙ sym (said-press p f)
+running-reply : {t : ℕ} {c : Call} → RunningChange t c → (f g : Floor) → outcome g c .refusal ≡ outcome f c .refusal → reply g c ≡ reply f c
+running-reply p f g e = reply-running p g ∙ ap (λ (n : ℕ). (n, (0, 0), zeroReport, [])) e ∙ sym (reply-running p f)
 
 -- a booking tells its place: the canister's, if it is accepted
-toldFrom : {t : ℕ} {c : Call} → Books t c → ℕ → Model → Said
-toldFrom (placed b) n m = (n, (0, 0), zeroReport, [])
-toldFrom {t} (unplaced number) n m = (n, (cond (eqb n 0) (placedAt m t number .a) 0, cond (eqb n 0) (placedAt m t number .b) 0), zeroReport, [])
+replyFrom : {t : ℕ} {c : Call} → Books t c → ℕ → Model → Reply
+replyFrom (placed b) n m = (n, (0, 0), zeroReport, [])
+replyFrom {t} (unplaced number) n m = (n, (cond (eqb n 0) (placedAt m t number .a) 0, cond (eqb n 0) (placedAt m t number .b) 0), zeroReport, [])
 
-said-book : {t : ℕ} {c : Call} (p : Books t c) (f : Floor) → said f c ≡ toldFrom p (outcome f c .refusal) (view f)
-unfolding outcome anywhereAnswer answer placeTo reportTo listTo toldFrom
-said-book (placed b) f = refl
-said-book (unplaced number) f = refl
+reply-book : {t : ℕ} {c : Call} (p : Books t c) (f : Floor) → reply f c ≡ replyFrom p (outcome f c .refusal) (view f)
+unfolding outcome anywhereAnswer answer placeTo reportTo listTo replyFrom
+reply-book (placed b) f = refl
+reply-book (unplaced number) f = refl
 
-told-same : {t : ℕ} {c : Call} (p : Books t c) (i : ℕ) (m n : Model) → canisterOf p m ≡ canisterOf p n → toldFrom p i m ≡ toldFrom p i n
-unfolding toldFrom
-told-same (placed b) i m n e = refl
-told-same (unplaced number) i m n e = ap (λ (x : Canister). (i, (cond (eqb i 0) (x .a) 0, cond (eqb i 0) (x .b) 0), zeroReport, [])) e
+reply-same : {t : ℕ} {c : Call} (p : Books t c) (i : ℕ) (m n : Model) → canisterOf p m ≡ canisterOf p n → replyFrom p i m ≡ replyFrom p i n
+unfolding replyFrom
+reply-same (placed b) i m n e = refl
+reply-same (unplaced number) i m n e = ap (λ (x : Canister). (i, (cond (eqb i 0) (x .a) 0, cond (eqb i 0) (x .b) 0), zeroReport, [])) e
 
--- after a press of another tile it says the same
-book-says : {t u : ℕ} → t ≢ u → {c e : Call} (p : Books t c) (q : Presses u e) (f : Floor) → outcome (outcome f e .floor) c .refusal ≡ outcome f c .refusal → said (outcome f e .floor) c ≡ said f c
-book-says {t} {u} n {c} {e} p q f k =
-    said-book p (outcome f e .floor) ∙ ap (λ (i : ℕ). toldFrom p i (view (outcome f e .floor))) k
-    ∙ ap (λ (g : Floor). toldFrom p (outcome f c .refusal) (view g)) (press-answers q .floor f)
+-- after a stop or repair of another tile it says the same
+book-reply : {t u : ℕ} → t ≢ u → {c e : Call} (p : Books t c) (q : RunningChange u e) (f : Floor) → outcome (outcome f e .floor) c .refusal ≡ outcome f c .refusal → reply (outcome f e .floor) c ≡ reply f c
+book-reply {t} {u} n {c} {e} p q f k =
+    reply-book p (outcome f e .floor) ∙ ap (λ (i : ℕ). replyFrom p i (view (outcome f e .floor))) k
+    ∙ ap (λ (g : Floor). replyFrom p (outcome f c .refusal) (view g)) (running-answers q .floor f)
     ∙ go (wellFormed f) refl
-    ∙ sym (said-book p f)
+    ∙ sym (reply-book p f)
   where
-    alike : (m : Model) → toldFrom p (outcome f c .refusal) (pressed q m) ≡ toldFrom p (outcome f c .refusal) m
-    alike m = told-same p (outcome f c .refusal) (pressed q m) m (book-canister t u n p m (pressTile q (tileOf m u)))
+    alike : (m : Model) → replyFrom p (outcome f c .refusal) (runningChanged q m) ≡ replyFrom p (outcome f c .refusal) m
+    alike m = reply-same p (outcome f c .refusal) (runningChanged q m) m (book-canister t u n p m (runningTile q (tileOf m u)))
 
-    go : (b : Bool) → wellFormed f ≡ b → toldFrom p (outcome f c .refusal) (view (floorBy (pressForm q) f)) ≡ toldFrom p (outcome f c .refusal) (view f)
-    go false w = ap (λ (g : Floor). toldFrom p (outcome f c .refusal) (view g)) (floor-bad (pressForm q) f w)
+    go : (b : Bool) → wellFormed f ≡ b → replyFrom p (outcome f c .refusal) (view (floorBy (runningForm q) f)) ≡ replyFrom p (outcome f c .refusal) (view f)
+    go false w = ap (λ (g : Floor). replyFrom p (outcome f c .refusal) (view g)) (floor-bad (runningForm q) f w)
     go true w =
-        by-form (pressForm q) f w (λ b. toldFrom p (outcome f c .refusal) (view (cond b (pack (pressed q (view f))) f)) ≡ toldFrom p (outcome f c .refusal) (view f))
-        (λ A. ap (toldFrom p (outcome f c .refusal)) (new-view (pressForm q) f w A) ∙ alike (view f)) refl
+        by-form (runningForm q) f w (λ b. replyFrom p (outcome f c .refusal) (view (cond b (pack (runningChanged q (view f))) f)) ≡ replyFrom p (outcome f c .refusal) (view f))
+        (λ A. ap (replyFrom p (outcome f c .refusal)) (new-view (runningForm q) f w A) ∙ alike (view f)) refl
 
 by-forms : (f : Floor) {c e : Call} (F G : Form) → Answers c F → Answers e G → Beside F G
-    → (outcome (outcome f e .floor) c .refusal ≡ outcome f c .refusal → said (outcome f e .floor) c ≡ said f c)
-    → (outcome (outcome f c .floor) e .refusal ≡ outcome f e .refusal → said (outcome f c .floor) e ≡ said f e) → EitherOrder f c e
+    → (outcome (outcome f e .floor) c .refusal ≡ outcome f c .refusal → reply (outcome f e .floor) c ≡ reply f c)
+    → (outcome (outcome f c .floor) e .refusal ≡ outcome f e .refusal → reply (outcome f c .floor) e ≡ reply f e) → EitherOrder f c e
 unfolding floorAfter
 by-forms f {c} {e} F G A B S says says′ = record {
   same-floor = B .floor (outcome f c .floor) ∙ ap (floorBy G) (A .floor f) ∙ floor-same F G S f ∙ sym (ap (floorBy F) (B .floor f)) ∙ sym (A .floor (outcome f e .floor));
@@ -143,35 +143,35 @@ by-forms f {c} {e} F G A B S says says′ = record {
   second-answer = says′ (B .number (outcome f c .floor) ∙ ap (numberBy G) (A .floor f) ∙ number-second F G S f ∙ sym (B .number f));
 }
 
--- a booking and a press of another tile
-book-order : {t u : ℕ} {c e : Call} (f : Floor) → t ≢ u → Books t c → Typed c → Presses u e → EitherOrder f c e
-book-order {t} {u} {c} {e} f n p h q = by-forms f (bookForm p h) (pressForm q) (book-answers p h) (press-answers q) (book-beside t u n p h q) (book-says n p q f) (press-says q f (outcome f c .floor))
+-- a booking and a stop or repair of another tile
+book-order : {t u : ℕ} {c e : Call} (f : Floor) → t ≢ u → Books t c → InRange c → RunningChange u e → EitherOrder f c e
+book-order {t} {u} {c} {e} f n p h q = by-forms f (bookForm p h) (runningForm q) (book-answers p h) (running-answers q) (book-beside t u n p h q) (book-reply n p q f) (running-reply q f (outcome f c .floor))
 
--- ---- a list of bookings and a press of a tile on which it books nothing: booking by booking
-module _ (u : ℕ) (e : Call) (q : Presses u e) where
+-- ---- a list of bookings and a stop or repair of a tile on which it books nothing: booking by booking
+module _ (u : ℕ) (e : Call) (q : RunningChange u e) where
   entry-order : (f : Floor) (b : Booking) → b .tile ≢ u → b .canister .number < 2 ^ 32 → EitherOrder f (book (b .tile) (b .canister)) e
   entry-order f b n h = book-order f n (placed (b .canister)) h q
 
-  list-floor : (f : Floor) (l : List Booking) → All (λ b. b .tile ≢ u) l → Typed (list l) → outcome (floorSingly f l) e .floor ≡ floorSingly (outcome f e .floor) l
+  list-floor : (f : Floor) (l : List Booking) → All (λ b. b .tile ≢ u) l → InRange (list l) → outcome (floorSingly f l) e .floor ≡ floorSingly (outcome f e .floor) l
   unfolding floorSingly floorAfter outcome
   list-floor f [] n h = refl
   list-floor f (b ∷ l) n h = list-floor (single f b .floor) l (n .1) (h .1) ∙ ap (λ (g : Floor). floorSingly g l) (entry-order f b (n .0) (h .0) .same-floor)
 
-  list-entries : (f : Floor) (l : List Booking) → All (λ b. b .tile ≢ u) l → Typed (list l) → entriesSingly (outcome f e .floor) l ≡ entriesSingly f l
+  list-entries : (f : Floor) (l : List Booking) → All (λ b. b .tile ≢ u) l → InRange (list l) → entriesSingly (outcome f e .floor) l ≡ entriesSingly f l
   unfolding entriesSingly floorAfter outcome
   list-entries f [] n h = refl
   list-entries f (b ∷ l) n h =
       let E = entry-order f b (n .0) (h .0) in
-      let a : single (outcome f e .floor) b .refusal ≡ single f b .refusal = ap (λ (y : Said). y .0) (E .first-answer) in
+      let a : single (outcome f e .floor) b .refusal ≡ single f b .refusal = ap (λ (y : Reply). y .0) (E .first-answer) in
       let r = ap (λ (g : Floor). entriesSingly g l) (sym (E .same-floor)) ∙ list-entries (single f b .floor) l (n .1) (h .1) in
       (λ i. answered b (a i) ∷ r i)
 
-  list-said : (f : Floor) (l : List Booking) → All (λ b. b .tile ≢ u) l → Typed (list l) → said (floorSingly f l) e ≡ said f e
+  list-reply : (f : Floor) (l : List Booking) → All (λ b. b .tile ≢ u) l → InRange (list l) → reply (floorSingly f l) e ≡ reply f e
   unfolding floorSingly outcome
-  list-said f [] n h = refl
-  list-said f (b ∷ l) n h = list-said (single f b .floor) l (n .1) (h .1) ∙ entry-order f b (n .0) (h .0) .second-answer
+  list-reply f [] n h = refl
+  list-reply f (b ∷ l) n h = list-reply (single f b .floor) l (n .1) (h .1) ∙ entry-order f b (n .0) (h .0) .second-answer
 
-  list-order : (f : Floor) (l : List Booking) → All (λ b. b .tile ≢ u) l → Typed (list l) → EitherOrder f (list l) e
+  list-order : (f : Floor) (l : List Booking) → All (λ b. b .tile ≢ u) l → InRange (list l) → EitherOrder f (list l) e
   unfolding floorAfter outcome listAnswer listTo listAfter placeTo reportTo
   list-order f l n h = record {
     same-floor = go-floor (tooLong (length l));
@@ -186,27 +186,27 @@ module _ (u : ℕ) (e : Call) (q : Presses u e) where
       go-floor true = refl
       go-floor false = list-floor f l n h
 
-      go-first : (x : Bool) → _≡_ {A = Said} (cond x 42 0, (0, 0), zeroReport, cond x l (entriesSingly g l)) (cond x 42 0, (0, 0), zeroReport, cond x l (entriesSingly f l))
+      go-first : (x : Bool) → _≡_ {A = Reply} (cond x 42 0, (0, 0), zeroReport, cond x l (entriesSingly g l)) (cond x 42 0, (0, 0), zeroReport, cond x l (entriesSingly f l))
       go-first true = refl
       go-first false = ap (λ (k : List Booking). (0, (0, 0), zeroReport, k)) (list-entries f l n h)
 
-      go-second : (x : Bool) → said (cond x f (floorSingly f l)) e ≡ said f e
+      go-second : (x : Bool) → reply (cond x f (floorSingly f l)) e ≡ reply f e
       go-second true = refl
-      go-second false = list-said f l n h
+      go-second false = list-reply f l n h
 
 either-order : (f : Floor) (c e : Call) → Exchangeable c e → EitherOrder f c e
-either-order f c e (presses {t} {u} n p q) = by-forms f (pressForm p) (pressForm q) (press-answers p) (press-answers q) (press-beside t u n p q) (press-says p f (outcome f e .floor)) (press-says q f (outcome f c .floor))
+either-order f c e (runningChanges {t} {u} n p q) = by-forms f (runningForm p) (runningForm q) (running-answers p) (running-answers q) (running-beside t u n p q) (running-reply p f (outcome f e .floor)) (running-reply q f (outcome f c .floor))
 either-order f c e (booking n p h q) = book-order f n p h q
 either-order f c e (listing {u} {l} n h q) = list-order u e q f l n h
 
 -- ---- anywhere in a list
-said-both : (f : Floor) (before cs : List Call) → saidIn f (before ++ cs) ≡ saidIn f before ++ saidIn (floorAfter f before) cs
-unfolding floorAfter saidIn
-said-both f [] cs = refl
-said-both f (c ∷ before) cs = ap (λ (l : List Said). said f c ∷ l) (said-both (outcome f c .floor) before cs)
+reply-both : (f : Floor) (before cs : List Call) → repliesIn f (before ++ cs) ≡ repliesIn f before ++ repliesIn (floorAfter f before) cs
+unfolding floorAfter repliesIn
+reply-both f [] cs = refl
+reply-both f (c ∷ before) cs = ap (λ (l : List Reply). reply f c ∷ l) (reply-both (outcome f c .floor) before cs)
 
 exchange : (f : Floor) (before : List Call) (c e : Call) (after : List Call) → Exchangeable c e → Exchanged f before c e after
-unfolding floorAfter saidIn
+unfolding floorAfter repliesIn
 exchange f before c e after x =
     let g = floorAfter f before in
     let E = either-order g c e x in
@@ -214,10 +214,10 @@ exchange f before c e after x =
       here = g;
       is-here = refl;
       same-floor = after-both f before (c ∷ e ∷ after) ∙ ap (λ (h : Floor). floorAfter h after) (E .same-floor) ∙ sym (after-both f before (e ∷ c ∷ after));
-      answers = said-both f before (c ∷ e ∷ after) ∙ ap (λ (y : Said). saidIn f before ++ (said g c ∷ y ∷ saidIn (floorAfter g (c ∷ e ∷ [])) after)) (E .second-answer);
-      exchanged = said-both f before (e ∷ c ∷ after)
-          ∙ ap (λ (y : Said). saidIn f before ++ (said g e ∷ y ∷ saidIn (floorAfter g (e ∷ c ∷ [])) after)) (E .first-answer)
-          ∙ ap (λ (h : Floor). saidIn f before ++ (said g e ∷ said g c ∷ saidIn h after)) (sym (E .same-floor));
+      answers = reply-both f before (c ∷ e ∷ after) ∙ ap (λ (y : Reply). repliesIn f before ++ (reply g c ∷ y ∷ repliesIn (floorAfter g (c ∷ e ∷ [])) after)) (E .second-answer);
+      exchanged = reply-both f before (e ∷ c ∷ after)
+          ∙ ap (λ (y : Reply). repliesIn f before ++ (reply g e ∷ y ∷ repliesIn (floorAfter g (e ∷ c ∷ [])) after)) (E .first-answer)
+          ∙ ap (λ (h : Floor). repliesIn f before ++ (reply g e ∷ reply g c ∷ repliesIn h after)) (sym (E .same-floor));
     }
 
 -- ---- stop, repair, stop
@@ -228,10 +228,10 @@ stopped-again x r d n k i = record { running = sym r i; distance = sym d i; next
 
 module _ (t : ℕ) where
   abbrev stopForm : Form
-  stopForm = pressForm {t = t} stops
+  stopForm = runningForm {t = t} stops
 
   abbrev repairForm : Form
-  repairForm = pressForm {t = t} repairs
+  repairForm = runningForm {t = t} repairs
 
   abbrev stopIt : Model → Model
   stopIt m = withTile m t (stopped (tileOf m t))
@@ -248,8 +248,8 @@ module _ (t : ℕ) where
     unfolding stopTests
     on = leb-false (total (view f .settings)) t (A .0)
 
-    first : Went stopForm f (view f)
-    first = went stopForm f (view f) w refl A
+    first : Applied stopForm f (view f)
+    first = applied stopForm f (view f) w refl A
 
     S1 : Sound (stopIt (view f))
     S1 = stop-keeps (view f) (well-sound f w) t A .well
@@ -261,8 +261,8 @@ module _ (t : ℕ) where
     unfolding repairTests stopTests stopped
     A2 = (A .0, (ap (λ (x : TileState). runs x) at1, tt))
 
-    second : Went repairForm (floorBy stopForm f) (stopIt (view f))
-    second = went repairForm (floorBy stopForm f) (stopIt (view f)) (first .well) (first .sees) A2
+    second : Applied repairForm (floorBy stopForm f) (stopIt (view f))
+    second = applied repairForm (floorBy stopForm f) (stopIt (view f)) (first .well) (first .sees) A2
 
     at2 : tileOf (repairIt (stopIt (view f))) t ≡ repaired (stopped (tileOf (view f) t))
     at2 = put-at (stopIt (view f)) S1 on (repaired (tileOf (stopIt (view f)) t)) ∙ ap repaired at1
@@ -271,8 +271,8 @@ module _ (t : ℕ) where
     unfolding stopTests repaired
     A3 = (A .0, (A .1 .0, (ap (λ (x : TileState). not (runs x)) at2, tt)))
 
-    third : Went stopForm (floorBy repairForm (floorBy stopForm f)) (repairIt (stopIt (view f)))
-    third = went stopForm (floorBy repairForm (floorBy stopForm f)) (repairIt (stopIt (view f))) (second .well) (second .sees) A3
+    third : Applied stopForm (floorBy repairForm (floorBy stopForm f)) (repairIt (stopIt (view f)))
+    third = applied stopForm (floorBy repairForm (floorBy stopForm f)) (repairIt (stopIt (view f))) (second .well) (second .sees) A3
 
     same-value : stopIt (repairIt (stopIt (view f))) ≡ stopIt (view f)
     unfolding stopped repaired
@@ -305,8 +305,8 @@ module _ (t : ℕ) where
         go (inr h) = h
         go (inl h) = not-both (well-sound f w .hopper-runs t h) still
 
-    one : Went repairForm f (view f)
-    one = went repairForm f (view f) w refl A
+    one : Applied repairForm f (view f)
+    one = applied repairForm f (view f) w refl A
 
     at-one : tileOf (repairIt (view f)) t ≡ repaired (tileOf (view f) t)
     at-one = put-at (view f) (well-sound f w) repair-on (repaired (tileOf (view f) t))
@@ -315,8 +315,8 @@ module _ (t : ℕ) where
     unfolding stopTests repairTests repaired
     B2 = (A .0, (no-hopper, (ap (λ (x : TileState). not (runs x)) at-one, tt)))
 
-    two : Went stopForm (floorBy repairForm f) (repairIt (view f))
-    two = went stopForm (floorBy repairForm f) (repairIt (view f)) (one .well) (one .sees) B2
+    two : Applied stopForm (floorBy repairForm f) (repairIt (view f))
+    two = applied stopForm (floorBy repairForm f) (repairIt (view f)) (one .well) (one .sees) B2
 
     same-tile : stopped (repaired (tileOf (view f) t)) ≡ tileOf (view f) t
     same-tile = let S = well-sound f w in stopped-again (tileOf (view f) t) (zero-flag (S .flag t)) (S .stop-distance t still) (S .stop-next t still) (S .stop-token t still)
@@ -365,12 +365,12 @@ unfolding numberOf placedAt
 number-is (placed b) m = refl
 number-is (unplaced number) m = refl
 
-number-fits : {t : ℕ} {c : Call} (p : Books t c) → Typed c → numberOf p < 2 ^ 32
+number-fits : {t : ℕ} {c : Call} (p : Books t c) → InRange c → numberOf p < 2 ^ 32
 unfolding numberOf
 number-fits (placed b) h = h
 number-fits (unplaced number) h = h
 
-fits-number : {t : ℕ} {c : Call} (p : Books t c) → numberOf p < 2 ^ 32 → Typed c
+fits-number : {t : ℕ} {c : Call} (p : Books t c) → numberOf p < 2 ^ 32 → InRange c
 unfolding numberOf
 fits-number (placed b) h = h
 fits-number (unplaced number) h = h
@@ -394,14 +394,14 @@ rises : (f : Floor) {t u : ℕ} {c e : Call} (p : Books t c) (q : Books u e) →
 rises f {c = c} p q h = omega (arith, book-last f p (h .0), book-above (outcome f c .floor) q (h .1))
 
 -- in the other order
-module _ (f : Floor) (t u : ℕ) (c e : Call) (p : Books t c) (q : Books u e) (he : Typed e) (h : BothBooked f c e) where
+module _ (f : Floor) (t u : ℕ) (c e : Call) (p : Books t c) (q : Books u e) (he : InRange e) (h : BothBooked f c e) where
   w : wellFormed f ≡ true
   w = book-passed f p (h .0) .0
 
   S : Sound (view f)
   S = well-sound f w
 
-  hc : Typed c
+  hc : InRange c
   hc = fits-number p (omega (arith, rises f p q h, number-fits q he))
 
   abbrev b : Canister
@@ -414,7 +414,7 @@ module _ (f : Floor) (t u : ℕ) (c e : Call) (p : Books t c) (q : Books u e) (h
   Ab = booking-accepts p (view f) Ap
 
   sees-b : view (outcome f c .floor) ≡ booked (view f) t b
-  sees-b = ap view (book-answers p hc .floor f) ∙ went (bookForm p hc) f (view f) w refl Ap .sees
+  sees-b = ap view (book-answers p hc .floor f) ∙ applied (bookForm p hc) f (view f) w refl Ap .sees
 
   -- what the second adds after the first
   abbrev d : Canister
@@ -473,8 +473,8 @@ module _ (f : Floor) (t u : ℕ) (c e : Call) (p : Books t c) (q : Books u e) (h
   abbrev x : Canister
   x = canisterOf q (view f)
 
-  q-first : Went (bookForm q he) f (view f)
-  q-first = went (bookForm q he) f (view f) w refl Aq
+  q-first : Applied (bookForm q he) f (view f)
+  q-first = applied (bookForm q he) f (view f) w refl Aq
 
   refused-33 : refusal (bookTestsOf p (booked (view f) u x)) ≡ 33
   unfolding refusal bookTests anywhereTests booked numberOf
@@ -503,9 +503,9 @@ module _ (f : Floor) (t u : ℕ) (c e : Call) (p : Books t c) (q : Books u e) (h
       )
 
 -- ---- the theorem, of every floor
-pub two-phones : Together
+pub commuting-calls : CommutingCalls
 unfolding floorAfter outcome stopAnswer repairAnswer answer stopTests view
-two-phones f = record {
+commuting-calls f = record {
   either = either-order f;
   in-lists = exchange f;
   again = λ t. stop-again t f;

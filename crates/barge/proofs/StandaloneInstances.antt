@@ -17,18 +17,18 @@ use Rattle.floor.specs.Memory.{zeroFloor}
 use Rattle.floor.specs.Calls.{zeroReport, reportOf}
 use Rattle.floor.specs.Anywhere.{anywhereAnswer}
 use Rattle.floor.specs.Reports.{listedAt}
-use Rattle.floor.specs.Demand3 as Lone
-use Rattle.floor.specs.Together.{placeTo}
+use Rattle.floor.specs.Demand3 as OneFloor
+use Rattle.floor.specs.CommutingCalls.{placeTo}
 use Rattle.floor.proofs.Calling.{can, holds}
-use Rattle.floor.proofs.Shown.{Shows, refusalBy, placeBy, shows-refusal, shows-place, shows-report}
-use Rattle.floor.proofs.Made.{Made, begun, book as put, rounds as run, floorOf, made, made-shows, holdBy}
+use Rattle.floor.proofs.CallsByValue.{Shows, refusalBy, placeBy, shows-refusal, shows-place, shows-report}
+use Rattle.floor.proofs.TablesByValue.{Made, begun, book as put, rounds as run, floorOf, made, made-shows, holdBy}
 use Rattle.floor.proofs.AnywhereSamples.{small}
 use Rattle.barge.specs.declared.Barge.{Barge}
 use Rattle.barge.specs.Barges.{floorAt, withFloor, onFloor, aboard, allowanceSound, bargeSound, bargeRound}
-use Rattle.barge.specs.Lists.{BargeCall, book, anywhere, stop, repair, round, named, outcome, alone, books, Told, nothing, place, report, told, toldAlone, toldZeros, AsAlone}
+use Rattle.barge.specs.Lists.{BargeCall, book, anywhere, stop, repair, round, named, outcome, standaloneOutcome, books, Payload, nothing, place, report, payload, standalonePayload, zeroPayload, AsStandalone}
 use Rattle.barge.proofs.Samples.{four}
 use Rattle.barge.proofs.Answers.{others}
-use Rattle.barge.proofs.Alone.{as-alone, refused}
+use Rattle.barge.proofs.Standalone.{as-standalone, refused}
 
 -- ---- the floors. W 5, hoppers 0 and 4; U 9, l 3, r 1: places 0 to 6, d 4
 unfoldable pub twoEnds : Settings
@@ -84,24 +84,24 @@ pub sizes : (allowanceSound 5 ≡ true) × ((allowanceSound 4 ≡ true) × ((all
 unfolding allowanceSound
 sizes = (refl, (refl, (refl, refl)))
 
--- ---- `as-alone` with one left of the allowance, at it, and above it
-below : (c : BargeCall) → named c < 4 → AsAlone (loaded 5) c
-below c l = as-alone (loaded 5) (loaded-sound 5 (sizes .0)) c l
+-- ---- `as-standalone` with one left of the allowance, at it, and above it
+below : (c : BargeCall) → named c < 4 → AsStandalone (loaded 5) c
+below c l = as-standalone (loaded 5) (loaded-sound 5 (sizes .0)) c l
 
-full : (c : BargeCall) → named c < 4 → AsAlone (loaded 4) c
-full c l = as-alone (loaded 4) (loaded-sound 4 (sizes .1 .0)) c l
+full : (c : BargeCall) → named c < 4 → AsStandalone (loaded 4) c
+full c l = as-standalone (loaded 4) (loaded-sound 4 (sizes .1 .0)) c l
 
-above : (c : BargeCall) → named c < 4 → AsAlone (loaded 3) c
-above c l = as-alone (loaded 3) (loaded-sound 3 (sizes .1 .1 .0)) c l
+above : (c : BargeCall) → named c < 4 → AsStandalone (loaded 3) c
+above c l = as-standalone (loaded 3) (loaded-sound 3 (sizes .1 .1 .0)) c l
 
 -- what the lone floor answers
-alone-test : (refusalBy (made laden .1) (Lone.stop 0) ≡ 8) × ((refusalBy (made laden .1) (Lone.repair 1) ≡ 32) × ((refusalBy (made laden .1) (Lone.book 2 (can 5 4 0)) ≡ 33)
-    × ((refusalBy (made laden .1) (Lone.book 2 (can 7 4 0)) ≡ 0) × ((refusalBy (made laden .1) (Lone.anywhere 2 7) ≡ 0) × (placeBy (made laden .1) (Lone.anywhere 2 7) ≡ (4, 0))))))
+standalone-test : (refusalBy (made laden .1) (OneFloor.stop 0) ≡ 8) × ((refusalBy (made laden .1) (OneFloor.repair 1) ≡ 32) × ((refusalBy (made laden .1) (OneFloor.book 2 (can 5 4 0)) ≡ 33)
+    × ((refusalBy (made laden .1) (OneFloor.book 2 (can 7 4 0)) ≡ 0) × ((refusalBy (made laden .1) (OneFloor.anywhere 2 7) ≡ 0) × (placeBy (made laden .1) (OneFloor.anywhere 2 7) ≡ (4, 0))))))
 unfolding holds holdBy twoEnds laden can
-alone-test = (refl, (refl, (refl, (refl, (refl, refl)))))
+standalone-test = (refl, (refl, (refl, (refl, (refl, refl)))))
 
-lone-answer : (c : Lone.Call) (n : ℕ) → refusalBy (made laden .1) c ≡ n → Lone.outcome (floorOf laden) c .refusal ≡ n
-lone-answer c n e = shows-refusal (floorOf laden) (made laden .1) laden-shows c ∙ e
+standalone-answer : (c : OneFloor.Call) (n : ℕ) → refusalBy (made laden .1) c ≡ n → OneFloor.outcome (floorOf laden) c .refusal ≡ n
+standalone-answer c n e = shows-refusal (floorOf laden) (made laden .1) laden-shows c ∙ e
 
 -- over, from the left: one is left, so 50 is not answered; 50 is never answered to a stop, a repair or a round
 not-50 : (c : BargeCall) → named c < 4 → outcome (loaded 5) c .refusal ≢ 50
@@ -111,68 +111,68 @@ not-50 c l e = absurd (omega (arith, below c l .over .0 e .2, loaded-four 5))
 not-booked : (c : BargeCall) → named c < 4 → books c ≡ false → outcome (loaded 4) c .refusal ≢ 50
 not-booked c l h e = true≢false (sym (full c l .over .0 e .0) ∙ h)
 
-lone-33 : outcome (loaded 4) (book 3 2 (can 5 4 0)) .refusal ≢ 50
+standalone-33 : outcome (loaded 4) (book 3 2 (can 5 4 0)) .refusal ≢ 50
 unfolding four loaded
-lone-33 e = absurd (omega (arith, full (book 3 2 (can 5 4 0)) (omega arith) .over .0 e .1, lone-answer (Lone.book 2 (can 5 4 0)) 33 (alone-test .1 .1 .0)))
+standalone-33 e = absurd (omega (arith, full (book 3 2 (can 5 4 0)) (omega arith) .over .0 e .1, standalone-answer (OneFloor.book 2 (can 5 4 0)) 33 (standalone-test .1 .1 .0)))
 
 -- over, from the right: at the allowance, and above it, a booking of either sort
 over-book : outcome (loaded 4) (book 3 2 (can 7 4 0)) .refusal ≡ 50
 unfolding four loaded
-over-book = full (book 3 2 (can 7 4 0)) (omega arith) .over .1 (refl, lone-answer (Lone.book 2 (can 7 4 0)) 0 (alone-test .1 .1 .1 .0), omega (arith, loaded-four 4))
+over-book = full (book 3 2 (can 7 4 0)) (omega arith) .over .1 (refl, standalone-answer (OneFloor.book 2 (can 7 4 0)) 0 (standalone-test .1 .1 .1 .0), omega (arith, loaded-four 4))
 
 over-anywhere : (outcome (loaded 4) (anywhere 3 2 7) .refusal ≡ 50) × (outcome (loaded 3) (anywhere 3 2 7) .refusal ≡ 50)
 unfolding four loaded
 over-anywhere =
-    let own = lone-answer (Lone.anywhere 2 7) 0 (alone-test .1 .1 .1 .1 .0) in
+    let own = standalone-answer (OneFloor.anywhere 2 7) 0 (standalone-test .1 .1 .1 .1 .0) in
     (full (anywhere 3 2 7) (omega arith) .over .1 (refl, own, omega (arith, loaded-four 4)), above (anywhere 3 2 7) (omega arith) .over .1 (refl, own, omega (arith, loaded-four 3)))
 
 -- ---- each field for every call on the barge with one left, and what it is for some calls on floor 3
-every-refusal : (c : BargeCall) → named c < 4 → outcome (loaded 5) c .refusal ≡ alone (loaded 5) c .refusal
+every-refusal : (c : BargeCall) → named c < 4 → outcome (loaded 5) c .refusal ≡ standaloneOutcome (loaded 5) c .refusal
 every-refusal c l = below c l .refusal (not-50 c l)
 
-every-floor : (c : BargeCall) → named c < 4 → floorAt (outcome (loaded 5) c .barge) (named c) ≡ alone (loaded 5) c .floor
+every-floor : (c : BargeCall) → named c < 4 → floorAt (outcome (loaded 5) c .barge) (named c) ≡ standaloneOutcome (loaded 5) c .floor
 every-floor c l = below c l .floor (not-50 c l)
 
-every-booked : (c : BargeCall) → named c < 4 → outcome (loaded 5) c .booked ≡ alone (loaded 5) c .booked
+every-booked : (c : BargeCall) → named c < 4 → outcome (loaded 5) c .booked ≡ standaloneOutcome (loaded 5) c .booked
 every-booked c l = below c l .booked (not-50 c l)
 
-every-reported : (c : BargeCall) → named c < 4 → (k : ℕ) → outcome (loaded 5) c .reported k ≡ alone (loaded 5) c .reported k
+every-reported : (c : BargeCall) → named c < 4 → (k : ℕ) → outcome (loaded 5) c .reported k ≡ standaloneOutcome (loaded 5) c .reported k
 every-reported c l k = ap (λ (g : ℕ → List ℕ). g k) (below c l .reported (not-50 c l))
 
-every-told : (c : BargeCall) → named c < 4 → told (loaded 5) c ≡ toldAlone (floorAt (loaded 5) (named c)) c
-every-told c l = below c l .tells (not-50 c l)
+every-payload : (c : BargeCall) → named c < 4 → payload (loaded 5) c ≡ standalonePayload (floorAt (loaded 5) (named c)) c
+every-payload c l = below c l .same-payload (not-50 c l)
 
-every-barge : (c : BargeCall) → named c < 4 → outcome (loaded 5) c .refusal ≡ 0 → outcome (loaded 5) c .barge ≡ withFloor (loaded 5) (named c) (alone (loaded 5) c .floor)
+every-barge : (c : BargeCall) → named c < 4 → outcome (loaded 5) c .refusal ≡ 0 → outcome (loaded 5) c .barge ≡ withFloor (loaded 5) (named c) (standaloneOutcome (loaded 5) c .floor)
 every-barge c l z = below c l .barge z
 
 -- refusal: that of the lone floor, at the allowance too
 stop-8 : (outcome (loaded 5) (stop 3 0) .refusal ≡ 8) × (outcome (loaded 4) (stop 3 0) .refusal ≡ 8)
 unfolding four loaded
 stop-8 =
-    let own = lone-answer (Lone.stop 0) 8 (alone-test .0) in
+    let own = standalone-answer (OneFloor.stop 0) 8 (standalone-test .0) in
     (every-refusal (stop 3 0) (omega arith) ∙ own, full (stop 3 0) (omega arith) .refusal (not-booked (stop 3 0) (omega arith) refl) ∙ own)
 
 repair-32 : outcome (loaded 5) (repair 3 1) .refusal ≡ 32
 unfolding four loaded
-repair-32 = every-refusal (repair 3 1) (omega arith) ∙ lone-answer (Lone.repair 1) 32 (alone-test .1 .0)
+repair-32 = every-refusal (repair 3 1) (omega arith) ∙ standalone-answer (OneFloor.repair 1) 32 (standalone-test .1 .0)
 
 book-33 : outcome (loaded 4) (book 3 2 (can 5 4 0)) .refusal ≡ 33
 unfolding four loaded
-book-33 = full (book 3 2 (can 5 4 0)) (omega arith) .refusal lone-33 ∙ lone-answer (Lone.book 2 (can 5 4 0)) 33 (alone-test .1 .1 .0)
+book-33 = full (book 3 2 (can 5 4 0)) (omega arith) .refusal standalone-33 ∙ standalone-answer (OneFloor.book 2 (can 5 4 0)) 33 (standalone-test .1 .1 .0)
 
 anywhere-0 : outcome (loaded 5) (anywhere 3 2 7) .refusal ≡ 0
 unfolding four loaded
-anywhere-0 = every-refusal (anywhere 3 2 7) (omega arith) ∙ lone-answer (Lone.anywhere 2 7) 0 (alone-test .1 .1 .1 .1 .0)
+anywhere-0 = every-refusal (anywhere 3 2 7) (omega arith) ∙ standalone-answer (OneFloor.anywhere 2 7) 0 (standalone-test .1 .1 .1 .1 .0)
 
 -- floor: floor 3 afterwards is the lone one's
-round-floor : floorAt (outcome (loaded 5) (round 3) .barge) 3 ≡ Lone.outcome (floorOf laden) Lone.round .floor
+round-floor : floorAt (outcome (loaded 5) (round 3) .barge) 3 ≡ OneFloor.outcome (floorOf laden) OneFloor.round .floor
 unfolding four loaded
 round-floor = every-floor (round 3) (omega arith)
 
 -- booked
 anywhere-booked : outcome (loaded 5) (anywhere 3 2 7) .booked ≡ 7 ∷ []
-unfolding four loaded Lone.outcome
-anywhere-booked = every-booked (anywhere 3 2 7) (omega arith) ∙ rw (lone-answer (Lone.anywhere 2 7) 0 (alone-test .1 .1 .1 .1 .0))
+unfolding four loaded OneFloor.outcome
+anywhere-booked = every-booked (anywhere 3 2 7) (omega arith) ∙ rw (standalone-answer (OneFloor.anywhere 2 7) 0 (standalone-test .1 .1 .1 .1 .0))
 
 -- reported: at the second hopper
 report-test : (listedAt (reportOf (made laden .1)) 1 ≡ 5 ∷ []) × ((getD (reportOf (made laden .1) .grants) 4 0 ≡ 1) × ((getD (reportOf (made laden .1) .reasons) 2 0 ≡ 5) × (getD (reportOf (made laden .1) .missing) 2 0 ≡ 3)))
@@ -180,18 +180,18 @@ unfolding holds holdBy twoEnds laden
 report-test = (refl, (refl, (refl, refl)))
 
 round-reported : outcome (loaded 5) (round 3) .reported 1 ≡ 5 ∷ []
-unfolding four loaded Lone.outcome
+unfolding four loaded OneFloor.outcome
 round-reported = every-reported (round 3) (omega arith) 1 ∙ ap (λ (r : Report). listedAt r 1) (shows-report (floorOf laden) (made laden .1) laden-shows) ∙ report-test .0
 
 -- tells: a round's report, whole, with a grant, a reason, its millimetres and a delivery read off; the place of a booking without a place
-heard : Told → Report
-heard nothing = zeroReport
-heard (place a b) = zeroReport
-heard (report r) = r
+reportIn : Payload → Report
+reportIn nothing = zeroReport
+reportIn (place a b) = zeroReport
+reportIn (report r) = r
 
 round-report : bargeRound (loaded 5) 3 .report ≡ reportOf (made laden .1)
-unfolding four loaded heard
-round-report = ap heard (every-told (round 3) (omega arith)) ∙ shows-report (floorOf laden) (made laden .1) laden-shows
+unfolding four loaded reportIn
+round-report = ap reportIn (every-payload (round 3) (omega arith)) ∙ shows-report (floorOf laden) (made laden .1) laden-shows
 
 round-grants : (getD (bargeRound (loaded 5) 3 .report .grants) 4 0 ≡ 1) × ((getD (bargeRound (loaded 5) 3 .report .reasons) 2 0 ≡ 5) × ((getD (bargeRound (loaded 5) 3 .report .missing) 2 0 ≡ 3) × (listedAt (bargeRound (loaded 5) 3 .report) 1 ≡ 5 ∷ [])))
 round-grants =
@@ -200,26 +200,26 @@ round-grants =
       (ap (λ (r : Report). getD (r .reasons) 2 0) e ∙ report-test .1 .1 .0, (ap (λ (r : Report). getD (r .missing) 2 0) e ∙ report-test .1 .1 .1, ap (λ (r : Report). listedAt r 1) e ∙ report-test .0)),
     )
 
-anywhere-place : told (loaded 5) (anywhere 3 2 7) ≡ place 4 0
+anywhere-place : payload (loaded 5) (anywhere 3 2 7) ≡ place 4 0
 unfolding four loaded placeTo
 anywhere-place =
-    every-told (anywhere 3 2 7) (omega arith)
-    ∙ ap (λ (x : ℕ × ℕ). place (x .0) (x .1)) (shows-place (floorOf laden) (made laden .1) laden-shows (Lone.anywhere 2 7) ∙ alone-test .1 .1 .1 .1 .1)
+    every-payload (anywhere 3 2 7) (omega arith)
+    ∙ ap (λ (x : ℕ × ℕ). place (x .0) (x .1)) (shows-place (floorOf laden) (made laden .1) laden-shows (OneFloor.anywhere 2 7) ∙ standalone-test .1 .1 .1 .1 .1)
 
 -- barge: accepted, it has floor 3 anew and all else as it was
 anywhere-barge : outcome (loaded 5) (anywhere 3 2 7) .barge ≡ withFloor (loaded 5) 3 (anywhereAnswer (floorOf laden) 2 7 .floor)
-unfolding four loaded Lone.outcome
+unfolding four loaded OneFloor.outcome
 anywhere-barge = every-barge (anywhere 3 2 7) (omega arith) anywhere-0
 
 -- ---- `refused`: the barge comes back, zeros are told, nothing is booked or reported
-abbrev Back : Barge → BargeCall → Told → Type 0
-Back b c t = (outcome b c .barge ≡ b) × ((told b c ≡ t) × ((outcome b c .booked ≡ []) × ((k : ℕ) → outcome b c .reported k ≡ [])))
+abbrev Back : Barge → BargeCall → Payload → Type 0
+Back b c t = (outcome b c .barge ≡ b) × ((payload b c ≡ t) × ((outcome b c .booked ≡ []) × ((k : ℕ) → outcome b c .reported k ≡ [])))
 
 -- by any number but 0
-by-number : (b : Barge) (c : BargeCall) (n : ℕ) → outcome b c .refusal ≡ n → eqb n 0 ≡ false → Back b c (toldZeros c)
+by-number : (b : Barge) (c : BargeCall) (n : ℕ) → outcome b c .refusal ≡ n → eqb n 0 ≡ false → Back b c (zeroPayload c)
 by-number b c n e d =
     let G = refused b c .given-back (subst (λ (x : ℕ). x ≢ 0) (sym e) (eqb-false n 0 d)) in
-    (G .barge, (G .tells, (G .booked, λ k. ap (λ (g : ℕ → List ℕ). g k) (G .reported))))
+    (G .barge, (G .same-payload, (G .booked, λ k. ap (λ (g : ℕ → List ℕ). g k) (G .reported))))
 
 back-8 : Back (loaded 5) (stop 3 0) nothing
 back-8 = by-number (loaded 5) (stop 3 0) 8 (stop-8 .0) refl

@@ -57,7 +57,7 @@ fresh-tile s M t = ((own, (inl refl, inl refl)), (tt, tt))
 
 pub fresh-sound : (s : Settings) → Measured s → Sound (freshFloor s)
 unfolding freshFloor freshTile numbersOn sum layoutsSound allOf pairsOf
-fresh-sound s M = sound-of (freshFloor s) M (tab-length (total s) (freshTile s)) (λ t l. subst (SoundTile s t) (sym (tile t l)) (fresh-tile s M t)) counted none-laid
+fresh-sound s M = sound-of (freshFloor s) M (tab-length (total s) (freshTile s)) (λ t l. subst (SoundTile s t) (sym (tile t l)) (fresh-tile s M t)) counted no-layouts
   where
     tile : (t : ℕ) → t < total s → tileOf (freshFloor s) t ≡ freshTile s t
     tile t l = tab-at (total s) (freshTile s) t noTile l
@@ -65,8 +65,8 @@ fresh-sound s M = sound-of (freshFloor s) M (tab-length (total s) (freshTile s))
     none : numbersOn (freshFloor s) ≡ []
     none = cat-empty (total s) (λ t. numbers (membersOf (freshFloor s) t)) (λ t l. ap (λ (x : TileState). numbers (x .members)) (tile t l))
 
-    none-laid : layoutsSound s [] ≡ true
-    none-laid = refl
+    no-layouts : layoutsSound s [] ≡ true
+    no-layouts = refl
 
     counted : Counted (freshFloor s)
     counted = rw none ((tt, tt), (refl, (λ k _. zeros-at 0 4 k, omega arith)))

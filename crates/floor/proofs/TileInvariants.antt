@@ -19,11 +19,11 @@ use Rattle.floor.specs.Memory.{view, pack}
 use Rattle.floor.specs.Well.{wellFormed}
 use Rattle.floor.specs.Move.{insert}
 use Rattle.floor.specs.Calls.{bookTests, booked, stopTests, stopped, repairTests, repaired, keptUnder, forgotten, recallTile, recalled}
-use Rattle.floor.specs.Demand3.{Call, keep, forget, recall, Typed, outcome}
-use Rattle.floor.specs.Together.{Presses, stops, repairs, Books}
+use Rattle.floor.specs.Demand3.{Call, keep, forget, recall, InRange, outcome}
+use Rattle.floor.specs.CommutingCalls.{RunningChange, stops, repairs, Books}
 use Rattle.floor.proofs.Pack.{well-sound}
 use Rattle.floor.proofs.Calls.{Accepted}
-use Rattle.floor.proofs.Forms.{Form, floorBy, by-form, new-view, pressTests, pressTile, pressForm, press-answers, canisterOf, booking-accepts, bookForm, book-answers, keepForm, keep-answers, forgetForm, forget-answers, recallForm, recall-answers}
+use Rattle.floor.proofs.GuardedCalls.{Form, floorBy, by-form, new-view, runningTests, runningTile, runningForm, running-answers, canisterOf, booking-accepts, bookForm, book-answers, keepForm, keep-answers, forgetForm, forget-answers, recallForm, recall-answers}
 
 module _ (P : TileState → Type 0) (f : Floor) (w : wellFormed f ≡ true) (u t : ℕ) (p : P (tileOf (view f) t)) where
   -- g is what the call makes of tile u
@@ -37,20 +37,20 @@ module _ (P : TileState → Type 0) (f : Floor) (w : wellFormed f ≡ true) (u t
   by-floor : (F : Form) → (Accepted (F .tests (view f)) → P (tileOf (F .change (view f)) t)) → P (tileOf (view (floorBy F f)) t)
   by-floor F q = by-form F f w (λ b. P (tileOf (view (cond b (pack (F .change (view f))) f)) t)) (λ A. subst (λ (m : Model). P (tileOf m t)) (sym (new-view F f w A)) (q A)) p
 
-  pub book-tile : {c : Call} (q : Books u c) → Typed c → ((x : TileState) (l : List Canister) → P x → P (withMembers x l)) → P (tileOf (view (outcome f c .floor)) t)
+  pub book-tile : {c : Call} (q : Books u c) → InRange c → ((x : TileState) (l : List Canister) → P x → P (withMembers x l)) → P (tileOf (view (outcome f c .floor)) t)
   unfolding bookTests booked
   book-tile q h pg =
       let b = canisterOf q (view f) in
       subst (λ (g : Floor). P (tileOf (view g) t)) (sym (book-answers q h .floor f))
       (by-floor (bookForm q h) (λ A. put-tile (λ x. withMembers x (insert b (x .members))) (λ x. pg x (insert b (x .members))) (leb-false (total (view f .settings)) u (booking-accepts q (view f) A .0))))
 
-  press-on : {c : Call} (q : Presses u c) → Accepted (pressTests q (view f)) → u < total (view f .settings)
+  running-on : {c : Call} (q : RunningChange u c) → Accepted (runningTests q (view f)) → u < total (view f .settings)
   unfolding stopTests repairTests
-  press-on stops A = leb-false (total (view f .settings)) u (A .0)
-  press-on repairs A = leb-false (total (view f .settings)) u (A .0)
+  running-on stops A = leb-false (total (view f .settings)) u (A .0)
+  running-on repairs A = leb-false (total (view f .settings)) u (A .0)
 
-  pub press-tile : {c : Call} (q : Presses u c) → ((x : TileState) → P x → P (pressTile q x)) → P (tileOf (view (outcome f c .floor)) t)
-  press-tile q pg = subst (λ (g : Floor). P (tileOf (view g) t)) (sym (press-answers q .floor f)) (by-floor (pressForm q) (λ A. put-tile (pressTile q) pg (press-on q A)))
+  pub running-tile : {c : Call} (q : RunningChange u c) → ((x : TileState) → P x → P (runningTile q x)) → P (tileOf (view (outcome f c .floor)) t)
+  running-tile q pg = subst (λ (g : Floor). P (tileOf (view g) t)) (sym (running-answers q .floor f)) (by-floor (runningForm q) (λ A. put-tile (runningTile q) pg (running-on q A)))
 
 -- keeping, forgetting and recalling, at tile t
 module _ (P : TileState → Type 0) (f : Floor) (w : wellFormed f ≡ true) (t : ℕ) (p : P (tileOf (view f) t)) (name : ℕ) where

@@ -1,4 +1,4 @@
--- Nobody waits twice: while a side of a tile wants in every round, no other side is granted twice before it. The statement is specs/Fairness.
+-- Nobody waits twice: while a side of a tile wants in every round, no other side is granted twice before it. The statement is specs/BoundedBypass.
 use mathlib.Core.Path.{_≡_, refl, sym, ap, _∙_, subst}
 use mathlib.Core.Logic.{_⊎_, inl, inr, _≢_}
 use mathlib.Core.Bool.{Bool, true, false, cond, _&&_, true≢false}
@@ -10,7 +10,7 @@ use lib.Dec.{eqb}
 use lib.ListN.{getD}
 use lib.Seq.{getD-set-same}
 use borrow.Author.Tests.{eqb-true, leb-false}
-use Rattle.laws.specs.Define.{tab, keep, bit}
+use Rattle.laws.specs.Define.{tab, filter, bit}
 use Rattle.laws.specs.Every.{All}
 use Rattle.laws.proofs.Tables.{tab-at, tab-off}
 use Rattle.laws.proofs.Tests.{by-test}
@@ -25,10 +25,10 @@ use Rattle.floor.specs.Memory.{view}
 use Rattle.floor.specs.Well.{wellFormed}
 use Rattle.floor.specs.Route.{route}
 use Rattle.floor.specs.Signal.{Signal, missing, signalBy, grantOf}
-use Rattle.floor.specs.Calls.{stopped, repaired, stopTests, heldTests, recalled, afterRound, reportOf, roundAnswer}
-use Rattle.floor.specs.Demand3.{Call, book, anywhere, stop, repair, round, forget, recall, list, Typed, recallSet, isRound, roundsIn, outcome, floorAfter}
-use Rattle.floor.specs.Fairness.{wants, Waiting, granted, grantsIn, Fair, grantCount, turnOf, NobodyWaits, Fairness}
-use Rattle.floor.specs.Together.{stops, repairs, placed, unplaced}
+use Rattle.floor.specs.Calls.{stopped, repaired, stopTests, nameHeldTests, recalled, afterRound, reportOf, roundAnswer}
+use Rattle.floor.specs.Demand3.{Call, book, anywhere, stop, repair, round, forget, recall, list, InRange, recallSet, isRound, roundsIn, outcome, floorAfter}
+use Rattle.floor.specs.BoundedBypass.{wants, Waiting, granted, grantsIn, Fair, grantCount, turnOf, BypassPromises, BoundedBypass}
+use Rattle.floor.specs.CommutingCalls.{stops, repairs, placed, unplaced}
 use Rattle.floor.proofs.Sound.{Sound}
 use Rattle.floor.proofs.Grid.{each-side, side-pos, opposite-side}
 use Rattle.floor.proofs.Tables.{run-on}
@@ -36,11 +36,11 @@ use Rattle.floor.proofs.Rows.{view-settings}
 use Rattle.floor.proofs.Pack.{well-sound}
 use Rattle.floor.proofs.Grants.{chosen-wants, chosen-some, grant-chosen}
 use Rattle.floor.proofs.Fields.{round-token}
-use Rattle.floor.proofs.Passing.{Wanting, wants-none, wants-side, wants-told, signal-is, granting, arrow-at, back}
+use Rattle.floor.proofs.Passing.{Wanting, wants-none, wants-side, wants-facts, signal-is, granting, arrow-at, back}
 use Rattle.floor.proofs.Stages.{recall-out}
 use Rattle.floor.proofs.Lists.{round-accepted, view-round, through-list, call-keeps}
-use Rattle.floor.proofs.Forms.{accepted, went, press-pos, pressForm, press-answers, held-pos, recallForm, recall-answers}
-use Rattle.floor.proofs.Touching.{book-tile, press-tile, keep-tile, forget-tile, recall-tile}
+use Rattle.floor.proofs.GuardedCalls.{accepted, applied, running-pos, runningForm, running-answers, name-held-pos, recallForm, recall-answers}
+use Rattle.floor.proofs.TileInvariants.{book-tile, running-tile, keep-tile, forget-tile, recall-tile}
 use Rattle.floor.proofs.Tokens.{Nearer, first-grant, next-grant}
 
 -- ---- one round
@@ -50,7 +50,7 @@ Past k j x = (x .distance ≡ 255) ⊎ Nearer k j (x .token)
 
 module _ (m : Model) (S : Sound m) (t k : ℕ) (on : t < total (m .settings)) (h : wants m t k ≡ true) where
   W : Wanting m t k
-  W = wants-told m (S .len) t k h
+  W = wants-facts m (S .len) t k h
 
   -- a tile that an arrow faces has a distance, and runs
   faced : (runsOf m t ≡ true) × (distanceOf m t < 255)
@@ -127,16 +127,16 @@ module _ (f : Floor) (w : wellFormed f ≡ true) (t : ℕ) where
       ∙ grant-chosen (f .settings) (runsOf (view f) t) (tokenOf (view f) t) (membersOf (view f) t) (wants (view f) t) r (wants-none (view f) n t)
 
 -- ---- lists
-on-call : (f : Floor) → wellFormed f ≡ true → (t : ℕ) (c : Call) → Typed c → t < total (view f .settings) → t < total (view (outcome f c .floor) .settings)
+on-call : (f : Floor) → wellFormed f ≡ true → (t : ℕ) (c : Call) → InRange c → t < total (view f .settings) → t < total (view (outcome f c .floor) .settings)
 on-call f w t c h on = omega (arith, ap (λ (s : Settings). total s) (call-keeps f w c h .1 .same-settings))
 
 module _ (t k j : ℕ) (z : j ≢ 0) (n : j ≢ k) where
-  past-call : (f : Floor) → wellFormed f ≡ true → (c : Call) → Typed c → isRound c ≡ false → Past k j (tileOf (view f) t) → Past k j (tileOf (view (outcome f c .floor)) t)
+  past-call : (f : Floor) → wellFormed f ≡ true → (c : Call) → InRange c → isRound c ≡ false → Past k j (tileOf (view f) t) → Past k j (tileOf (view (outcome f c .floor)) t)
   unfolding stopped repaired
   past-call f w (book u b) h r p = book-tile (Past k j) f w u t p (placed b) h (λ x l q. q)
   past-call f w (anywhere u number) h r p = book-tile (Past k j) f w u t p (unplaced number) h (λ x l q. q)
-  past-call f w (stop u) h r p = press-tile (Past k j) f w u t p stops (λ x q. inl refl)
-  past-call f w (repair u) h r p = press-tile (Past k j) f w u t p repairs (λ x q. q)
+  past-call f w (stop u) h r p = running-tile (Past k j) f w u t p stops (λ x q. inl refl)
+  past-call f w (repair u) h r p = running-tile (Past k j) f w u t p repairs (λ x q. q)
   past-call f w round h r p = absurd (true≢false r)
   past-call f w (Call.keep name) h r p = keep-tile (Past k j) f w t p name
   past-call f w (forget name) h r p = forget-tile (Past k j) f w t p name
@@ -144,7 +144,7 @@ module _ (t k j : ℕ) (z : j ≢ 0) (n : j ≢ k) where
   past-call f w (list l) h r p = through-list (λ g. Past k j (tileOf (view g) t)) (λ g w u b h p. book-tile (Past k j) g w u t p (placed b) h (λ x l q. q)) f w l h p
 
   -- j was granted: what the tile grants up to the next grant of j has k in it
-  later : (f : Floor) → wellFormed f ≡ true → (cs : List Call) → All Typed cs → t < total (view f .settings) → Past k j (tileOf (view f) t) → Waiting f cs t k
+  later : (f : Floor) → wellFormed f ≡ true → (cs : List Call) → All InRange cs → t < total (view f .settings) → Past k j (tileOf (view f) t) → Waiting f cs t k
       → (between after : List ℕ) → grantsIn f cs t ≡ between ++ (j ∷ after) → List·Memᴰ k between
   unfolding grantsIn
   later f w [] h on p W [] after e = absurd (nil≢cons e)
@@ -168,7 +168,7 @@ module _ (t k j : ℕ) (z : j ≢ 0) (n : j ≢ k) where
           step (b ∷ bs) q (inr i) = List·Memᴰ·tail (ih (subst (λ (m : Model). Past k j (tileOf m t)) (sym (view-round f w c r)) (i .1)) (W .1) bs after (tail-eq-of-cons-eq q))
 
   -- from the first grant of j on
-  fair-of : (f : Floor) → wellFormed f ≡ true → (cs : List Call) → All Typed cs → Waiting f cs t k → (before between after : List ℕ) → grantsIn f cs t ≡ before ++ (j ∷ (between ++ (j ∷ after))) → List·Memᴰ k between
+  fair-of : (f : Floor) → wellFormed f ≡ true → (cs : List Call) → All InRange cs → Waiting f cs t k → (before between after : List ℕ) → grantsIn f cs t ≡ before ++ (j ∷ (between ++ (j ∷ after))) → List·Memᴰ k between
   unfolding grantsIn
   fair-of f w [] h W [] between after e = absurd (nil≢cons e)
   fair-of f w [] h W (b ∷ bs) between after e = absurd (nil≢cons e)
@@ -198,7 +198,7 @@ none-wants f w t k on d = go (by-test (wants (view f) t k))
     go (inr e) = e
     go (inl e) = absurd (omega (arith, faced (view f) (well-sound f w) t k on e .1))
 
-none-stays : (t k : ℕ) (f : Floor) → wellFormed f ≡ true → t < total (view f .settings) → distanceOf (view f) t ≡ 255 → (cs : List Call) → All Typed cs → roundsIn cs ≡ 0 → wants (view (floorAfter f cs)) t k ≡ false
+none-stays : (t k : ℕ) (f : Floor) → wellFormed f ≡ true → t < total (view f .settings) → distanceOf (view f) t ≡ 255 → (cs : List Call) → All InRange cs → roundsIn cs ≡ 0 → wants (view (floorAfter f cs)) t k ≡ false
 unfolding floorAfter stopped repaired
 none-stays t k f w on d [] h r = none-wants f w t k on d
 none-stays t k f w on d (c ∷ cs) h r = none-stays t k (outcome f c .floor) (call-keeps f w c (h .0) .0) (on-call f w t c (h .0) on) (kept c (h .0) r) cs (h .1) (omega arith)
@@ -206,11 +206,11 @@ none-stays t k f w on d (c ∷ cs) h r = none-stays t k (outcome f c .floor) (ca
     None : TileState → Type 0
     None x = x .distance ≡ 255
 
-    kept : (c : Call) → Typed c → cond (isRound c) 1 0 + roundsIn cs ≡ 0 → distanceOf (view (outcome f c .floor)) t ≡ 255
+    kept : (c : Call) → InRange c → cond (isRound c) 1 0 + roundsIn cs ≡ 0 → distanceOf (view (outcome f c .floor)) t ≡ 255
     kept (book u b) h r = book-tile None f w u t d (placed b) h (λ x l q. q)
     kept (anywhere u number) h r = book-tile None f w u t d (unplaced number) h (λ x l q. q)
-    kept (stop u) h r = press-tile None f w u t d stops (λ x q. refl)
-    kept (repair u) h r = press-tile None f w u t d repairs (λ x q. q)
+    kept (stop u) h r = running-tile None f w u t d stops (λ x q. refl)
+    kept (repair u) h r = running-tile None f w u t d repairs (λ x q. q)
     kept round h r = absurd (omega arith)
     kept (Call.keep name) h r = keep-tile None f w t d name
     kept (forget name) h r = forget-tile None f w t d name
@@ -261,7 +261,7 @@ fair-once k gs F n j z = go (decLe (times j gs) 1)
             absurd (n (subst (List·Memᴰ k) (sym (s .3)) (Memᴰ·append-right (s .0) (List·Memᴰ·tail (Memᴰ·append-left (j ∷ s .2) (F j (s .0) (s .1) (s .2) z e (s .3)))))))
 
 -- a side that waits in some round is one of four
-waiting-side : (f : Floor) → wellFormed f ≡ true → (cs : List Call) → All Typed cs → (t k : ℕ) → Waiting f cs t k → (grantsIn f cs t ≡ []) ⊎ List·Memᴰ k sides
+waiting-side : (f : Floor) → wellFormed f ≡ true → (cs : List Call) → All InRange cs → (t k : ℕ) → Waiting f cs t k → (grantsIn f cs t ≡ []) ⊎ List·Memᴰ k sides
 unfolding grantsIn
 waiting-side f w [] h t k W = inl refl
 waiting-side f w (c ∷ cs) h t k W = go (isRound c) refl (waiting-side (outcome f c .floor) (call-keeps f w c (h .0) .0) cs (h .1) t k (W .1))
@@ -275,7 +275,7 @@ SideOrNone j = (j ≡ 0) ⊎ List·Memᴰ j sides
 
 -- every grant is to one of four
 four : (gs : List ℕ) → All SideOrNone gs → grantCount gs ≡ times 1 gs + times 2 gs + times 3 gs + times 4 gs
-unfolding grantCount keep
+unfolding grantCount filter
 four [] h = refl
 four (x ∷ gs) h = go (h .0) (four gs (h .1))
   where
@@ -285,7 +285,7 @@ four (x ∷ gs) h = go (h .0) (four gs (h .1))
         each-side (λ x. grantCount (x ∷ gs) ≡ times 1 (x ∷ gs) + times 2 (x ∷ gs) + times 3 (x ∷ gs) + times 4 (x ∷ gs))
         (omega (arith, ih)) (omega (arith, ih)) (omega (arith, ih)) (omega (arith, ih)) m
 
-sides-in : (f : Floor) → wellFormed f ≡ true → (cs : List Call) → All Typed cs → (t : ℕ) → All SideOrNone (grantsIn f cs t)
+sides-in : (f : Floor) → wellFormed f ≡ true → (cs : List Call) → All InRange cs → (t : ℕ) → All SideOrNone (grantsIn f cs t)
 unfolding grantsIn
 sides-in f w [] h t = tt
 sides-in f w (c ∷ cs) h t = go (isRound c) (sides-in (outcome f c .floor) (call-keeps f w c (h .0) .0) cs (h .1) t)
@@ -307,38 +307,38 @@ at-most-three k gs h mk F n =
 
 -- ---- the theorem
 module _ (f : Floor) (w : wellFormed f ≡ true) where
-  after-stop : (t : ℕ) → outcome f (stop t) .refusal ≡ 0 → (cs : List Call) → All Typed cs → roundsIn cs ≡ 0 → (k : ℕ) → wants (view (floorAfter f (stop t ∷ cs))) t k ≡ false
+  after-stop : (t : ℕ) → outcome f (stop t) .refusal ≡ 0 → (cs : List Call) → All InRange cs → roundsIn cs ≡ 0 → (k : ℕ) → wants (view (floorAfter f (stop t ∷ cs))) t k ≡ false
   unfolding floorAfter stopTests stopped
   after-stop t e cs h r k =
-      let A = accepted f (stopTests (view f) t) (press-pos {t = t} stops (view f)) (sym (press-answers {t = t} stops .number f) ∙ e) .1 in
+      let A = accepted f (stopTests (view f) t) (running-pos {t = t} stops (view f)) (sym (running-answers {t = t} stops .number f) ∙ e) .1 in
       let on = leb-false (total (view f .settings)) t (A .0) in
-      let v : view (outcome f (stop t) .floor) ≡ withTile (view f) t (stopped (tileOf (view f) t)) = ap view (press-answers {t = t} stops .floor f) ∙ went (pressForm {t = t} stops) f (view f) w refl A .sees in
+      let v : view (outcome f (stop t) .floor) ≡ withTile (view f) t (stopped (tileOf (view f) t)) = ap view (running-answers {t = t} stops .floor f) ∙ applied (runningForm {t = t} stops) f (view f) w refl A .sees in
       let d : distanceOf (view (outcome f (stop t) .floor)) t ≡ 255 = ap (λ (m : Model). distanceOf m t) v ∙ ap (λ (x : TileState). x .distance) (getD-set-same (view f .tiles) t (stopped (tileOf (view f) t)) noTile (omega (arith, well-sound f w .len))) in
       none-stays t k (outcome f (stop t) .floor) (call-keeps f w (stop t) tt .0) (on-call f w t (stop t) tt on) d cs h r
 
-  after-recall : (name t : ℕ) → outcome f (recall name) .refusal ≡ 0 → t < total (f .settings) → bit (recallSet f name) t ≡ false → (cs : List Call) → All Typed cs → roundsIn cs ≡ 0 → (k : ℕ)
+  after-recall : (name t : ℕ) → outcome f (recall name) .refusal ≡ 0 → t < total (f .settings) → bit (recallSet f name) t ≡ false → (cs : List Call) → All InRange cs → roundsIn cs ≡ 0 → (k : ℕ)
       → wants (view (floorAfter f (recall name ∷ cs))) t k ≡ false
   unfolding floorAfter recallSet
   after-recall name t e on b cs h r k =
-      let A = accepted f (heldTests (view f .layouts) name) (held-pos name (view f)) (sym (recall-answers name .number f) ∙ e) .1 in
-      let v : view (outcome f (recall name) .floor) ≡ recalled (view f) (setOf (view f .layouts) name) = ap view (recall-answers name .floor f) ∙ went (recallForm name) f (view f) w refl A .sees in
+      let A = accepted f (nameHeldTests (view f .layouts) name) (name-held-pos name (view f)) (sym (recall-answers name .number f) ∙ e) .1 in
+      let v : view (outcome f (recall name) .floor) ≡ recalled (view f) (setOf (view f .layouts) name) = ap view (recall-answers name .floor f) ∙ applied (recallForm name) f (view f) w refl A .sees in
       let in-view : t < total (view f .settings) = omega (arith, ap (λ (s : Settings). total s) (view-settings f)) in
       let d : distanceOf (view (outcome f (recall name) .floor)) t ≡ 255 = ap (λ (m : Model). distanceOf m t) v ∙ recall-out (view f) (well-sound f w) (setOf (view f .layouts) name) t in-view b in
       none-stays t k (outcome f (recall name) .floor) (call-keeps f w (recall name) tt .0) (on-call f w t (recall name) tt in-view) d cs h r
 
-  fair-list : (cs : List Call) → All Typed cs → (t k : ℕ) → Waiting f cs t k → Fair k (grantsIn f cs t)
+  fair-list : (cs : List Call) → All InRange cs → (t k : ℕ) → Waiting f cs t k → Fair k (grantsIn f cs t)
   fair-list cs h t k W j before between after z n e = fair-of t k j z n f w cs h W before between after e
 
-  three-list : (cs : List Call) → All Typed cs → (t k : ℕ) → Waiting f cs t k → ¬ (List·Memᴰ k (grantsIn f cs t)) → grantCount (grantsIn f cs t) ≤ 3
-  unfolding grantCount keep
+  three-list : (cs : List Call) → All InRange cs → (t k : ℕ) → Waiting f cs t k → ¬ (List·Memᴰ k (grantsIn f cs t)) → grantCount (grantsIn f cs t) ≤ 3
+  unfolding grantCount filter
   three-list cs h t k W n = go (waiting-side f w cs h t k W)
     where
       go : (grantsIn f cs t ≡ []) ⊎ List·Memᴰ k sides → grantCount (grantsIn f cs t) ≤ 3
       go (inl e) = rw e (omega arith)
       go (inr mk) = at-most-three k (grantsIn f cs t) (sides-in f w cs h t) mk (fair-list cs h t k W) n
 
-  nobody-waits : NobodyWaits f
-  nobody-waits = record { fair = fair-list; stop-ends = after-stop; recall-ends = after-recall; three = three-list; grants = grants-turn f w; turn-wants = turn-some f w }
+  bounded-bypass-here : BypassPromises f
+  bounded-bypass-here = record { fair = fair-list; stop-ends = after-stop; recall-ends = after-recall; three = three-list; grants = grants-turn f w; turn-wants = turn-some f w }
 
-pub nobody-waits-twice : Fairness
-nobody-waits-twice = nobody-waits
+pub bounded-bypass : BoundedBypass
+bounded-bypass = bounded-bypass-here

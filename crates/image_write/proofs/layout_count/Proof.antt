@@ -3,8 +3,8 @@ use native.Mathlib.Omega.{arith}
 use Rattle.image_write.proofs.ImageBytes.{used-stop, used-turn, used-all}
 use Rattle.image_write.proofs.Loops.{LayoutsCounted}
 use borrow.Author.Needs.{needs}
-use Rattle.image_write.proofs.laid_out.Statement.{statement}
-use Rattle.image_write.proofs.laid_out.Tie as tie
+use Rattle.image_write.proofs.layout_count.Statement.{statement}
+use Rattle.image_write.proofs.layout_count.Tie as tie
 
 abbrev Inv-loop : tie.InvT-loop
 Inv-loop all k₀ k = LayoutsCounted all k
@@ -40,8 +40,8 @@ returns-2 c =
     let l = c .before .loop in
     (used-all _ (l .k) (omega arith) (l .inv .counted), l .inv .below)
 
-pub laid-out-spec : {M : Type 1} → statement M
-laid-out-spec =
+pub layout-count-spec : {M : Type 1} → statement M
+layout-count-spec =
     tie.close
     (tie.spec
     Inv-loop
