@@ -19,7 +19,7 @@ use Rattle.floor.specs.Move.{insert}
 use Rattle.floor.specs.Calls.{bookingTests, bookTests, withBooking, booked}
 use Rattle.floor.proofs.Pack.{pack-put, well-sound, well-fits, well-few, below-64, head-view, place-view}
 use Rattle.floor.proofs.Capacity.{sound-small}
-use Rattle.round_members.specs.Members.{Places, Holds}
+use Rattle.round_members.specs.InternalMembers.{Places, Holds}
 use Rattle.round_members.proofs.Inserting.{shown-list}
 use Rattle.book_call.proofs.Tests.{book-same, book-on, book-room}
 use Rattle.book_call.proofs.Loops.{PlacesRead, PlacesPut}

@@ -21,7 +21,7 @@ use Rattle.floor.specs.Live.{connected, connectedCount}
 use Rattle.floor.proofs.Rows.{view-at}
 use Rattle.floor.proofs.Pack.{well-sound, well-few, well-head}
 use Rattle.floor.proofs.Answers.{malformed}
-use Rattle.layout_parts.specs.Places.{ranIn}
+use Rattle.layout_parts.specs.InternalPlaces.{ranIn}
 use Rattle.bound.specs.declared.Bounded.{Bounded}
 use Rattle.bound.specs.Answer.{numbersWhere, connectedNumbers, unconnectedNumbers, boundAnswer}
 use Rattle.bound.proofs.Few.{few-on, count-numbers, count-all}

@@ -11,7 +11,7 @@ ghost use Rattle.floor.specs.Grid.{neighbour};
 ghost use Rattle.floor.specs.Layouts.{setBelow};
 ghost use Rattle.floor.specs.Bound as B;
 ghost use Rattle.floor.specs.Live.{connected};
-ghost use Rattle.layout_parts.specs.Places.{ranIn};
+ghost use Rattle.layout_parts.specs.InternalPlaces.{ranIn};
 ghost use Rattle.bound.specs.Answer.{boundAnswer};
 ghost use Rattle.bound_call.specs.Sets.{aboveFirst, canistersIn};
 use bound::Bounded;

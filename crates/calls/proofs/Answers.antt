@@ -20,7 +20,7 @@ use Rattle.floor.specs.Memory.{zeroCanister, zeroFloor, view, head, pack}
 use Rattle.floor.specs.Well.{wellFormed}
 use Rattle.floor.specs.Calls.{refusalOf, freshFloor, freshAnswer, readTests, readAnswer, zeroReport, roundAnswer}
 use Rattle.floor.proofs.Answers.{malformed}
-use Rattle.calls.specs.Refused.{unreadWith}
+use Rattle.calls.specs.InternalRefused.{unreadWith}
 
 -- ---- fresh
 pub fresh-refused : (s : Settings) (z : Floor) (n : ℕ) → n ≡ settingsRefusal s → n ≢ 0 → z ≡ zeroFloor → _≡_ {A = Answer} (record { refusal = n; floor = z }) (freshAnswer s)

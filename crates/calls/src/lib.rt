@@ -2,7 +2,7 @@
 // from crates of their own. Each takes any bytes, and its contract determines the whole answer on all of them.
 ghost use mathlib.Core.Path.{_≡_};
 ghost use Rattle.floor.specs.Calls.{freshAnswer, stopAnswer, repairAnswer, readAnswer, roundAnswer};
-ghost use Rattle.calls.specs.Refused.{unreadWith};
+ghost use Rattle.calls.specs.InternalRefused.{unreadWith};
 pub use book_anywhere::book_anywhere;
 pub use book_call::book;
 pub use book_list::book_list;

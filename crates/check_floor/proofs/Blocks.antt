@@ -20,9 +20,9 @@ use Rattle.floor.specs.Model.{TileState, noTile, tileOf, membersOf, numbers, nu
 use Rattle.floor.specs.Memory.{zeroCanister, headOf, stateOf, view, head, isZeroCanister, block, headFits, tileFits}
 use Rattle.floor.specs.Well.{headSound, membersSound, tileSound}
 use Rattle.floor.proofs.Rows.{view-at, rest-zero}
-use Rattle.check_unique.specs.Differ.{differ, Runs}
+use Rattle.check_unique.specs.InternalDiffer.{differ, Runs}
 use Rattle.check_unique.proofs.Apart.{differ-filter, runs-of}
-use Rattle.check_floor.specs.Code.{counted}
+use Rattle.check_floor.specs.InternalCode.{counted}
 use Rattle.check_floor.proofs.Branches.{zero-off, count-fits}
 use Rattle.check_floor.proofs.Joins.{map-take, map-drop, cat-same, cat-rest, cat-length, blocks-perm}
 

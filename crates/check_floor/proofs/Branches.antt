@@ -17,8 +17,8 @@ use Rattle.floor.specs.Settings.{total}
 use Rattle.floor.specs.Memory.{zeroTile, isZeroCanister, headFits, tileFits}
 use Rattle.floor.specs.Well.{headSound, inOrder}
 use Rattle.floor.proofs.Rows.{zero-tile}
-use Rattle.check_places.specs.Place.{memberSound}
-use Rattle.check_floor.specs.Tile.{usedSound, headTest, placesTest}
+use Rattle.check_places.specs.InternalPlace.{memberSound}
+use Rattle.check_floor.specs.InternalTile.{usedSound, headTest, placesTest}
 use Rattle.check_floor.proofs.Tiles.{tileTest}
 
 pub count-on : (s : Settings) (t : ℕ) (h : Tile) → headFits s t h ≡ true → t < total s → h .count ≤ 16

@@ -15,7 +15,7 @@ use Rattle.floor.specs.declared.Counters.{Counters}
 use Rattle.floor.specs.declared.Tile.{Tile}
 use Rattle.floor.specs.Memory.{zeroTile}
 use Rattle.floor.specs.Well.{countersSound}
-use Rattle.check_floor.specs.Code.{counted}
+use Rattle.check_floor.specs.InternalCode.{counted}
 
 pub none-yet : (ts : List Tile) → 0 ≡ counted ts 0
 unfolding counted

@@ -12,7 +12,7 @@ use Rattle.laws.specs.Every.{All}
 use Rattle.laws.proofs.Lists.{all-append, filter-append, swap-append}
 use Rattle.floor.specs.declared.Tile.{Tile}
 use Rattle.floor.specs.Memory.{zeroTile}
-use Rattle.check_floor.specs.Code.{counted}
+use Rattle.check_floor.specs.InternalCode.{counted}
 
 -- ---- parts of a mapped list
 pub map-take : {A B : Type 0} (f : A → B) (n : ℕ) (l : List A) → map f (take n l) ≡ take n (map f l)

@@ -10,21 +10,21 @@ use lib.ListN.{length, getD, take, drop, length-drop}
 use lib.Seq.{take-all, getD-drop}
 use borrow.Author.Tests.{eq-eqb, ne-eqb}
 use Rattle.laws.specs.Define.{allOf, pairsOf, allBelow}
-use Rattle.laws.specs.Filled.{Upto}
+use Rattle.laws.specs.InternalFilled.{Upto}
 use Rattle.laws.proofs.Tables.{with-zero, with-step, ended, below-at, below-of}
 use Rattle.laws.proofs.Tests.{and-left, and-yes, and-no}
 use Rattle.floor.specs.declared.Canister.{Canister}
 use Rattle.floor.specs.declared.Floor.{Floor}
 use Rattle.floor.specs.Memory.{zeroCanister, isZeroCanister, headOf, block, headFits}
 use Rattle.floor.specs.Well.{inOrder}
-use Rattle.check_places.specs.Place.{memberSound}
-use Rattle.check_floor.specs.Tile.{headTest, placesTest}
+use Rattle.check_places.specs.InternalPlace.{memberSound}
+use Rattle.check_floor.specs.InternalTile.{headTest, placesTest}
 use Rattle.check_floor.proofs.Branches.{places-few, few-pairs, count-fits, four}
 use Rattle.check_floor.proofs.WellCode.{testOf, tested-empty, tested-used}
 use Rattle.check_floor.proofs.Blocks.{block-length, block-at}
 use Rattle.check_floor.proofs.Counts.{none-counted}
 use Rattle.check_floor.proofs.Keys.{Keyed, block-copied}
-use Rattle.check_floor.specs.Code.{counted}
+use Rattle.check_floor.specs.InternalCode.{counted}
 
 -- tile t without its canisters
 abbrev pub headed : Floor → ℕ → Bool

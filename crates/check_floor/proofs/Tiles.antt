@@ -10,7 +10,7 @@ use Rattle.floor.specs.declared.Tile.{Tile}
 use Rattle.floor.specs.Settings.{total}
 use Rattle.floor.specs.Memory.{zeroTile, block, tileFits}
 use Rattle.floor.specs.Well.{headSound}
-use Rattle.check_floor.specs.Tile.{usedSound}
+use Rattle.check_floor.specs.InternalTile.{usedSound}
 
 -- one tile, from its head and its sixteen places
 unfoldable pub tileTest : Settings → ℕ → ℕ → Tile → List Canister → Bool

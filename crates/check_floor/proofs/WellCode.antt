@@ -25,11 +25,11 @@ use Rattle.floor.proofs.Well.{settings-fact, ranged, pairs-imp}
 use Rattle.floor.proofs.Rows.{state-fits-of, state-fit-at, view-length}
 use Rattle.floor.proofs.Pack.{well-parts}
 use Rattle.floor.proofs.LayoutPlaces.{placeTest, layouts-code}
-use Rattle.check_unique.specs.Differ.{differ, Runs}
-use Rattle.check_places.specs.Place.{memberSound}
-use Rattle.check_floor.specs.Tile.{usedSound, headTest, placesTest}
+use Rattle.check_unique.specs.InternalDiffer.{differ, Runs}
+use Rattle.check_places.specs.InternalPlace.{memberSound}
+use Rattle.check_floor.specs.InternalTile.{usedSound, headTest, placesTest}
 use Rattle.check_floor.proofs.Tiles.{tileTest, tilesTest}
-use Rattle.check_floor.specs.Code.{counted}
+use Rattle.check_floor.specs.InternalCode.{counted}
 use Rattle.check_floor.proofs.Branches.{test-empty, test-used}
 use Rattle.check_floor.proofs.Joins.{all-cat}
 use Rattle.check_floor.proofs.Blocks.{usedOf, Fit, used-off, tile-view, numbers-view, count-view, differ-view, runs-view}

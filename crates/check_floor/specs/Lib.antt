@@ -1,2 +1,2 @@
-pub mod Tile
-pub mod Code
+pub mod InternalTile
+pub mod InternalCode

@@ -5,7 +5,7 @@ ghost use Prim.Native.Nat.{_≤_, _<_, _^_};
 ghost use lib.ListN.{length};
 ghost use Rattle.floor.specs.Settings.{hoppersOf, settingsPass, Ranged};
 ghost use Rattle.floor.specs.Well.{countersSound, stateWell, wellFormed};
-ghost use Rattle.check_floor.specs.Tile.{headTest};
+ghost use Rattle.check_floor.specs.InternalTile.{headTest};
 use check_heads::head_fits;
 use check_heads::head_ok;
 use check_layouts::layouts_ok;

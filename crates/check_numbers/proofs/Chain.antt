@@ -9,7 +9,7 @@ use native.Mathlib.Decide.{decLe, ℕ-discrete}
 use lib.ListN.{length, getD, set, replicate, getD-replicate}
 use lib.Seq.{getD-set-same, getD-set-other}
 use Rattle.laws.proofs.Lists.{pairs-each, pairs-place}
-use Rattle.check_unique.specs.Differ.{differ, Runs, Ordered}
+use Rattle.check_unique.specs.InternalDiffer.{differ, Runs, Ordered}
 use Rattle.check_unique.proofs.Apart.{ordered-pos, Apart, r-differ}
 
 abbrev pub at : List ℕ → ℕ → ℕ

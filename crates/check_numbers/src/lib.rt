@@ -1,7 +1,7 @@
 // Whether all numbers on a floor differ: each number is compared with the earlier ones of its remainder.
 ghost use mathlib.Core.Path.{_≡_};
 ghost use mathlib.Core.Bool.{true, false};
-ghost use Rattle.check_unique.specs.Differ.{differ, Runs};
+ghost use Rattle.check_unique.specs.InternalDiffer.{differ, Runs};
 use check_unique::all_differ;
 
 // The greatest prime below 2048, the size of the table of remainders.

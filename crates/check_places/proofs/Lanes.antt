@@ -12,13 +12,13 @@ use lib.ListN.{length, take, getD, set, replicate, length-set, length-replicate,
 use lib.Seq.{getD-set-same, getD-set-other}
 use borrow.Author.Tests.{leb-true, le-leb}
 use Rattle.laws.specs.Define.{pairsOf, allBelow}
-use Rattle.laws.specs.Filled.{Upto}
+use Rattle.laws.specs.InternalFilled.{Upto}
 use Rattle.laws.proofs.Tests.{same-test, r-le, r-or}
 use Rattle.laws.proofs.Tables.{upto-turn, below-at, below-of, pairs-first-at, pairs-first-of}
 use Rattle.floor.specs.declared.Canister.{Canister}
 use Rattle.floor.specs.Memory.{zeroCanister}
 use Rattle.floor.specs.Well.{apart}
-use Rattle.check_places.specs.Lanes.{between, more, less, farther, distanceAt, Compared}
+use Rattle.check_places.specs.InternalLanes.{between, more, less, farther, distanceAt, Compared}
 
 abbrev at : List Canister → ℕ → Canister
 at items i = getD items i zeroCanister

@@ -6,12 +6,12 @@ use Prim.Native.Nat.{ℕ, _≤_, _<_, _+_}
 use lib.Dec.{leb}
 use lib.ListN.{length, take, getD}
 use Rattle.laws.specs.Define.{allOf, pairsOf, allBelow}
-use Rattle.laws.specs.Filled.{Upto, From}
+use Rattle.laws.specs.InternalFilled.{Upto, From}
 use Rattle.floor.specs.declared.Canister.{Canister}
 use Rattle.floor.specs.declared.Settings.{Settings}
 use Rattle.floor.specs.Well.{inOrder}
-use Rattle.check_places.specs.Place.{rises}
-use Rattle.check_places.specs.Lanes.{less, distanceAt}
+use Rattle.check_places.specs.InternalPlace.{rises}
+use Rattle.check_places.specs.InternalLanes.{less, distanceAt}
 use Rattle.check_places.proofs.Lanes.{Twice, lowest}
 
 pub record Paired (s : Settings) (n : ℕ) (items : List Canister) (ok : Bool) (j : ℕ) : Type 0 where

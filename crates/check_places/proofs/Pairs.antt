@@ -16,7 +16,7 @@ use Rattle.floor.specs.declared.Settings.{Settings}
 use Rattle.floor.specs.Settings.{spacing}
 use Rattle.floor.specs.Memory.{zeroCanister}
 use Rattle.floor.specs.Well.{apart, inOrder}
-use Rattle.check_places.specs.Place.{rises}
+use Rattle.check_places.specs.InternalPlace.{rises}
 
 pub in-order-made : (s : Settings) (l : List Canister) (d : ℕ) {up free : Bool} → d ≡ spacing s → up ≡ pairsOf rises l → free ≡ pairsOf (apart d) l → (up && free) ≡ pairsOf (inOrder s) l
 unfolding inOrder rises

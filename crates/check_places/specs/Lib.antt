@@ -1,2 +1,2 @@
-pub mod Place
-pub mod Lanes
+pub mod InternalPlace
+pub mod InternalLanes

@@ -7,8 +7,8 @@ ghost use Rattle.laws.specs.Define.{pairsOf, allBelow};
 ghost use Rattle.floor.specs.Settings.{spacing};
 ghost use Rattle.floor.specs.Memory.{isZeroCanister};
 ghost use Rattle.floor.specs.Well.{apart, inOrder};
-ghost use Rattle.check_places.specs.Place.{memberSound, rises};
-ghost use Rattle.check_places.specs.Lanes.{between, more, less, farther, Compared};
+ghost use Rattle.check_places.specs.InternalPlace.{memberSound, rises};
+ghost use Rattle.check_places.specs.InternalLanes.{between, more, less, farther, Compared};
 use floor::Canister;
 use floor::Settings;
 

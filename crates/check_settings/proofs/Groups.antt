@@ -14,7 +14,7 @@ use Rattle.laws.proofs.Search.{any-none}
 use Rattle.laws.proofs.SetBits.{bits-within}
 use Rattle.floor.specs.declared.Settings.{Settings}
 use Rattle.floor.specs.Settings.{total, spacing, span, hoppersOf, sizeTests, measureTests, settingsTests, settingsRefusal}
-use Rattle.check_settings.specs.Groups.{sizesWrong, setsWrong, measuresWrong, rulesWrong}
+use Rattle.check_settings.specs.InternalGroups.{sizesWrong, setsWrong, measuresWrong, rulesWrong}
 
 -- ---- the three groups are the list of tests
 pick-or : {A : Type 0} (a b : Bool) (x y : A) → cond a x (cond b x y) ≡ cond (a || b) x y

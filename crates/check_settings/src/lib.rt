@@ -2,7 +2,7 @@
 ghost use mathlib.Core.Path.{_≡_};
 ghost use mathlib.Core.Bool.{false};
 ghost use Rattle.floor.specs.Settings.{settingsRefusal};
-ghost use Rattle.check_settings.specs.Groups.{sizesWrong, setsWrong, rulesWrong, measuresWrong};
+ghost use Rattle.check_settings.specs.InternalGroups.{sizesWrong, setsWrong, rulesWrong, measuresWrong};
 use floor::Settings;
 use floor::refusals;
 use sets::meets;

@@ -1,2 +1,2 @@
-pub mod Differ
-pub mod Names
+pub mod InternalDiffer
+pub mod InternalNames

@@ -13,7 +13,7 @@ use lib.Seq.{drop-cons, drop-drop, getD-drop, getD-set-same, getD-set-other}
 use borrow.Author.Tests.{eq-eqb, ne-eqb, lt-ltb, le-ltb, ltb-true, lt-leb, le-leb}
 use Rattle.laws.specs.Define.{tab, allOf, anyOf, bit}
 use Rattle.laws.proofs.Tests.{same-test, or-no}
-use Rattle.laws.specs.Filled.{Upto, From}
+use Rattle.laws.specs.InternalFilled.{Upto, From}
 use Rattle.laws.proofs.Tables.{tab-length, tab-at, filled, below-zero, below-more, zeros-at}
 use Rattle.console_words.specs.Text.{hasSome, numberOf}
 use Rattle.console_words.proofs.Text.{from-place, from-end}

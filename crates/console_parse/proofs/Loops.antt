@@ -6,7 +6,7 @@ use Rattle.console_parse.proofs.Line.{Unread}
 use mathlib.Core.Path.{_≡_}
 use mathlib.Core.Bool.{Bool}
 use Rattle.laws.specs.Define.{tab}
-use Rattle.laws.specs.Filled.{Upto, From}
+use Rattle.laws.specs.InternalFilled.{Upto, From}
 use Rattle.console_parse.specs.Line.{allNumbers, valueAt}
 
 pub record TilesRead (word : List ℕ) (set at : ℕ) : Type 0 where

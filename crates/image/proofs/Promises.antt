@@ -13,7 +13,7 @@ use lib.Seq.{take-append-seam, length-take-le}
 use Rattle.laws.specs.Define.{bit, bitsBelow, anyOf, refusal}
 use Rattle.laws.proofs.Tests.{by-test, not-both, and-left, and-right, test-none}
 use Rattle.image_bytes.specs.Bytes.{Bytes}
-use Rattle.image_bytes.specs.Put.{put}
+use Rattle.image_bytes.specs.InternalPut.{put}
 use Rattle.floor.specs.declared.Floor.{Floor}
 use Rattle.floor.specs.declared.Answer.{Answer}
 use Rattle.floor.specs.Settings.{hoppersOf, settingsTests, settingsRefusal}

@@ -8,7 +8,7 @@ use native.Mathlib.Nat.{mod-eq-of-lt, mod-lt, suc-add, zero-add, pow-suc, mul-as
 use lib.ListN.{length, take, drop, set, length-append, take-append-drop}
 use lib.Seq.{set-split, drop-drop, take-at, length-take-le, drop-append-add}
 use Rattle.image_bytes.specs.Bytes.{bytes}
-use Rattle.image_bytes.specs.Put.{put}
+use Rattle.image_bytes.specs.InternalPut.{put}
 
 pub put-none : (l : List ℕ) (at : ℕ) → put l at [] ≡ l
 unfolding put

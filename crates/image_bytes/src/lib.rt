@@ -3,7 +3,7 @@ ghost use mathlib.Core.Path.{_≡_};
 ghost use Prim.Native.Nat.{_+_, _≤_};
 ghost use lib.ListN.{length, drop};
 ghost use Rattle.image_bytes.specs.Bytes.{le, bytes};
-ghost use Rattle.image_bytes.specs.Put.{put};
+ghost use Rattle.image_bytes.specs.InternalPut.{put};
 
 // The number in the two bytes from `at` on.
 pub fn u16_at(s: &[u8], at: usize) -> u16

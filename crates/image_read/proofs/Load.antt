@@ -27,14 +27,14 @@ use Rattle.image.proofs.Sizes.{headerLength, layoutLength, countersLength}
 use Rattle.image.proofs.LoadedWrites.{canisters-length, settings-good, counters-good}
 use Rattle.image_record_read.proofs.Refusals.{room-20}
 use Rattle.image.proofs.Read.{first-measured}
-use Rattle.image_record_read.specs.Scan.{Holds, layoutFrom, LayoutsAt, Starts}
+use Rattle.image_record_read.specs.InternalScan.{Holds, layoutFrom, LayoutsAt, Starts}
 use Rattle.image_record_read.specs.declared.Found.{Found}
 use Rattle.image_record_read.specs.declared.Scan.{Scan}
 use Rattle.image_record_read.proofs.Values.{layout-some}
 use Rattle.image_record_read.proofs.Walk.{rest-at, record-room, tiles-at, tiles-off}
-use Rattle.image_read.specs.Arrays.{canisterAt, canisterFrom}
+use Rattle.image_read.specs.InternalArrays.{canisterAt, canisterFrom}
 use Rattle.image_read.specs.declared.Front.{Front}
-use Rattle.image_read.specs.Front.{FrontRead}
+use Rattle.image_read.specs.InternalFront.{FrontRead}
 
 -- ---- the canisters, by their place
 canisters-at : (n j : ℕ) (b : List ℕ) → j < n → getD (canistersIn n b) j zeroCanister ≡ canisterIn (drop (8 * j) b)

@@ -6,12 +6,12 @@ use native.Mathlib.Omega.{arith}
 use borrow.Author.Tests.{lt-ltb, le-ltb}
 use lib.ListN.{length, drop, getD, set}
 use Rattle.laws.proofs.Tables.{filled-turn, filled-on, filled-end}
-use Rattle.laws.specs.Filled.{Filled}
+use Rattle.laws.specs.InternalFilled.{Filled}
 use Rattle.laws.specs.Define.{tab}
 use Rattle.floor.specs.declared.Canister.{Canister}
 use Rattle.floor.specs.Memory.{zeroCanister}
 use Rattle.image.specs.Image.{canisterIn}
-use Rattle.image_read.specs.Arrays.{canisterFrom}
+use Rattle.image_read.specs.InternalArrays.{canisterFrom}
 use Rattle.image_read.proofs.Reading.{canister-none, canister-past, canister-some}
 
 -- c used tiles

@@ -12,7 +12,7 @@ use Rattle.image_bytes.proofs.FieldLaws.{field-in}
 use Rattle.floor.specs.Memory.{zeroCanister}
 use Rattle.image.specs.Image.{tileWidths, canisterWidths, canisterIn}
 use Rattle.image_record_read.proofs.Refusals.{tile-byte}
-use Rattle.image_read.specs.Arrays.{canisterAt}
+use Rattle.image_read.specs.InternalArrays.{canisterAt}
 
 -- ---- the value
 module _ (s : List ℕ) (at : ℕ) where

@@ -1,2 +1,2 @@
-pub mod Arrays
-pub mod Front
+pub mod InternalArrays
+pub mod InternalFront

@@ -12,10 +12,10 @@ use Rattle.floor.specs.declared.Tile.{Tile}
 use Rattle.floor.specs.Layouts.{nameNumber}
 use Rattle.image.specs.Image.{tilesFault, recordFault, isLayout, layoutsFault}
 use Rattle.image.proofs.Sizes.{layoutLength}
-use Rattle.image_record_read.specs.Scan.{Starts, after, Holds, LayoutsAt}
+use Rattle.image_record_read.specs.InternalScan.{Starts, after, Holds, LayoutsAt}
 use Rattle.image_record_read.specs.declared.Found.{Found}
 use Rattle.image_record_read.proofs.Walk.{Tiled, Passed, LayoutsFilled, after-more, layouts-turn, passed-off, passed-on, passed-room, passed-stop, record-room, rest-at, start-at, starts-more, tiled-turn, tiles-on, tiles-stop}
-use Rattle.laws.specs.Filled.{Upto, From}
+use Rattle.laws.specs.InternalFilled.{Upto, From}
 use Rattle.image_bytes.specs.Bytes.{le}
 
 pub record NameRead (s : List ℕ) (at n k : ℕ) : Type 0 where

@@ -18,11 +18,11 @@ use Rattle.image_bytes.proofs.FieldLaws.{le-one, field-in}
 use Rattle.floor.specs.declared.Settings.{Settings}
 use Rattle.floor.specs.Settings.{total, hoppersOf, sizeTests, setTests, measureTests, settingsTests, settingsRefusal}
 use Rattle.floor.specs.Memory.{head}
-use Rattle.check_settings.specs.Groups.{sizesWrong}
+use Rattle.check_settings.specs.InternalGroups.{sizesWrong}
 use Rattle.check_settings.proofs.Groups.{sizes-first, few-tiles}
 use Rattle.image.specs.Image.{lowest, oneTile, hopperCount, byteWrong, settingsWidths, tileWidths, lengthIn, settingsIn, countersIn, tileIn, layoutIn, settingsFaults, countersFaults, tileFaults, layoutFaults, endFaults, ownFaults, recordFault}
 use Rattle.image_record_read.specs.declared.Found.{Found}
-use Rattle.image_record_read.specs.Scan.{Holds}
+use Rattle.image_record_read.specs.InternalScan.{Holds}
 
 -- ---- the values
 module _ (s : List ℕ) (at : ℕ) where

@@ -20,7 +20,7 @@ use Rattle.floor.specs.Memory.{zeroLayout, head}
 use Rattle.image.specs.Image.{countersWidths, tileWidths, countersIn, tileIn, layoutIn}
 use Rattle.image.proofs.Sizes.{headerLength, layoutLength}
 use Rattle.image.proofs.LoadedWrites.{canisters-length}
-use Rattle.image_record_read.specs.Scan.{layoutFrom}
+use Rattle.image_record_read.specs.InternalScan.{layoutFrom}
 use Rattle.image_record_read.proofs.Refusals.{tile-byte}
 
 -- ---- counters and tiles

@@ -11,7 +11,7 @@ use lib.Dec.{eqb}
 use borrow.Author.Tests.{lt-ltb, le-ltb, lt-leb, le-leb, ne-eqb}
 use lib.ListN.{length, drop, getD, set, length-drop, List·getD-eq-default}
 use lib.Seq.{drop-drop, getD-set-same, getD-set-other}
-use Rattle.laws.specs.Filled.{Filled}
+use Rattle.laws.specs.InternalFilled.{Filled}
 use Rattle.laws.specs.Define.{tab, refusal}
 use Rattle.laws.proofs.Tables.{filled, filled-turn, filled-end}
 use Rattle.image_bytes.specs.Bytes.{le, field}
@@ -24,7 +24,7 @@ use Rattle.image.proofs.Sizes.{headerLength, layoutLength}
 use Rattle.image.proofs.LoadedWrites.{tile-good}
 use Rattle.image.proofs.Layouts.{layout-good}
 use Rattle.image.proofs.Read.{tiles-length}
-use Rattle.image_record_read.specs.Scan.{layoutFrom, LayoutsAt, after, Start, Starts}
+use Rattle.image_record_read.specs.InternalScan.{layoutFrom, LayoutsAt, after, Start, Starts}
 use Rattle.image_record_read.proofs.Values.{layout-some, layout-none}
 
 -- ---- the refusal that is left to find

@@ -11,7 +11,7 @@ ghost use Rattle.floor.specs.Layouts.{nameNumber};
 ghost use Rattle.floor.specs.Memory.{unused, head};
 ghost use Rattle.image.specs.Image as I;
 ghost use Rattle.image.specs.Image.{settingsIn, countersIn, tileIn, tilesIn, layoutIn, settingsFaults, countersFaults, tileFaults, layoutFaults, endFaults, recordFault, endFault, isLayout, layoutsFault, tilesFault};
-ghost use Rattle.image_record_read.specs.Scan.{Holds, LayoutsAt, Starts};
+ghost use Rattle.image_record_read.specs.InternalScan.{Holds, LayoutsAt, Starts};
 use check_settings::settings_refusal;
 use check_settings::sizes_wrong;
 use floor::Counters;

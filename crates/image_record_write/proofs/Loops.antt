@@ -5,7 +5,7 @@ use Prim.Native.Nat.{ℕ, _+_, _-_, _*_, _/_, _%_, _^_, _≤_, _<_}
 use native.Mathlib.Omega.{arith}
 use lib.ListN.{length, take, getD}
 use Rattle.image_bytes.specs.Bytes.{bytes}
-use Rattle.image_bytes.specs.Put.{put}
+use Rattle.image_bytes.specs.InternalPut.{put}
 use Rattle.floor.specs.Layouts.{letters}
 use Rattle.image_record_write.proofs.RecordBytes.{countBytes, count-turn, name-turn}
 

@@ -11,7 +11,7 @@ use Rattle.image_bytes.specs.Bytes.{bytes, bytesOf}
 use Rattle.image_bytes.proofs.ByteLaws.{bytes-length, row-length}
 use Rattle.laws.specs.Define.{tab}
 use Rattle.laws.proofs.Tables.{tab-length}
-use Rattle.image_bytes.specs.Put.{put}
+use Rattle.image_bytes.specs.InternalPut.{put}
 use Rattle.image_bytes.proofs.PutLaws.{put-two, bytes-one}
 use Rattle.floor.specs.declared.Canister.{Canister}
 use Rattle.floor.specs.declared.Settings.{Settings}
@@ -23,7 +23,7 @@ use Rattle.floor.specs.Memory.{stateFrom}
 use Rattle.image.specs.Image.{lowest, several, recordOf, settingsBody, countersBody, canistersBody, tileBody, layoutBody}
 use Rattle.image.proofs.Sizes.{fours, settings-size, counters-size, canister-size, canisters-size, tile-size, layout-size}
 use Rattle.image.proofs.Layouts.{letters-length}
-use Rattle.image_record_write.specs.Parts.{canisterBytes, measuresBytes, headBytes, tileBytes}
+use Rattle.image_record_write.specs.InternalParts.{canisterBytes, measuresBytes, headBytes, tileBytes}
 
 -- ---- lengths
 pub pair-length : (x y : ℕ) → length (bytes 2 x ++ bytes 2 y) ≡ 4

@@ -14,7 +14,7 @@ use Rattle.laws.specs.Define.{tab, bitsBelow}
 use Rattle.laws.proofs.SetBits.{bits-within}
 use Rattle.laws.proofs.Tables.{tab-same}
 use Rattle.image_bytes.specs.Bytes.{bytes}
-use Rattle.image_bytes.specs.Put.{put}
+use Rattle.image_bytes.specs.InternalPut.{put}
 use Rattle.image_bytes.proofs.PutLaws.{put-two, put-three}
 use Rattle.floor.specs.declared.Canister.{Canister}
 use Rattle.floor.specs.declared.Tile.{Tile}
@@ -29,9 +29,9 @@ use Rattle.floor.proofs.Pack.{few-on, well-few, well-fits, well-lengths, well-m
 use Rattle.image.specs.Image.{hopperCount, several, recordOf, settingsBody, countersBody, canistersBody, tileBody, layoutBody, layoutsBytes, tilesBytes, frontBytes, encode}
 use Rattle.image.proofs.Records.{record-length}
 use Rattle.image.proofs.Sizes.{headerLength, tileFront, canisterLength, layoutLength, countersLength, settings-size, counters-size, canisters-size, tile-size, layout-size, layouts-size}
-use Rattle.image_record_write.specs.Parts.{tileBytes}
+use Rattle.image_record_write.specs.InternalParts.{tileBytes}
 use Rattle.image_record_write.proofs.RecordBytes.{pair-length, tile-length, tile-record}
-use Rattle.image_write.specs.Upto.{countAt, tileFor, tileRecord, upto}
+use Rattle.image_write.specs.InternalUpto.{countAt, tileFor, tileRecord, upto}
 
 -- ---- the layouts, one after the other
 layouts-append : (l k : List Layout) → layoutsBytes (l ++ k) ≡ layoutsBytes l ++ layoutsBytes k

@@ -4,7 +4,7 @@ use mathlib.Core.List.{List}
 use Prim.Native.Nat.{ℕ, _+_, _*_, _≤_, _<_}
 use native.Mathlib.Omega.{arith}
 use lib.ListN.{length, take, drop, getD}
-use Rattle.image_bytes.specs.Put.{put}
+use Rattle.image_bytes.specs.InternalPut.{put}
 use Rattle.image_bytes.proofs.PutLaws.{put-none}
 use Rattle.floor.specs.declared.Canister.{Canister}
 use Rattle.floor.specs.declared.Layout.{Layout}
@@ -12,9 +12,9 @@ use Rattle.floor.specs.declared.Tile.{Tile}
 use Rattle.floor.specs.Memory.{zeroTile, zeroLayout, usedLayouts}
 use Rattle.image.specs.Image.{recordOf, canistersBody, layoutBody, layoutsBytes}
 use Rattle.image.proofs.Sizes.{tileFront, canisterLength, layoutLength}
-use Rattle.image_record_write.specs.Parts.{canisterBytes, tileBytes}
+use Rattle.image_record_write.specs.InternalParts.{canisterBytes, tileBytes}
 use Rattle.image_record_write.proofs.RecordBytes.{put-turn}
-use Rattle.image_write.specs.Upto.{countAt, upto}
+use Rattle.image_write.specs.InternalUpto.{countAt, upto}
 use Rattle.image_write.proofs.ImageBytes.{headsSize, at-turn, layouts-turn, tiles-turn, upto-room}
 
 pub record LayoutsCounted (all : List Layout) (k : ℕ) : Type 0 where

@@ -11,7 +11,7 @@ use lib.Seq.{ext-getD, take-suc, take-suc-set, length-take-le, getD-take, getD-d
 use Rattle.laws.specs.Define.{tab, allOf, pairsOf, allBelow, filter}
 use Rattle.laws.proofs.Tests.{and-left, and-right, and-true, and-assoc, and-yes}
 use Rattle.laws.proofs.Lists.{map-append, filter-append}
-use Rattle.laws.specs.Filled.{Upto, From, Shows, Filled}
+use Rattle.laws.specs.InternalFilled.{Upto, From, Shows, Filled}
 
 -- ---- a list of zeros, within it and beyond
 pub zeros-at : {A : Type 0} (z : A) (n i : ℕ) → getD (replicate n z) i z ≡ z

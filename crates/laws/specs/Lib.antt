@@ -1,3 +1,3 @@
 pub mod Define
 pub mod Every
-pub mod Filled
+pub mod InternalFilled

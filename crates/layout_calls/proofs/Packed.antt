@@ -26,7 +26,7 @@ use Rattle.floor.proofs.Rows.{fits-layouts, view-at}
 use Rattle.floor.proofs.Pack.{well-sound, well-fits, well-few, well-head}
 use Rattle.floor.proofs.SoundLayouts.{Rises, sound-layouts-of}
 use Rattle.floor.proofs.Named.{pack-relaid, recalledHead, pack-recalled}
-use Rattle.layout_parts.specs.Places.{putIn, ranIn, recallHead, recallAt}
+use Rattle.layout_parts.specs.InternalPlaces.{putIn, ranIn, recallHead, recallAt}
 use Rattle.layout_parts.proofs.Places.{some-name, set-used, keep-used, forget-used}
 
 -- ---- the set of what passes depends on what passes alone

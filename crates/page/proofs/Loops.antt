@@ -3,7 +3,7 @@ use mathlib.Core.Path.{_≡_}
 use mathlib.Core.List.{List}
 use Prim.Native.Nat.{ℕ, _≤_}
 use lib.ListN.{length, take}
-use Rattle.image_bytes.specs.Put.{put}
+use Rattle.image_bytes.specs.InternalPut.{put}
 
 pub record BytesPut (text₀ line : List ℕ) (n : ℕ) (text : List ℕ) (k : ℕ) : Type 0 where
   pub below : k ≤ n

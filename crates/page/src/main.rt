@@ -2,7 +2,7 @@
 ghost use mathlib.Core.Path.{_≡_};
 ghost use Prim.Native.Nat.{_≤_};
 ghost use lib.ListN.{length, take};
-ghost use Rattle.image_bytes.specs.Put.{put};
+ghost use Rattle.image_bytes.specs.InternalPut.{put};
 ghost use Rattle.page.specs.Printed.{refusedText, printed};
 use libc::STDERR_FILENO;
 use libc::STDIN_FILENO;

@@ -13,7 +13,7 @@ use lib.ListN.{length, length-append, length-set, set}
 use Rattle.laws.specs.Define.{tab, join}
 use Rattle.laws.proofs.Tables.{tab-same}
 use Rattle.image_bytes.specs.Bytes.{bytes}
-use Rattle.image_bytes.specs.Put.{put}
+use Rattle.image_bytes.specs.InternalPut.{put}
 use Rattle.image_bytes.proofs.PutLaws.{put-one, put-two, put-three, bytes-one, put-four}
 use Rattle.floor.specs.declared.Tile.{Tile}
 use Rattle.floor.specs.Model.{tileOf}

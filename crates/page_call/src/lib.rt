@@ -3,7 +3,7 @@ ghost use mathlib.Core.Path.{_≡_};
 ghost use mathlib.Core.List.{[], _∷_};
 ghost use Prim.Native.Nat.{_+_, _*_, _-_, _≤_, _<_};
 ghost use lib.ListN.{length, getD};
-ghost use Rattle.image_bytes.specs.Put.{put};
+ghost use Rattle.image_bytes.specs.InternalPut.{put};
 ghost use Rattle.floor.specs.Memory.{zeroTile};
 ghost use Rattle.page_call.specs.Page as P;
 use check_floor::well_formed;

@@ -6,7 +6,7 @@ use Prim.Native.Nat.{ℕ, _≤_, _<_}
 use lib.Dec.{eqb}
 use lib.ListN.{length, take}
 use Rattle.laws.specs.Define.{allOf, pairsOf}
-use Rattle.laws.specs.Filled.{Upto}
+use Rattle.laws.specs.InternalFilled.{Upto}
 use Rattle.plan.specs.declared.Entry.{Entry}
 use Rattle.plan.specs.declared.Plan.{Plan}
 use Rattle.plan.specs.Entries.{bookedNumbers, present, done}

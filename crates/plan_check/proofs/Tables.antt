@@ -11,7 +11,7 @@ use lib.ListN.{length, getD, set, take, replicate, getD-replicate}
 use lib.Seq.{take-suc, take-suc-set, take-set-le, getD-set-same, getD-set-other}
 use borrow.Author.Tests.{eq-eqb, ne-eqb}
 use Rattle.laws.specs.Define.{allOf, anyOf, pairsOf}
-use Rattle.laws.specs.Filled.{Upto}
+use Rattle.laws.specs.InternalFilled.{Upto}
 use Rattle.laws.proofs.Tests.{and-yes, or-assoc, or-no}
 use Rattle.laws.proofs.Tables.{all-more, pairs-zero, pairs-more}
 use Rattle.plan.specs.declared.Entry.{Entry}

@@ -6,7 +6,7 @@ ghost use Prim.Native.Nat.{_+_, _≤_};
 ghost use lib.Dec.{eqb, leb, ltb};
 ghost use lib.ListN.{length, take};
 ghost use Rattle.laws.specs.Define.{allOf, pairsOf};
-ghost use Rattle.laws.specs.Filled.{Upto};
+ghost use Rattle.laws.specs.InternalFilled.{Upto};
 ghost use Rattle.plan.specs.Entries as E;
 ghost use Rattle.plan.specs.Entries.{used, done, present, bookedNumbers, planSound, planFits};
 use plan::Entry;

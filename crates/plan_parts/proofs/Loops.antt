@@ -6,7 +6,7 @@ use Prim.Native.Nat.{ℕ, _*_, _-_, _≤_, _<_, _+_}
 use lib.Dec.{eqb, leb, ltb}
 use lib.ListN.{length, take, getD}
 use Rattle.laws.specs.Define.{anyOf, allOf}
-use Rattle.laws.specs.Filled.{Upto}
+use Rattle.laws.specs.InternalFilled.{Upto}
 use Rattle.floor.specs.declared.Report.{Report}
 use Rattle.plan.specs.declared.Entry.{Entry}
 use Rattle.plan.specs.declared.Plan.{Plan}

@@ -1,1 +1,1 @@
-pub mod TileSignal
+pub mod InternalTileSignal

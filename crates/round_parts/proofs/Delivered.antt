@@ -12,7 +12,7 @@ use Rattle.floor.specs.declared.Members.{Members}
 use Rattle.floor.specs.Model.{numbers}
 use Rattle.floor.specs.Memory.{zeroCanister}
 use Rattle.floor.specs.Calls.{deliveryOf}
-use Rattle.round_members.specs.Members.{Holds}
+use Rattle.round_members.specs.InternalMembers.{Holds}
 
 number-at : (l : List Canister) (k : ℕ) → getD (numbers l) k 0 ≡ getD l k zeroCanister .number
 number-at [] k = refl

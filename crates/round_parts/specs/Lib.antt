@@ -1,1 +1,1 @@
-pub mod Deliveries
+pub mod InternalDeliveries

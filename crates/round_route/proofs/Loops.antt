@@ -3,10 +3,10 @@ use mathlib.Core.Path.{_≡_}
 use mathlib.Core.List.{List}
 use Prim.Native.Nat.{ℕ, _≤_}
 use lib.ListN.{length}
-use Rattle.laws.specs.Filled.{Upto}
+use Rattle.laws.specs.InternalFilled.{Upto}
 use Rattle.floor.specs.declared.Settings.{Settings}
 use Rattle.floor.specs.declared.Tile.{Tile}
-use Rattle.round_route.specs.Routed.{within, distanceIn, routedAt, Redone}
+use Rattle.round_route.specs.InternalRouted.{within, distanceIn, routedAt, Redone}
 
 pub record DistancesFilled (tiles : List Tile) (all : ℕ) (d : List ℕ) (t : ℕ) : Type 0 where
   pub below : t ≤ all

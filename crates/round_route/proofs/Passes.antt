@@ -18,7 +18,7 @@ use Rattle.floor.specs.Grid.{neighbour}
 use Rattle.floor.specs.Model.{TileState, noTile, tileOf}
 use Rattle.floor.specs.Memory.{zeroTile, stateOf, view}
 use Rattle.floor.proofs.Rows.{view-at}
-use Rattle.round_route.specs.Routed.{Redone, within}
+use Rattle.round_route.specs.InternalRouted.{Redone, within}
 
 -- ---- a neighbour is a tile of the floor, or the number of no tile
 cond-le : (b : Bool) (x y n : ℕ) → (b ≡ true → x ≤ n) → y ≤ n → cond b x y ≤ n

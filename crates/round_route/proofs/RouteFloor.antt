@@ -15,7 +15,7 @@ use Rattle.floor.specs.Memory.{headOf, stateOf, view, head, pack, fits, retiled
 use Rattle.floor.specs.Route.{routeTile, route}
 use Rattle.floor.proofs.Rows.{view-at}
 use Rattle.floor.proofs.Pack.{head-read, pack-heads}
-use Rattle.round_route.specs.Routed.{Redone, within, distanceIn, routedTile, routedAt}
+use Rattle.round_route.specs.InternalRouted.{Redone, within, distanceIn, routedTile, routedAt}
 use Rattle.round_route.proofs.Passes.{within-view}
 
 -- a tile of a value after Route

@@ -7,7 +7,7 @@ use native.Mathlib.Omega.{arith}
 use lib.Dec.{eqb}
 use lib.ListN.{getD, set}
 use Rattle.laws.specs.Define.{bit}
-use Rattle.laws.specs.Filled.{Upto}
+use Rattle.laws.specs.InternalFilled.{Upto}
 use Rattle.floor.specs.declared.Settings.{Settings}
 use Rattle.floor.specs.declared.Tile.{Tile}
 use Rattle.floor.specs.Settings.{total, isHopper}
@@ -15,7 +15,7 @@ use Rattle.floor.specs.Grid.{neighbour}
 use Rattle.floor.specs.Memory.{zeroTile}
 use Rattle.floor.specs.Route.{Heading, nearest, liesAt, kept, onward, headingOf}
 use Rattle.round_route.proofs.Passes.{shows-near, near-read, redone-turn, redone-end}
-use Rattle.round_route.specs.Routed.{Redone, within, distanceIn, headed, routedTile, routedAt}
+use Rattle.round_route.specs.InternalRouted.{Redone, within, distanceIn, headed, routedTile, routedAt}
 
 -- ---- the distance beyond a side, side by side
 module _ (w s n e d : ℕ) where

@@ -2,10 +2,10 @@
 
 ghost use mathlib.Core.Path.{_≡_};
 ghost use Prim.Native.Nat.{_≤_};
-ghost use Rattle.laws.specs.Filled.{Upto};
+ghost use Rattle.laws.specs.InternalFilled.{Upto};
 ghost use Rattle.floor.specs.Settings.{total, Ranged};
 ghost use Rattle.floor.specs.Route as R;
-ghost use Rattle.round_route.specs.Routed.{Redone, heading, within, distanceIn, routedTile, routedAt};
+ghost use Rattle.round_route.specs.InternalRouted.{Redone, heading, within, distanceIn, routedTile, routedAt};
 use floor::DISTANCE_NONE;
 use floor::EAST;
 use floor::NORTH;

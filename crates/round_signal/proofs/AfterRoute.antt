@@ -4,7 +4,7 @@ use mathlib.Core.Bool.{true}
 use Prim.Native.Nat.{ℕ, _≤_, _<_}
 use mathlib.Core.List.{List}
 use lib.ListN.{length}
-use Rattle.laws.specs.Filled.{Filled}
+use Rattle.laws.specs.InternalFilled.{Filled}
 use Rattle.laws.specs.Define.{tab}
 use Rattle.floor.specs.declared.Floor.{Floor}
 use Rattle.floor.specs.declared.Tile.{Tile}
@@ -20,7 +20,7 @@ use Rattle.floor.proofs.Rows.{view-settings, fits-canisters, Placed}
 use Rattle.floor.proofs.Pack.{state-packed, view-pack, fits-pack, well-sound, well-few, well-settings, well-fits, well-placed, few-on}
 use Rattle.floor.proofs.Reasons.{signal-lacks}
 use Rattle.floor.proofs.Capacity.{sound-small}
-use Rattle.round_route.specs.Routed.{Redone, routedAt}
+use Rattle.round_route.specs.InternalRouted.{Redone, routedAt}
 use Rattle.round_route.proofs.RouteFloor.{route-pack, route-settings, route-length, route-token, route-members}
 use Rattle.round_signal.proofs.FloorSignals.{Ready, tileAt, grantAt, reasonAt, besideAt}
 use Rattle.round_signal.proofs.Loops.{Asked}

@@ -10,9 +10,9 @@ use Rattle.floor.specs.Settings.{total}
 use Rattle.floor.specs.Grid.{around}
 use Rattle.floor.specs.Memory.{zeroTile}
 use Rattle.floor.specs.Signal.{Signal}
-use Rattle.round_route.specs.Routed.{within}
-use Rattle.round_grants.specs.TileSignal.{signalFrom}
-use Rattle.round_signal.specs.Signalling.{shownIn, tokened, reasonBy, lackBy}
+use Rattle.round_route.specs.InternalRouted.{within}
+use Rattle.round_grants.specs.InternalTileSignal.{signalFrom}
+use Rattle.round_signal.specs.InternalSignalling.{shownIn, tokened, reasonBy, lackBy}
 
 -- every token is a side or none
 abbrev pub Ready : Settings → List Tile → Type 0

@@ -8,7 +8,7 @@ use Prim.Native.Nat.{ℕ, _+_, _*_, _^_, _≤_, _<_}
 use native.Mathlib.Omega.{arith}
 use lib.Dec.{eqb}
 use lib.ListN.{length, take, drop, getD, set, replicate, length-drop}
-use Rattle.laws.specs.Filled.{Filled}
+use Rattle.laws.specs.InternalFilled.{Filled}
 use Rattle.laws.proofs.Tables.{filled-none, filled-turn, filled-skip, filled-all}
 use Rattle.floor.specs.declared.Canister.{Canister}
 use Rattle.floor.specs.declared.Settings.{Settings}
@@ -19,10 +19,10 @@ use Rattle.floor.specs.Grid.{around}
 use Rattle.floor.specs.Memory.{zeroTile}
 use Rattle.floor.specs.Sides.{inSet, following, chosen}
 use Rattle.floor.specs.Signal.{Signal, requests, signalBy}
-use Rattle.round_route.specs.Routed.{Redone}
+use Rattle.round_route.specs.InternalRouted.{Redone}
 use Rattle.round_route.proofs.Passes.{redone-none, redone-turn, redone-end}
 use Rattle.round_grants.proofs.SignalLaws.{LackFound, lacks-start, lacks-all, signal-stopped, signal-none, signal-grants, signal-stays}
-use Rattle.round_signal.specs.Signalling as M
+use Rattle.round_signal.specs.InternalSignalling as M
 use Rattle.round_signal.proofs.FloorSignals as F
 use Rattle.round_signal.proofs.PassLaws.{signal-read, filled-within}
 

@@ -8,7 +8,7 @@ use lib.Dec.{ltb}
 use borrow.Author.Tests.{lt-ltb, le-ltb}
 use mathlib.Core.Bool.{Bool, cond}
 use lib.ListN.{getD, take, drop}
-use Rattle.laws.specs.Filled.{Filled}
+use Rattle.laws.specs.InternalFilled.{Filled}
 use Rattle.floor.specs.declared.Canister.{Canister}
 use Rattle.floor.specs.declared.Settings.{Settings}
 use Rattle.floor.specs.declared.Side.{Side}
@@ -17,10 +17,10 @@ use Rattle.floor.specs.Signal.{Signal, requests}
 use Rattle.floor.specs.Settings.{total}
 use Rattle.floor.specs.Grid.{neighbour, around}
 use Rattle.floor.specs.Memory.{zeroTile}
-use Rattle.round_route.specs.Routed.{within}
+use Rattle.round_route.specs.InternalRouted.{within}
 use Rattle.round_route.proofs.Passes.{shows-near}
-use Rattle.round_grants.specs.TileSignal.{signalFrom}
-use Rattle.round_signal.specs.Signalling.{noSide, sideIn, shownIn, ShownUpto}
+use Rattle.round_grants.specs.InternalTileSignal.{signalFrom}
+use Rattle.round_signal.specs.InternalSignalling.{noSide, sideIn, shownIn, ShownUpto}
 use Rattle.round_signal.proofs.FloorSignals.{signalAt}
 
 -- ---- the sides that want, from what the neighbours show

@@ -14,7 +14,7 @@ use Rattle.floor.specs.declared.Tile.{Tile}
 use Rattle.floor.specs.Sides.{opposite}
 use Rattle.floor.specs.Grid.{neighbour}
 use Rattle.floor.specs.Memory.{zeroTile}
-use Rattle.round_signal.specs.Signalling.{ownReason, aheadReason, reasonFrom, reasonBy, lackBy}
+use Rattle.round_signal.specs.InternalSignalling.{ownReason, aheadReason, reasonFrom, reasonBy, lackBy}
 
 -- ---- by itself
 module _ (h : Tile) where

@@ -8,7 +8,7 @@ use native.Mathlib.Decide.{decLe}
 use lib.ListN.{length, take, drop, getD}
 use lib.Dec.{ltb, eqb}
 use borrow.Author.Tests.{lt-ltb, le-ltb}
-use Rattle.laws.specs.Filled.{Filled}
+use Rattle.laws.specs.InternalFilled.{Filled}
 use Rattle.laws.specs.Define.{tab, refusal}
 use Rattle.laws.proofs.Tables.{tab-length, tab-at, filled}
 use Rattle.floor.specs.declared.Tile.{Tile}
@@ -22,10 +22,10 @@ use Rattle.floor.specs.Signal.{Signal, waiting, shownNext, shownOf, signalBy, s
 use Rattle.floor.specs.Reasons.{reasonTests, aheadOf, reasonOf, missingOf}
 use Rattle.floor.proofs.Rows.{view-at}
 use Rattle.floor.proofs.Pack.{head-state, head-read, pack-heads}
-use Rattle.round_route.specs.Routed.{Redone, within}
+use Rattle.round_route.specs.InternalRouted.{Redone, within}
 use Rattle.round_route.proofs.Passes.{within-view, tile-off}
-use Rattle.round_grants.specs.TileSignal.{signalFrom}
-use Rattle.round_signal.specs.Signalling.{shownIn, tokened, ownReason, aheadReason, reasonFrom, reasonBy, lackBy}
+use Rattle.round_grants.specs.InternalTileSignal.{signalFrom}
+use Rattle.round_signal.specs.InternalSignalling.{shownIn, tokened, ownReason, aheadReason, reasonFrom, reasonBy, lackBy}
 use Rattle.round_signal.proofs.FloorSignals.{signalAt, tileAt, grantAt, turnAt, lackAt, turnsAt, lacksAt, reasonAt, besideAt}
 use Rattle.round_signal.proofs.ReasonLaws.{reasons-joined}
 

@@ -1,1 +1,1 @@
-pub mod Signalling
+pub mod InternalSignalling

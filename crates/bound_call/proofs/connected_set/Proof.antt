@@ -2,7 +2,7 @@ use mathlib.Core.Path.{_≡_, ap, _∙_, subst}
 use Prim.Native.Nat.{_+_, _-_}
 use native.Mathlib.Omega.{arith}
 use Rattle.floor.specs.Settings.{total}
-use Rattle.layout_parts.specs.Places.{ranIn}
+use Rattle.layout_parts.specs.InternalPlaces.{ranIn}
 use Rattle.layout_parts.proofs.Tiles.{below-fits}
 use Rattle.bound_call.proofs.Passes.{Reaches, made-bit, first-fits, reaches-first, reaches-next, reaches-all, reaches-connected}
 use Rattle.bound_call.proofs.Loops.{PathsFound}

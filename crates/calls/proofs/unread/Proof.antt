@@ -1,5 +1,5 @@
 use mathlib.Core.Path.{refl}
-use Rattle.calls.specs.Refused.{unreadWith}
+use Rattle.calls.specs.InternalRefused.{unreadWith}
 use Rattle.calls.proofs.unread.Statement.{statement}
 use Rattle.calls.proofs.unread.Tie as tie
 

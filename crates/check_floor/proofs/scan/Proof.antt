@@ -14,9 +14,9 @@ use Rattle.floor.specs.Model.{numbers}
 use Rattle.floor.specs.Well.{countersSound}
 use Rattle.floor.specs.Memory.{zeroCanister, isZeroCanister, block}
 use Rattle.floor.proofs.Sized.{tiles-length, canisters-length}
-use Rattle.check_unique.specs.Differ.{differ, Runs}
-use Rattle.check_places.specs.Place.{memberSound}
-use Rattle.check_floor.specs.Code.{counted}
+use Rattle.check_unique.specs.InternalDiffer.{differ, Runs}
+use Rattle.check_places.specs.InternalPlace.{memberSound}
+use Rattle.check_floor.specs.InternalCode.{counted}
 use Rattle.check_floor.proofs.Counts.{none-yet, counted-more}
 use Rattle.check_floor.proofs.WellCode.{testOf, test-fit, keys-run, well-unlike, well-tiled, well-empty, pass-sized}
 use Rattle.check_floor.proofs.Blocks.{block-length, block-at}

@@ -3,7 +3,7 @@ use Prim.Native.Nat.{_-_, _+_}
 use native.Mathlib.Omega.{arith}
 use lib.ListN.{getD, length-set}
 use Rattle.laws.proofs.Tables.{upto-turn, rest-turn}
-use Rattle.check_places.specs.Lanes.{less, distanceAt}
+use Rattle.check_places.specs.InternalLanes.{less, distanceAt}
 use Rattle.check_places.proofs.Loops.{Comparing}
 use borrow.Author.Needs.{needs}
 use Rattle.check_places.proofs.compare_shifted.Statement.{statement}

@@ -1,4 +1,4 @@
-use Rattle.check_places.specs.Lanes.{farther}
+use Rattle.check_places.specs.InternalLanes.{farther}
 use borrow.Author.Needs.{needs}
 use Rattle.check_places.proofs.distance.Statement.{statement}
 use Rattle.check_places.proofs.distance.Tie as tie

@@ -1,7 +1,7 @@
 use mathlib.Core.Path.{refl}
 use native.Mathlib.Omega.{arith}
 use Rattle.floor.specs.Well.{inside}
-use Rattle.check_places.specs.Place.{memberSound}
+use Rattle.check_places.specs.InternalPlace.{memberSound}
 use Rattle.check_places.proofs.member_ok.Statement.{statement}
 use Rattle.check_places.proofs.member_ok.Tie as tie
 

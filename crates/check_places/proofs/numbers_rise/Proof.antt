@@ -4,7 +4,7 @@ use native.Mathlib.Omega.{arith}
 use lib.ListN.{take}
 use Rattle.laws.specs.Define.{pairsOf}
 use Rattle.laws.proofs.Tables.{ended}
-use Rattle.check_places.specs.Place.{rises}
+use Rattle.check_places.specs.InternalPlace.{rises}
 use Rattle.check_places.proofs.Pairs.{rise-one, rise-more, rise-not}
 use Rattle.check_places.proofs.Loops.{NumbersRise}
 use borrow.Author.Needs.{needs}

@@ -6,7 +6,7 @@ use Rattle.laws.proofs.Tables.{filled-none}
 use Rattle.image_bytes.specs.Bytes.{field}
 use Rattle.image.specs.Image.{tileWidths}
 use Rattle.floor.specs.Memory.{zeroCanister}
-use Rattle.image_read.specs.Arrays.{canisterFrom}
+use Rattle.image_read.specs.InternalArrays.{canisterFrom}
 use Rattle.image_read.proofs.Reading.{count-is}
 use Rattle.image_read.proofs.Places.{placed-all}
 use Rattle.image_read.proofs.Loops.{TilesPlaced, CanistersPlaced, canister-turn, tile-end}

@@ -4,7 +4,7 @@ use Prim.Native.Nat.{_+_, _*_, _-_}
 use native.Mathlib.Omega.{arith}
 use Rattle.laws.specs.Define.{tab}
 use Rattle.image_bytes.specs.Bytes.{bytes, bytesOf}
-use Rattle.image_bytes.specs.Put.{put}
+use Rattle.image_bytes.specs.InternalPut.{put}
 use Rattle.image_bytes.proofs.PutLaws.{put-none, put-two}
 use Rattle.floor.proofs.Sized.{delivered-length}
 use Rattle.image_record_write.proofs.RecordBytes.{countBytes, count-length, top-length, counters-record}

@@ -5,7 +5,7 @@ use Rattle.image_bytes.specs.Bytes.{bytes}
 use Rattle.image_bytes.proofs.ByteLaws.{bytes-length}
 use Rattle.image_record_write.proofs.RecordBytes.{pair-length, measures-length, three-length}
 use Rattle.image.specs.Image.{lowest}
-use Rattle.image_record_write.specs.Parts.{measuresBytes, headBytes}
+use Rattle.image_record_write.specs.InternalParts.{measuresBytes, headBytes}
 use borrow.Author.Needs.{needs}
 use Rattle.image_record_write.proofs.put_head.Statement.{statement}
 use Rattle.image_record_write.proofs.put_head.Tie as tie

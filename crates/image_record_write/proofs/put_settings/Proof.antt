@@ -7,7 +7,7 @@ use Rattle.image_bytes.proofs.ByteLaws.{bytes-length}
 use Rattle.image_bytes.proofs.PutLaws.{put-two}
 use Rattle.image.specs.Image.{several, settingsBody}
 use Rattle.image.proofs.Sizes.{settings-size}
-use Rattle.image_record_write.specs.Parts.{headBytes}
+use Rattle.image_record_write.specs.InternalParts.{headBytes}
 use Rattle.image_record_write.proofs.RecordBytes.{head-length, settings-more, settings-one}
 use borrow.Author.Needs.{needs}
 use Rattle.image_record_write.proofs.put_settings.Statement.{statement}

@@ -2,7 +2,7 @@ use mathlib.Core.List.{_++_}
 use Prim.Native.Nat.{_+_, _*_}
 use native.Mathlib.Omega.{arith}
 use Rattle.image_bytes.specs.Bytes.{bytes}
-use Rattle.image_record_write.specs.Parts.{tileBytes}
+use Rattle.image_record_write.specs.InternalParts.{tileBytes}
 use Rattle.image_record_write.proofs.RecordBytes.{pair-length, three-length}
 use Rattle.image_bytes.proofs.PutLaws.{put-three}
 use borrow.Author.Needs.{needs}

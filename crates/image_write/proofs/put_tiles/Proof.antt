@@ -2,7 +2,7 @@ use mathlib.Core.Path.{_≡_, refl, sym}
 use Prim.Native.Nat.{_-_}
 use native.Mathlib.Omega.{arith}
 use Rattle.image_write.proofs.Loops.{TilesPut, CanistersPut, canister-turn, tile-fits, canisters-begin, tile-turn}
-use Rattle.image_write.specs.Upto.{upto}
+use Rattle.image_write.specs.InternalUpto.{upto}
 use Rattle.image_bytes.proofs.PutLaws.{put-none}
 use borrow.Author.Needs.{needs}
 use Rattle.image_write.proofs.put_tiles.Statement.{statement}

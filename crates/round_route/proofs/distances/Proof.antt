@@ -3,7 +3,7 @@ use mathlib.Core.Path.{_≡_, refl, ap, _∙_}
 use native.Mathlib.Omega.{arith}
 use lib.ListN.{length-set}
 use Rattle.floor.specs.Settings.{total}
-use Rattle.round_route.specs.Routed.{within, distanceIn}
+use Rattle.round_route.specs.InternalRouted.{within, distanceIn}
 use Rattle.round_route.proofs.Passes.{within-none, within-turn}
 use Rattle.round_route.proofs.Loops.{DistancesFilled}
 use borrow.Author.Needs.{needs}

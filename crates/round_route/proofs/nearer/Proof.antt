@@ -1,7 +1,7 @@
 use borrow.Author.Tests.{lt-ltb, le-ltb}
 use Rattle.laws.proofs.Tests.{pick-yes, pick-no}
 use Rattle.floor.specs.Route as R
-use Rattle.round_route.specs.Routed.{heading}
+use Rattle.round_route.specs.InternalRouted.{heading}
 use Rattle.round_route.proofs.nearer.Statement.{statement}
 use Rattle.round_route.proofs.nearer.Tie as tie
 

@@ -1,6 +1,6 @@
 use Prim.Native.Nat.{_-_}
 use native.Mathlib.Omega.{arith}
-use Rattle.round_route.specs.Routed.{routedAt}
+use Rattle.round_route.specs.InternalRouted.{routedAt}
 use Rattle.round_route.proofs.Passes.{redone-none}
 use Rattle.round_route.proofs.RouteLaws.{tile-in, near-in, routed-read, routed-turn, routed-end}
 use Rattle.round_route.proofs.Loops.{TilesRouted}

@@ -6,7 +6,7 @@ use Rattle.laws.proofs.Tables.{filled-none, filled-turn, filled-skip, filled-al
 use Rattle.floor.specs.Settings.{total}
 use Rattle.floor.specs.Memory.{zeroTile}
 use Rattle.round_route.proofs.Passes.{near-read}
-use Rattle.round_signal.specs.Signalling as M
+use Rattle.round_signal.specs.InternalSignalling as M
 use Rattle.round_signal.proofs.Loops.{Reasoned}
 use Rattle.round_signal.proofs.ReasonLaws.{own-read, own-lack, reason-read, lack-read}
 use borrow.Author.Needs.{needs}

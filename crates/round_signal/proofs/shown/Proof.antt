@@ -3,9 +3,9 @@ use mathlib.Core.Path.{_≡_, refl, ap, _∙_}
 use native.Mathlib.Omega.{arith}
 use lib.ListN.{length-set}
 use Rattle.floor.specs.Settings.{total}
-use Rattle.round_route.specs.Routed.{within}
+use Rattle.round_route.specs.InternalRouted.{within}
 use Rattle.round_route.proofs.Passes.{within-none, within-turn}
-use Rattle.round_signal.specs.Signalling.{noSide, shownIn}
+use Rattle.round_signal.specs.InternalSignalling.{noSide, shownIn}
 use Rattle.round_signal.proofs.Loops.{Shown}
 use borrow.Author.Needs.{needs}
 use Rattle.round_signal.proofs.shown.Statement.{statement}

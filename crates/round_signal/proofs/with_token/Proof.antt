@@ -1,5 +1,5 @@
 use mathlib.Core.Path.{refl}
-use Rattle.round_signal.specs.Signalling.{tokened}
+use Rattle.round_signal.specs.InternalSignalling.{tokened}
 use Rattle.round_signal.proofs.with_token.Statement.{statement}
 use Rattle.round_signal.proofs.with_token.Tie as tie
 

@@ -11,7 +11,7 @@ use Rattle.floor.specs.declared.Tile.{Tile}
 use Rattle.floor.specs.Settings.{total}
 use Rattle.floor.specs.Memory.{isZeroCanister, headFits}
 use Rattle.floor.specs.Well.{headSound, inOrder}
-use Rattle.check_places.specs.Place.{memberSound}
+use Rattle.check_places.specs.InternalPlace.{memberSound}
 
 -- the first n of the places l
 unfoldable pub usedSound : Settings → ℕ → ℕ → List Canister → Bool

@@ -13,7 +13,7 @@ use Rattle.floor.specs.Sides.{opposite}
 use Rattle.floor.specs.Grid.{neighbour}
 use Rattle.floor.specs.Memory.{zeroTile}
 use Rattle.floor.specs.Signal.{shownNext}
-use Rattle.round_route.specs.Routed.{within}
+use Rattle.round_route.specs.InternalRouted.{within}
 
 abbrev pub noSide : Side
 noSide = record { code = 0 }
