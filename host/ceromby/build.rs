@@ -1,4 +1,4 @@
-//! Links libcapi.a from the repository's target/staticlib, or from the
+//! Links libceromby.a from the repository's target/staticlib, or from the
 //! directory that CEROMBY_LIB_DIR names by an absolute path.
 
 use std::env;
@@ -13,8 +13,8 @@ fn main() {
     println!("cargo:rerun-if-env-changed=CEROMBY_LIB_DIR");
     println!(
         "cargo:rerun-if-changed={}",
-        directory.join("libcapi.a").display()
+        directory.join("libceromby.a").display()
     );
     println!("cargo:rustc-link-search=native={}", directory.display());
-    println!("cargo:rustc-link-lib=static=capi");
+    println!("cargo:rustc-link-lib=static=ceromby");
 }

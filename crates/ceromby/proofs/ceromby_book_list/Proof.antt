@@ -1,4 +1,4 @@
--- `capi::ceromby_book_list` meets its contract: a walk of its MIR, by hand. The list is given to `book_list::book_list` for good, and what that ensures of its last value is handed on.
+-- `ceromby::ceromby_book_list` meets its contract: a walk of its MIR, by hand. The list is given to `book_list::book_list` for good, and what that ensures of its last value is handed on.
 use mathlib.Core.Path.{_≡_, refl, subst}
 use Prim.Native.Nat.{ℕ}
 use mathlib.Core.List.{List, [], _∷_}
@@ -47,11 +47,11 @@ use Rattle.book_list.proofs.book_list as one
 use Rattle.book_list.proofs.book_list.Symbol as one-def
 use Rattle.book_list.proofs.book_list.Symbol.{name as #one}
 use Rattle.book_list.proofs.book_list.Met as one-thm
-use Rattle.capi.proofs.ceromby_book_list.Key.{name as #here}
-use Rattle.capi.proofs.ceromby_book_list as f
-use Rattle.capi.proofs.ceromby_book_list.Statement as stated
-use Rattle.capi.proofs.ceromby_book_list.Code as code
-use Rattle.capi.proofs.ceromby_book_list.Code.Mir as steps
+use Rattle.ceromby.proofs.ceromby_book_list.Key.{name as #here}
+use Rattle.ceromby.proofs.ceromby_book_list as f
+use Rattle.ceromby.proofs.ceromby_book_list.Statement as stated
+use Rattle.ceromby.proofs.ceromby_book_list.Code as code
+use Rattle.ceromby.proofs.ceromby_book_list.Code.Mir as steps
 
 abbrev stayed : Stays (f.ended .signature .params) (f.ended .kept)
 stayed = (stay-none (λ _. Z.the-row) yes, (gave-slice (0 ∷ []) tt (plain (λ _. S.the-row)), tt))
