@@ -34,6 +34,14 @@ use plan::Released;
 use throughput::FedValues;
 use throughput::Throughput;
 
+// 10,000 for the major number, 100 for the minor one and 1 for the patch: 0.1.0.
+#[no_mangle]
+pub extern "C" fn ceromby_version() -> u32
+    ensures { λ r. ⌜ r ≡ 100 ⌝ }
+{
+    100
+}
+
 #[no_mangle]
 pub extern "C" fn ceromby_fresh(settings: Settings) -> Answer
     ensures { λ r. ⌜ r ≡ freshAnswer settings ⌝ }
