@@ -60,5 +60,8 @@ fn as_in_c() {
     ] {
         ours.insert(name.to_string(), side.code.into());
     }
-    assert_eq!(ours, defined());
+    let mut theirs = defined();
+    // what only C has: measured, and the version in parts
+    theirs.retain(|name, _| !name.ends_with("STACK") && !name.starts_with("VERSION_"));
+    assert_eq!(ours, theirs);
 }
