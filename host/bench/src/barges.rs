@@ -1,5 +1,7 @@
 //! Barges to measure on, in both shapes.
 
+use ::ceromby::raw as ceromby;
+
 use crate::floors::{both_shapes, Pair};
 
 /// Four floors alike, with the lone one and what to book there.

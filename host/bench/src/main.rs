@@ -10,6 +10,7 @@ mod plans;
 use std::hint::black_box;
 use std::time::Instant;
 
+use ::ceromby::raw as ceromby;
 use barges::fours;
 use floors::{both_shapes, growing, to_book_on, to_list_on, Pair};
 use plans::{stages, Planned};

@@ -1,5 +1,6 @@
 //! Plans to measure on, in both shapes.
 
+use ::ceromby::raw as ceromby;
 use oracle::{Entry, Plan, BOOKED, DELIVERED, WAITING};
 
 use crate::floors::Pair;

@@ -1,176 +1,133 @@
-//! Plans: what is to be fed in which order.
+//! What is to be fed in which order.
 
-use crate::raw;
-use crate::types::{Floor, Report};
+use core::fmt;
 
-/// Most entries of a plan.
-pub const MAX_ENTRIES: usize = 64;
-/// The highest label; the lowest is 1.
-pub const MAX_LABEL: u8 = 64;
+use crate::floor::Floor;
+use crate::raw::{self, Entry};
+use crate::refusal::{accepted, Refusal};
+use crate::report::Report;
+use crate::tile::Place;
 
-/// The byte `stage` of an entry that waits.
-pub const STAGE_WAITING: u8 = 0;
-/// Of one that is booked. Any byte above 2 is read as this one.
-pub const STAGE_BOOKED: u8 = 1;
-/// Of one that was delivered.
-pub const STAGE_DELIVERED: u8 = 2;
-
-/// An entry of a plan. Any bytes may stand here.
-#[repr(C)]
-#[derive(Clone, Copy, PartialEq, Eq, Debug, Default)]
-pub struct Entry {
-    /// A fill tile; looked at in a release alone.
-    pub tile: u32,
-    /// What it is booked under; a delivered entry keeps it.
-    pub number: u32,
-    /// 1 to 64, each once in a plan.
-    pub label: u8,
-    /// Lower labels of the plan that must be delivered earlier, 0 for none.
-    pub first: u8,
-    /// The same.
-    pub second: u8,
-    /// 0 waits, 2 delivered, any other byte booked; [`Entry::stage()`] tells.
-    pub stage: u8,
-}
-
-/// Where an entry stands.
-#[derive(Clone, Copy, PartialEq, Eq, Debug)]
-pub enum Stage {
-    /// Not yet released.
-    Waiting,
-    /// Under this number.
-    Booked(u32),
-    /// A report that lists its number was handed in.
-    Delivered,
-}
-
-impl Entry {
-    /// An entry that waits. A predecessor 0 is none.
-    pub const fn waiting(label: u8, tile: u32, first: u8, second: u8) -> Entry {
-        Entry {
-            tile,
-            number: 0,
-            label,
-            first,
-            second,
-            stage: STAGE_WAITING,
-        }
-    }
-
-    /// Where the entry stands, by its byte.
-    pub const fn stage(&self) -> Stage {
-        match self.stage {
-            STAGE_WAITING => Stage::Waiting,
-            STAGE_DELIVERED => Stage::Delivered,
-            _ => Stage::Booked(self.number),
-        }
-    }
-}
-
-/// What is to be fed in which order. Entries from the count on are ignored and
-/// handed back. A plan that isn't sound is refused by 30.
-#[repr(C)]
-#[derive(Clone, Copy, PartialEq, Eq, Debug)]
+/// What is to be fed in which order: up to 64 entries, each with a label and up
+/// to two labels that must be delivered earlier.
+///
+/// ```
+/// use ceromby::{Entry, Floor, Plan, Refusal};
+///
+/// # fn main() -> Result<(), Refusal> {
+/// let mut floor = Floor::load(&[])?; // the standard floor: fill tile 4
+/// // Medicated feed, label 2, follows plain.
+/// let mut plan = Plan::new(&[Entry::new(1, 4), Entry::new(2, 4).after(1)])?;
+/// while !plan.is_done() {
+///     if let Some(label) = plan.offer()? {
+///         let released = plan.release(&mut floor, label)?;
+///         println!("label {label} is canister {} at {}", released.number, released.place);
+///     }
+///     let report = floor.round()?;
+///     plan.report(&report)?;
+/// }
+/// assert_eq!(floor.counters().delivered[0], 2);
+/// # Ok(())
+/// # }
+/// ```
+#[derive(Clone, PartialEq, Eq)]
 pub struct Plan {
-    /// In any order; [`Plan::used`] gives those that count.
-    pub entries: [Entry; MAX_ENTRIES],
-    /// How many count.
-    pub count: u32,
+    memory: raw::Plan,
+}
+
+/// What a release booked.
+#[derive(Clone, Copy, PartialEq, Eq, Hash, Debug)]
+pub struct Released {
+    /// The canister's number.
+    pub number: u32,
+    /// Where it is to be set.
+    pub place: Place,
 }
 
 impl Plan {
-    /// A plan of these entries. With more than 64 it claims so many, and is
-    /// refused by 30.
-    pub fn of(entries: &[Entry]) -> Plan {
-        let mut plan = Plan {
-            entries: [Entry::default(); MAX_ENTRIES],
-            count: u32::try_from(entries.len()).unwrap_or(u32::MAX),
-        };
-        for (place, entry) in plan.entries.iter_mut().zip(entries) {
-            *place = *entry;
+    /// A plan of these entries, in any order. Refused by
+    /// [`Refusal::Malformed`] (over 64 of them, or one past waiting has a
+    /// predecessor that isn't delivered, or two are booked under one number) and
+    /// [`Refusal::BadLabel`].
+    pub fn new(entries: &[Entry]) -> Result<Plan, Refusal> {
+        Plan::try_from(raw::Plan::of(entries))
+    }
+
+    /// The lowest label that waits and whose predecessors are all delivered, if
+    /// there is one.
+    pub fn offer(&self) -> Result<Option<u8>, Refusal> {
+        let offered = raw::as_in_c::offer(&self.memory);
+        accepted(offered.refusal)?;
+        Ok((offered.label != 0).then_some(offered.label))
+    }
+
+    /// Books a label that waits, offered or not, as [`Floor::book_anywhere`]
+    /// does, on its entry's tile and under the number after the floor's last.
+    /// Refused by [`Refusal::NotReleased`], by what refuses such a booking, and
+    /// by [`Refusal::Malformed`] if the plan has booked numbers that this floor
+    /// never had.
+    pub fn release(&mut self, floor: &mut Floor, label: u8) -> Result<Released, Refusal> {
+        let released = raw::plan::release(&self.memory, floor.as_raw(), label.into());
+        accepted(released.refusal)?;
+        self.memory = released.plan;
+        floor.memory = released.floor;
+        Ok(Released {
+            number: released.number,
+            place: Place {
+                a: released.a,
+                b: released.b,
+            },
+        })
+    }
+
+    /// Marks delivered what a round's report lists. Every report from the first
+    /// release on is to be handed in.
+    pub fn report(&mut self, report: &Report) -> Result<(), Refusal> {
+        let planned = raw::plan::report(&self.memory, report.as_raw());
+        accepted(planned.refusal)?;
+        self.memory = planned.plan;
+        Ok(())
+    }
+
+    /// Its entries, in the order in which they were given.
+    pub fn entries(&self) -> &[Entry] {
+        self.memory.used()
+    }
+
+    /// Whether every entry is delivered.
+    pub fn is_done(&self) -> bool {
+        let delivered = raw::plan::STAGE_DELIVERED;
+        self.entries().iter().all(|entry| entry.stage == delivered)
+    }
+
+    /// As C gets it.
+    pub fn as_raw(&self) -> &raw::Plan {
+        &self.memory
+    }
+}
+
+/// No entries.
+impl Default for Plan {
+    fn default() -> Plan {
+        Plan {
+            memory: raw::Plan::of(&[]),
         }
-        plan
-    }
-
-    /// The entries that count.
-    pub fn used(&self) -> &[Entry] {
-        let count = usize::try_from(self.count).unwrap_or(MAX_ENTRIES);
-        &self.entries[..count.min(MAX_ENTRIES)]
     }
 }
 
-/// The answer of an offer as C gets it.
-#[repr(C)]
-#[derive(Clone, Copy, PartialEq, Eq, Debug)]
-pub struct Offered {
-    /// 0 where none is offered, and beside a refusal.
-    pub label: u8,
-    /// 0 for accepted.
-    pub refusal: u8,
-}
+/// Refused as [`Plan::new`] is.
+impl TryFrom<raw::Plan> for Plan {
+    type Error = Refusal;
 
-/// The answer of a report.
-#[must_use = "a call leaves the plan that it was handed"]
-#[repr(C)]
-#[derive(Clone, Copy, PartialEq, Eq, Debug)]
-pub struct Planned {
-    /// The plan after it. Beside a refusal, the one that was handed in.
-    pub plan: Plan,
-    /// 0 for accepted.
-    pub refusal: u8,
-}
-
-/// The answer of a release.
-#[must_use = "a call leaves the plan and the floor that it was handed"]
-#[repr(C)]
-#[derive(Clone, Copy, PartialEq, Eq, Debug)]
-pub struct Released {
-    /// The floor after it. Beside a refusal, the one that was handed in.
-    pub floor: Floor,
-    /// The plan, in the same way.
-    pub plan: Plan,
-    /// What was booked. Beside a refusal 0, at the place (0, 0).
-    pub number: u32,
-    /// Its place; [`Released::place`] gives none beside a refusal.
-    pub a: u16,
-    /// The same, northward.
-    pub b: u16,
-    /// 0 for accepted.
-    pub refusal: u8,
-}
-
-impl Released {
-    /// The place (a, b) that the canister took, if it was accepted.
-    pub fn place(&self) -> Option<(u16, u16)> {
-        (self.refusal == 0).then_some((self.a, self.b))
+    fn try_from(memory: raw::Plan) -> Result<Plan, Refusal> {
+        let plan = Plan { memory };
+        plan.offer()?;
+        Ok(plan)
     }
 }
 
-/// The lowest label that waits and whose predecessors are all delivered, if
-/// there is one, or the number of the refusal.
-pub fn offer(plan: &Plan) -> Result<Option<u8>, u8> {
-    match offered(plan) {
-        Offered { refusal: 0, label } => Ok((label != 0).then_some(label)),
-        Offered { refusal, .. } => Err(refusal),
+impl fmt::Debug for Plan {
+    fn fmt(&self, f: &mut fmt::Formatter) -> fmt::Result {
+        f.debug_list().entries(self.entries()).finish()
     }
-}
-
-/// The answer of an offer as C gets it.
-pub(crate) fn offered(plan: &Plan) -> Offered {
-    // SAFETY: plain values in and out.
-    unsafe { raw::ceromby_plan_offer(*plan) }
-}
-
-/// Books a label that waits, as [`crate::book_anywhere`] does, under the number
-/// after the floor's last.
-pub fn release(plan: &Plan, floor: &Floor, label: u32) -> Released {
-    // SAFETY: plain values in and out.
-    unsafe { raw::ceromby_plan_release(*plan, *floor, label) }
-}
-
-/// Marks delivered what a round's report lists, for any hopper. Every report
-/// from the first release on is to be handed in.
-pub fn report(plan: &Plan, report: &Report) -> Planned {
-    // SAFETY: plain values in and out.
-    unsafe { raw::ceromby_plan_report(*plan, *report) }
 }

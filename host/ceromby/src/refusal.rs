@@ -1,76 +1,129 @@
-//! Why a call was refused: document 01's numbers and those of document 02's
-//! requests, named as in include/ceromby.h.
+//! Why a call was refused. The table below is the one place in Rust with the
+//! numbers and their words; a test holds it to include/ceromby.h and to the
+//! words beside the numbers in the proved crates.
 
-/// Not refused.
-pub const ACCEPTED: u8 = 0;
+use core::fmt;
 
-/// W, H or C outside its range.
-pub const GRID: u8 = 1;
-/// Not one to four hoppers, one not on the floor, or a fill bit for one or for
-/// no tile.
-pub const SETS: u8 = 2;
-/// U, l, r or v outside its range, or a rule of [`crate::Settings`] broken.
-pub const MEASURE: u8 = 3;
-/// Tile not on the floor.
-pub const NO_TILE: u8 = 4;
-/// Booking on a tile outside the fill set.
-pub const NOT_A_SOURCE: u8 = 5;
-/// Canister number 0.
-pub const NUMBER_ZERO: u8 = 6;
-/// a or b above U - l.
-pub const OUTSIDE: u8 = 7;
-/// Stop of a hopper.
-pub const STOP_OF_HOPPER: u8 = 8;
-/// Image ends within a record or without its end record, or goes on after it;
-/// never for zero bytes, which load the standard floor.
-pub const IMAGE_ENDS: u8 = 9;
-/// Record of another kind than the one due.
-pub const OTHER_KIND: u8 = 10;
-/// Wrong record length, or a fixed byte wrong.
-pub const RECORD_SHAPE: u8 = 11;
-/// Image complete, floor not well formed.
-pub const IMAGE_MALFORMED: u8 = 12;
-/// Buffer shorter than the image to write.
-pub const SHORT_BUFFER: u8 = 13;
+macro_rules! refusals {
+    ($($name:ident $variant:ident $number:literal $text:literal)*) => {
+        /// Why a call was refused, by the papers' numbers.
+        ///
+        /// ```
+        /// use ceromby::Refusal;
+        ///
+        /// let refusal = Refusal::TooClose;
+        /// assert_eq!(refusal.number(), 34);
+        /// assert_eq!(
+        ///     refusal.to_string(),
+        ///     "some canister of the tile differs by less than d in both a and b"
+        /// );
+        /// ```
+        #[derive(Clone, Copy, PartialEq, Eq, Hash, Debug)]
+        #[non_exhaustive]
+        pub enum Refusal {
+            $(
+                #[doc = concat!($number, ": ", $text, ".")]
+                $variant,
+            )*
+            /// A number that this binding doesn't know: the archive is of
+            /// another version ([`crate::version`]).
+            Unknown(u8),
+        }
 
-/// The floor handed in isn't well formed, the throughput isn't sound, or the
-/// plan or the barge isn't.
-pub const MALFORMED: u8 = 30;
-/// Booking on a stopped tile, or stop of a stopped one.
-pub const STOPPED: u8 = 31;
-/// Repair of a running tile.
-pub const RUNNING: u8 = 32;
-/// Canister number not above the last booked.
-pub const NUMBER_USED: u8 = 33;
-/// Some canister of the tile differs by less than d = l + r in both a and b.
-pub const TOO_CLOSE: u8 = 34;
-/// Booking without a place: none on the tile keeps the spacing.
-pub const NO_PLACE: u8 = 40;
+        impl Refusal {
+            /// All that the papers name, by rising number.
+            pub const ALL: &'static [Refusal] = &[$(Refusal::$variant),*];
 
-/// A throughput's count above 4.
-pub const COUNT_TOO_HIGH: u8 = 41;
+            /// The refusal of a number; none for 0, which is accepted.
+            pub const fn of(number: u8) -> Option<Refusal> {
+                match number {
+                    0 => None,
+                    $($number => Some(Refusal::$variant),)*
+                    other => Some(Refusal::Unknown(other)),
+                }
+            }
 
-/// More than 64 bookings in a list.
-pub const LIST_TOO_LONG: u8 = 42;
+            /// The papers' number, as C gets it.
+            pub const fn number(self) -> u8 {
+                match self {
+                    $(Refusal::$variant => $number,)*
+                    Refusal::Unknown(number) => number,
+                }
+            }
 
-/// Buffer shorter than the page.
-pub const SHORT_PAGE: u8 = 43;
+            /// The papers' words, as `ceromby_refusal_text` gives them in C.
+            pub const fn text(self) -> &'static str {
+                match self {
+                    $(Refusal::$variant => $text,)*
+                    Refusal::Unknown(_) => "unknown",
+                }
+            }
+        }
 
-/// Not 1 to 8 letters A to Z, then zeros.
-pub const BAD_NAME: u8 = 44;
-/// Recalling or forgetting a name that isn't held.
-pub const NAME_NOT_HELD: u8 = 45;
-/// Keeping under a new name with eight held.
-pub const LAYOUTS_FULL: u8 = 46;
+        /// The numbers by the names that they have in C.
+        pub mod numbers {
+            /// Not refused.
+            pub const ACCEPTED: u8 = 0;
+            $(
+                #[doc = concat!($text, ".")]
+                pub const $name: u8 = $number;
+            )*
+        }
+    };
+}
 
-/// An entry's label is repeated or outside 1 to 64, or a predecessor absent or
-/// not lower.
-pub const BAD_LABEL: u8 = 47;
-/// Release of a label that isn't waiting or not in the plan, or before a
-/// predecessor of it was delivered.
-pub const NOT_RELEASED: u8 = 48;
+refusals! {
+    GRID Grid 1 "W, H or C outside its range"
+    SETS Sets 2 "hopper not on the floor, or a fill bit for the hopper or for no tile, or not one to four hoppers"
+    MEASURE Measure 3 "a measure breaks the rules"
+    NO_TILE NoTile 4 "tile not on the floor"
+    NOT_A_SOURCE NotASource 5 "booking on a tile outside the fill set"
+    NUMBER_ZERO NumberZero 6 "canister number 0"
+    OUTSIDE Outside 7 "a or b above U - l"
+    STOP_OF_HOPPER StopOfHopper 8 "stop of the hopper"
+    IMAGE_ENDS ImageEnds 9 "image ends within a record or with its end record missing, or has bytes after its end record"
+    OTHER_KIND OtherKind 10 "record of another kind than the one due"
+    RECORD_SHAPE RecordShape 11 "wrong record length, or a fixed byte wrong"
+    IMAGE_MALFORMED ImageMalformed 12 "image complete, floor not well formed"
+    SHORT_BUFFER ShortBuffer 13 "buffer shorter than the image to write"
+    MALFORMED Malformed 30 "the floor handed in isn't well formed, or the record, plan or barge isn't sound"
+    STOPPED Stopped 31 "booking on a stopped tile, or stop of a stopped one"
+    RUNNING Running 32 "repair of a running tile"
+    NUMBER_USED NumberUsed 33 "canister number not above the last booked"
+    TOO_CLOSE TooClose 34 "some canister of the tile differs by less than d in both a and b"
+    NO_PLACE NoPlace 40 "no place on the tile"
+    COUNT_TOO_HIGH CountTooHigh 41 "a count above 4"
+    LIST_TOO_LONG ListTooLong 42 "more than 64 entries"
+    SHORT_PAGE ShortPage 43 "buffer shorter than the page"
+    BAD_NAME BadName 44 "bad name"
+    NAME_NOT_HELD NameNotHeld 45 "name not held"
+    LAYOUTS_FULL LayoutsFull 46 "eight other names held"
+    BAD_LABEL BadLabel 47 "an entry's label repeated or outside 1 to 64, or a predecessor absent or not lower"
+    NOT_RELEASED NotReleased 48 "the label asked for not waiting or a predecessor undelivered"
+    NO_FLOOR NoFloor 49 "floor number not 0 to 3"
+    OVERLOADED Overloaded 50 "the total is at or above the allowance"
+}
 
-/// Floor number not 0 to 3.
-pub const NO_FLOOR: u8 = 49;
-/// Booking with as many canisters aboard as are allowed, or more.
-pub const OVERLOADED: u8 = 50;
+/// The papers' words, [`Refusal::text`].
+impl fmt::Display for Refusal {
+    fn fmt(&self, f: &mut fmt::Formatter) -> fmt::Result {
+        f.pad(self.text())
+    }
+}
+
+impl core::error::Error for Refusal {}
+
+/// Nothing for 0, else the refusal.
+#[inline]
+pub(crate) fn accepted(number: u8) -> Result<(), Refusal> {
+    match number {
+        0 => Ok(()),
+        _ => refused(number),
+    }
+}
+
+/// Apart, so that an accepted call does no more than look at its number.
+#[cold]
+fn refused(number: u8) -> Result<(), Refusal> {
+    Refusal::of(number).map_or(Ok(()), Err)
+}

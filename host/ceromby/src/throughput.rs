@@ -1,85 +1,97 @@
-//! Throughput at one hopper, over windows of 256 rounds.
+//! One hopper's rates.
 
-use crate::raw;
+use crate::raw::{self, Fed, FED_CLOSED};
+use crate::refusal::{accepted, Refusal};
 
-/// Rounds of a window.
-pub const WINDOW: u16 = 256;
-
-/// The byte `kind` of a feed that was refused.
-pub const FED_REFUSED: u8 = 0;
-/// Of one after which the window is still open.
-pub const FED_OPEN: u8 = 1;
-/// Of one that closed the window.
-pub const FED_CLOSED: u8 = 2;
-
-/// What is kept of the windows. A new record is the default, all zero. Any
-/// bytes may stand here; a record that isn't sound is refused by 30.
-#[repr(C)]
-#[derive(Clone, Copy, PartialEq, Debug, Default)]
+/// Deliveries at one hopper, over windows of 256 rounds. A record follows one
+/// hopper: feed it that hopper's count of every round.
+///
+/// ```
+/// use ceromby::{Fed, Refusal, Throughput};
+///
+/// # fn main() -> Result<(), Refusal> {
+/// let mut record = Throughput::new();
+/// for _ in 0..255 {
+///     record.feed(1)?;
+/// }
+/// assert_eq!((record.rounds(), record.last()), (255, None));
+/// assert_eq!(record.feed(3)?, Fed::Closed { rate: 258.0 / 256.0 });
+/// assert_eq!(record.last(), Some(258.0 / 256.0));
+/// assert_eq!(record.feed(5), Err(Refusal::CountTooHigh));
+/// # Ok(())
+/// # }
+/// ```
+#[derive(Clone, PartialEq, Debug, Default)]
 pub struct Throughput {
-    /// Rate of the last closed window: deliveries divided by 256, so 0 to 4.
-    pub last: f64,
+    memory: raw::Throughput,
+}
+
+impl Throughput {
+    /// A record that no round was fed to; the default.
+    pub fn new() -> Throughput {
+        Throughput::default()
+    }
+
+    /// Takes a round's count of deliveries at the hopper, 0 to 4. Refused by
+    /// [`Refusal::CountTooHigh`].
+    pub fn feed(&mut self, count: u32) -> Result<Fed, Refusal> {
+        let told = raw::as_in_c::feed(&self.memory, count);
+        accepted(told.refusal)?;
+        self.memory = told.throughput;
+        Ok(match told.kind {
+            FED_CLOSED => Fed::Closed { rate: told.rate },
+            _ => Fed::Open {
+                rounds: told.rounds,
+            },
+        })
+    }
+
+    /// The rate of the last closed window, deliveries in a round: 0 to 4. None
+    /// before the first close.
+    pub fn last(&self) -> Option<f64> {
+        self.has_closed().then_some(self.memory.last)
+    }
+
     /// The least of all closed windows.
-    pub least: f64,
-    /// The greatest.
-    pub greatest: f64,
+    pub fn least(&self) -> Option<f64> {
+        self.has_closed().then_some(self.memory.least)
+    }
+
+    /// The greatest of all closed windows.
+    pub fn greatest(&self) -> Option<f64> {
+        self.has_closed().then_some(self.memory.greatest)
+    }
+
+    /// Whether a window has closed.
+    pub fn has_closed(&self) -> bool {
+        self.memory.closed != 0
+    }
+
     /// Rounds of the open window, 0 to 255.
-    pub rounds: u16,
+    pub fn rounds(&self) -> u16 {
+        self.memory.rounds
+    }
+
     /// Deliveries of the open window.
-    pub deliveries: u16,
-    /// 0 until a window has closed; any other byte: one has.
-    pub closed: u8,
+    pub fn deliveries(&self) -> u16 {
+        self.memory.deliveries
+    }
+
+    /// As C gets it; what a program stores.
+    pub fn as_raw(&self) -> &raw::Throughput {
+        &self.memory
+    }
 }
 
-/// The answer of a feed as C gets it, `ceromby_fed` there; [`feed`] gives it as
-/// [`Fed`] or the number of the refusal.
-#[repr(C)]
-#[derive(Clone, Copy, PartialEq, Debug)]
-pub struct Told {
-    /// The record after it. Beside a refusal, as it came.
-    pub throughput: Throughput,
-    /// 0 unless the window closed.
-    pub rate: f64,
-    /// 0 unless it is still open.
-    pub rounds: u16,
-    /// [`FED_REFUSED`], [`FED_OPEN`] or [`FED_CLOSED`].
-    pub kind: u8,
-    /// 0 for accepted.
-    pub refusal: u8,
-}
+/// Refused by [`Refusal::Malformed`] if it isn't sound.
+impl TryFrom<raw::Throughput> for Throughput {
+    type Error = Refusal;
 
-/// What a round did to the window.
-#[derive(Clone, Copy, PartialEq, Debug)]
-pub enum Fed {
-    /// It is still open.
-    Open {
-        /// How many it has, 1 to 255, this one included.
-        rounds: u16,
-    },
-    /// It closed.
-    Closed {
-        /// Times 256 it is the window's deliveries exactly.
-        rate: f64,
-    },
-}
-
-/// Takes a round's delivered count at one hopper, [`crate::Delivery::count`], and
-/// gives the record after it, or the number of the refusal. Refused, the record
-/// stays what it was.
-pub fn feed(throughput: &Throughput, count: u32) -> Result<(Throughput, Fed), u8> {
-    let told = told(throughput, count);
-    let fed = match told.kind {
-        FED_OPEN => Fed::Open {
-            rounds: told.rounds,
-        },
-        FED_CLOSED => Fed::Closed { rate: told.rate },
-        _ => return Err(told.refusal),
-    };
-    Ok((told.throughput, fed))
-}
-
-/// The answer of a feed as C gets it.
-pub(crate) fn told(throughput: &Throughput, count: u32) -> Told {
-    // SAFETY: plain values in and out.
-    unsafe { raw::ceromby_feed(*throughput, count) }
+    fn try_from(memory: raw::Throughput) -> Result<Throughput, Refusal> {
+        // a count that is too high is tested after the record
+        match raw::as_in_c::feed(&memory, u32::MAX).refusal {
+            raw::refusal::COUNT_TOO_HIGH => Ok(Throughput { memory }),
+            other => accepted(other).map(|()| Throughput { memory }),
+        }
+    }
 }

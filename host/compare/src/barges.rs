@@ -4,6 +4,7 @@
 mod counts;
 mod makers;
 
+use ::ceromby::raw as ceromby;
 use oracle::{Answer, Barge, Floor, PlaceAnswer, Report, RoundAnswer, FLOORS};
 
 use crate::call::{Call, Outcome, Trouble};

@@ -1,6 +1,7 @@
 //! Images of zero to three bytes (request [9]): what a load must make of
 //! them, and how many the runs met.
 
+use ::ceromby::raw as ceromby;
 use oracle::random::Rng;
 use oracle::{Floor, Report, STANDARD};
 

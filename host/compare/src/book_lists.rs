@@ -1,6 +1,7 @@
 //! Lists of bookings in one call (request [4]): how the runs make them, what
 //! they are held to, and what was met of them.
 
+use ::ceromby::raw as ceromby;
 use oracle::random::{self, Rng};
 use oracle::{Answer, Booking, Canister, Floor, LONGEST_LIST};
 

@@ -4,6 +4,7 @@ use std::hint::black_box;
 use std::panic::{self, catch_unwind, AssertUnwindSafe};
 use std::sync::atomic::{AtomicBool, Ordering};
 
+use ::ceromby::raw as ceromby;
 use oracle::{
     Answer, Booking, Canister, FeedAnswer, Floor, OfferAnswer, PlaceAnswer, Plan, PlanAnswer,
     Reading, ReleaseAnswer, Report, RoundAnswer, Settings, Throughput, Tile, WriteAnswer,

@@ -1,5 +1,6 @@
 //! Layouts in images: damage, what the runs met, and what a load must make of them.
 
+use ::ceromby::raw as ceromby;
 use oracle::random::{self, Rng};
 use oracle::{Layout, MAX_LAYOUTS};
 

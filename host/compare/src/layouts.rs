@@ -2,6 +2,7 @@
 
 use std::collections::BTreeMap;
 
+use ::ceromby::raw as ceromby;
 use oracle::random::{self, Rng};
 use oracle::{Floor, Layout, MAX_LAYOUTS};
 

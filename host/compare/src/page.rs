@@ -1,6 +1,7 @@
 //! The floor as a page of text (request [7]): the call held to the paper, and
 //! what the runs met of it.
 
+use ::ceromby::raw as ceromby;
 use oracle::random::{self, Rng};
 use oracle::{Floor, Settings, WriteAnswer, LONGEST_PAGE, NONE};
 

@@ -1,6 +1,7 @@
 //! Bookings without a place (request [1]): what the floor before asks for, and
 //! what the runs met of them.
 
+use ::ceromby::raw as ceromby;
 use oracle::random::{self, Rng};
 use oracle::{Canister, Floor, PlaceAnswer, Settings, PLACES};
 

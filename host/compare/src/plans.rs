@@ -7,6 +7,7 @@ mod makers;
 use std::collections::BTreeSet;
 use std::fmt::Debug;
 
+use ::ceromby::raw as ceromby;
 use oracle::{
     Delivery, Entry, Floor, OfferAnswer, Plan, PlanAnswer, ReleaseAnswer, Report, BOOKED,
     DELIVERED, WAITING,

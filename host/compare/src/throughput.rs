@@ -1,7 +1,7 @@
 //! Throughput records (request [2]): feeds made by both, held to the paper by
 //! arithmetic on f64, and what the runs met of them.
 
-use ceromby::{FED_CLOSED, FED_OPEN, FED_REFUSED};
+use ::ceromby::raw::{self as ceromby, FED_CLOSED, FED_OPEN, FED_REFUSED};
 use oracle::random::Rng;
 use oracle::{Canister, Fed, FeedAnswer, Floor, Report, Throughput, MAX_HOPPERS, WINDOW};
 

@@ -1,5 +1,6 @@
 //! Between the binding's structs and the oracle's.
 
+use ::ceromby::raw as ceromby;
 use oracle::{
     Answer, Barge, Booking, Canister, Counters, Delivery, Entry, Floor, Layout, PlaceAnswer, Plan,
     PlanAnswer, Reading, ReleaseAnswer, Report, RoundAnswer, Settings, Tile, WriteAnswer,

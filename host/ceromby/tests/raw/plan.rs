@@ -1,10 +1,8 @@
 //! Medicated feed follows plain.
 
-mod common;
-
-use ceromby::plan::{offer, release, report, MAX_ENTRIES, STAGE_DELIVERED};
-use ceromby::{fresh, refusal, round, stop, Entry, Plan, Stage};
-use common::SETTINGS;
+use crate::SETTINGS;
+use ceromby::raw::plan::{offer, release, report, MAX_ENTRIES, STAGE_DELIVERED};
+use ceromby::raw::{fresh, refusal, round, stop, Entry, Plan, Stage};
 
 #[test]
 fn one_after_the_other() {

@@ -1,9 +1,7 @@
 //! The floor on the wheelhouse page.
 
-mod common;
-
-use ceromby::{book, fresh, load, page, refusal, round, stop, Canister, LONGEST_PAGE};
-use common::SETTINGS;
+use crate::SETTINGS;
+use ceromby::raw::{book, fresh, load, page, refusal, round, stop, Canister, LONGEST_PAGE};
 
 #[test]
 fn the_fresh_floor_of_two_tiles() {

@@ -1,6 +1,6 @@
 //! The throughput of a hopper, as the crew reads it.
 
-use ceromby::{feed, refusal, Fed, Throughput, WINDOW};
+use ceromby::raw::{feed, refusal, Fed, Throughput, WINDOW};
 
 #[test]
 fn windows() {

@@ -1,6 +1,12 @@
-//! What the tests share.
+//! The calls as C gets them.
 
-use ceromby::{tile, Settings};
+mod barge;
+mod calls;
+mod page;
+mod plan;
+mod throughput;
+
+use ceromby::raw::{tile, Settings};
 
 /// Document 01's first trial: two tiles, the hopper in the east.
 pub const SETTINGS: Settings = Settings {

@@ -2,12 +2,12 @@
 
 use std::collections::BTreeMap;
 
-use ceromby::{barge, plan, reason, refusal, Side};
+use ceromby::raw::{self, barge, plan, reason, refusal, Side};
 
-const HEADER: &str = include_str!("../../../include/ceromby.h");
+pub const HEADER: &str = include_str!("../../../../include/ceromby.h");
 
 /// The names with a number, without `CEROMBY_`.
-fn defined() -> BTreeMap<String, u64> {
+pub fn defined() -> BTreeMap<String, u64> {
     let mut names = BTreeMap::new();
     for line in HEADER.lines() {
         let mut words = line.split_whitespace();
@@ -44,7 +44,7 @@ fn as_in_c() {
             NAME_NOT_HELD LAYOUTS_FULL BAD_LABEL NOT_RELEASED NO_FLOOR OVERLOADED
         }
         "REASON_" reason { STOPPED EMPTY NO_ARROW TURN NO_GAP MOVED }
-        "" ceromby {
+        "" raw {
             DISTANCE_NONE LONGEST_IMAGE LONGEST_LIST LONGEST_PAGE MAX_HOPPERS MAX_LAYOUTS MAX_TILES
             PLACES WINDOW FED_REFUSED FED_OPEN FED_CLOSED
         }
@@ -64,4 +64,16 @@ fn as_in_c() {
     // what only C has: measured, and the version in parts
     theirs.retain(|name, _| !name.ends_with("STACK") && !name.starts_with("VERSION_"));
     assert_eq!(ours, theirs);
+}
+
+/// Header, archive and binding are of one version.
+#[test]
+fn versions() {
+    let names = defined();
+    let part = |name: &str| names[&format!("VERSION_{name}")];
+    let (major, minor, patch) = (part("MAJOR"), part("MINOR"), part("PATCH"));
+    let ours = env!("CARGO_PKG_VERSION");
+    assert_eq!(format!("{major}.{minor}.{patch}"), ours);
+    let number = 10_000 * major + 100 * minor + patch;
+    assert_eq!(u64::from(ceromby::version()), number);
 }

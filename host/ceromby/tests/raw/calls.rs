@@ -1,12 +1,10 @@
 //! One short way through every call.
 
-mod common;
-
-use ceromby::{
+use crate::SETTINGS;
+use ceromby::raw::{
     book, book_anywhere, book_list, forget, fresh, keep, load, read, reason, recall, refusal,
     repair, round, stop, tile, write, Booking, Canister, Layout, Name, Settings, LONGEST_LIST,
 };
-use common::SETTINGS;
 
 #[test]
 fn the_first_trial() {

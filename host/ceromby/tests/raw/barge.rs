@@ -1,10 +1,8 @@
 //! Four floors, one allowance.
 
-mod common;
-
-use ceromby::barge::{book, book_anywhere, repair, round, stop, FLOORS, MAX_ALLOWANCE};
-use ceromby::{fresh, refusal, Barge, Canister};
-use common::SETTINGS;
+use crate::SETTINGS;
+use ceromby::raw::barge::{book, book_anywhere, repair, round, stop, FLOORS, MAX_ALLOWANCE};
+use ceromby::raw::{fresh, refusal, Barge, Canister};
 
 fn empty(allowance: u32) -> Barge {
     Barge {
@@ -28,21 +26,21 @@ fn what_they_do_on_a_lone_floor() {
             after.floors[at] = lone;
             after
         };
-        let booked = with(ceromby::book(&lone, 0, canister(7, 60)).floor);
+        let booked = with(ceromby::raw::book(&lone, 0, canister(7, 60)).floor);
         let answer = book(&barge, floor, 0, canister(7, 60));
         assert_eq!((answer.refusal, answer.barge), (0, booked));
         let placed = book_anywhere(&barge, floor, 0, 9);
         assert_eq!((placed.refusal, placed.place()), (0, Some((0, 0))));
-        let due = with(ceromby::book_anywhere(&lone, 0, 9).floor);
+        let due = with(ceromby::raw::book_anywhere(&lone, 0, 9).floor);
         assert_eq!(placed.barge, due);
         let stopped = stop(&barge, floor, 0);
-        let due = with(ceromby::stop(&lone, 0).floor);
+        let due = with(ceromby::raw::stop(&lone, 0).floor);
         assert_eq!((stopped.refusal, stopped.barge), (0, due));
         let repaired = repair(&due, floor, 0);
-        let due = with(ceromby::repair(&due.floors[at], 0).floor);
+        let due = with(ceromby::raw::repair(&due.floors[at], 0).floor);
         assert_eq!((repaired.refusal, repaired.barge), (0, due));
         let rounded = round(&booked, floor);
-        let due = ceromby::round(&booked.floors[at]);
+        let due = ceromby::raw::round(&booked.floors[at]);
         assert_eq!((rounded.refusal, rounded.barge), (0, with(due.floor)));
         assert_eq!(rounded.report, due.report);
         assert_eq!((booked.total(), rounded.barge.total()), (1, 0));
