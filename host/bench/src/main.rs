@@ -1,13 +1,16 @@
 //! Time of the library through its binding against the second
 //! implementation, on the same floors in one run; then of calls that must not
 //! cost much more than another one. With --growth: how a round's cost grows
-//! with tiles and canisters.
+//! with tiles and canisters. With --methods: the binding's methods against the
+//! raw calls that they make; fails if one takes more than 3 % above its call.
 
 mod barges;
 mod floors;
+mod methods;
 mod plans;
 
 use std::hint::black_box;
+use std::process::ExitCode;
 use std::time::Instant;
 
 use ::ceromby::raw as ceromby;
@@ -43,11 +46,12 @@ fn median(mut times: Vec<f64>) -> f64 {
     times[times.len() / 2]
 }
 
-/// Measures the two by turns and prints a line.
-fn measure(floor: &str, call: &str, answer: u8, one: &mut dyn FnMut(), other: &mut dyn FnMut()) {
+/// Measures the two by turns: the median of each, and of what the one takes as a
+/// part of the other.
+fn times(turns: usize, one: &mut dyn FnMut(), other: &mut dyn FnMut()) -> (f64, f64, f64) {
     let (many, others) = (calls_for(one), calls_for(other));
     let (mut ours, mut theirs) = (Vec::new(), Vec::new());
-    for at in 0..REPETITIONS {
+    for at in 0..turns {
         if at % 2 == 0 {
             ours.push(batch(many, one));
             theirs.push(batch(others, other));
@@ -58,7 +62,12 @@ fn measure(floor: &str, call: &str, answer: u8, one: &mut dyn FnMut(), other: &m
     }
     let ratios = ours.iter().zip(&theirs).map(|(one, other)| one / other);
     let ratio = median(ratios.collect());
-    let (one, other) = (median(ours), median(theirs));
+    (median(ours), median(theirs), ratio)
+}
+
+/// Measures the two and prints a line.
+fn measure(floor: &str, call: &str, answer: u8, one: &mut dyn FnMut(), other: &mut dyn FnMut()) {
+    let (one, other, ratio) = times(REPETITIONS, one, other);
     println!("{floor:18} {call:25} {answer:3} {one:12.0} {other:12.0} {ratio:8.2}");
 }
 
@@ -364,11 +373,21 @@ fn growth() {
     }
 }
 
-fn main() {
+fn main() -> ExitCode {
+    let asked = |flag| std::env::args().any(|word| word == flag);
+    if asked("--methods") {
+        let within = methods::methods();
+        return if within {
+            ExitCode::SUCCESS
+        } else {
+            ExitCode::FAILURE
+        };
+    }
     println!("medians of {REPETITIONS}, the two by turns; 34, 40: a full tile refuses");
     head("library ns", "oracle ns");
-    if std::env::args().any(|word| word == "--growth") {
-        return growth();
+    if asked("--growth") {
+        growth();
+        return ExitCode::SUCCESS;
     }
     for pair in both_shapes() {
         timed_calls(&pair);
@@ -384,4 +403,5 @@ fn main() {
     releases();
     head("library ns", "lone ns");
     beside_lone();
+    ExitCode::SUCCESS
 }
