@@ -67,13 +67,18 @@ for pair in $both; do
     printed second
 done
 
-# the stack: of each call, and of several in one function
+# the stack: of each call, and of several in one function; README tells what cc -O2 gives
 for pair in $both; do
     for level in -O0 -O2; do
         for program in stack several; do
             "${pair%:*}" -std=c11 $level $strict -o "$out/$program" $program.c "$archive"
             "$out/$program" >"$out/log" || { cat "$out/log"; exit 1; }
-            echo "${pair%:*} $level: $(tail -n 1 "$out/log")"
+            told=$(tail -n 1 "$out/log")
+            if [ "${pair%:*} $level" = 'cc -O2' ] && ! grep -qF "$told" ../../README.md; then
+                echo "README doesn't say: $told"
+                exit 1
+            fi
+            echo "${pair%:*} $level: $told"
         done
     done
 done
@@ -84,9 +89,11 @@ if [ "$needed" != "memcpy memset " ]; then
     echo "the archive needs: $needed"
     exit 1
 fi
-size "$archive" | awk '
+size "$archive" | awk -v told="$(sed -n 's/.*[^0-9]\([0-9]*\) KB of text.*/\1/p' ../../README.md)" '
     NR > 1 { text += $1; data += $2 + $3 }
     END {
+        kb = int((text + 999) / 1000)
         if (data > 0) { print "the archive has " data " bytes of data"; exit 1 }
+        if (kb != told) { print "the archive has " kb " KB of text, and README says " told; exit 1 }
         print "the archive: " text " bytes of text, no data; it needs memcpy and memset"
     }'

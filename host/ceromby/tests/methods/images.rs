@@ -39,7 +39,7 @@ fn a_blank_controller() -> Result<(), Refusal> {
     Ok(())
 }
 
-/// An image has no checksum: many changed bits go unnoticed.
+/// An image has no checksum. README tells how many changed bits go unnoticed.
 #[test]
 fn changed_bits() -> Result<(), Refusal> {
     let mut floor = Floor::load(&[])?;
@@ -63,6 +63,8 @@ fn changed_bits() -> Result<(), Refusal> {
         }
     }
     assert_eq!(same, 0);
-    assert_eq!((loaded, bits), (268, 2_176));
+    let readme = include_str!("../../../../README.md");
+    let told = format!("{loaded} of its {bits} single bit flips");
+    assert!(readme.replace(',', "").contains(&told), "{told}");
     Ok(())
 }
