@@ -474,7 +474,7 @@ CEROMBY_MUST_USE ceromby_reading ceromby_read(ceromby_floor floor, uint32_t tile
    accepted booking, stop or repair, the numbers reported are just those of the K canisters that it counts, and the others
    are still on the floor. So it is the cap of a loop that runs rounds until all is delivered; ask again after an accepted
    booking, stop or repair, or recall. Changes nothing. Refused by 30. */
-ceromby_bounded ceromby_bound(ceromby_floor floor);
+CEROMBY_MUST_USE ceromby_bounded ceromby_bound(ceromby_floor floor);
 
 /* The floor of an image. Refused by the first fault in reading order: within a record 9, 10, 11, then 1, 2, 3; then 9 for
    bytes left over, then 12. With several hoppers the settings' record has 28 bytes, the set last and its lowest tile as the
@@ -640,6 +640,11 @@ CEROMBY_MUST_USE static inline uint8_t ceromby_read_in(const ceromby_floor *floo
                                                        ceromby_reading *reading) {
     *reading = ceromby_read(*floor, tile);
     return reading->refusal;
+}
+
+CEROMBY_MUST_USE static inline uint8_t ceromby_bound_in(const ceromby_floor *floor, ceromby_bounded *bounded) {
+    *bounded = ceromby_bound(*floor);
+    return bounded->refusal;
 }
 
 /* Don't store 0 bytes of a refused write: they load as the standard floor. */

@@ -7,6 +7,7 @@ void dropped(ceromby_floor f, ceromby_barge b, ceromby_plan p, ceromby_throughpu
 void dropped(ceromby_floor f, ceromby_barge b, ceromby_plan p, ceromby_throughput t, ceromby_report r, ceromby_name n) {
     ceromby_canister c = {1, 0, 0};
     ceromby_place place;
+    ceromby_bounded bounded;
     ceromby_reading reading;
     ceromby_fed fed;
     uint8_t byte;
@@ -22,6 +23,7 @@ void dropped(ceromby_floor f, ceromby_barge b, ceromby_plan p, ceromby_throughpu
     ceromby_forget(f, n);
     ceromby_recall(f, n);
     ceromby_round(f);
+    ceromby_bound(f);
     ceromby_read(f, 0);
     ceromby_load(&byte, 0);
     ceromby_write(f, &byte, 1);
@@ -46,6 +48,7 @@ void dropped(ceromby_floor f, ceromby_barge b, ceromby_plan p, ceromby_throughpu
     ceromby_forget_in(&f, n);
     ceromby_recall_in(&f, n);
     ceromby_round_in(&f, &r);
+    ceromby_bound_in(&f, &bounded);
     ceromby_read_in(&f, 0, &reading);
     ceromby_load_in(&f, NULL, 0);
     ceromby_write_in(&f, &byte, 1, &length);

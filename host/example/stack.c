@@ -44,6 +44,8 @@ CALL(keep, ceromby_keep_in(&work_floor, ceromby_name_of("ALL")), ceromby_keep(wo
 CALL(forget, ceromby_forget_in(&work_floor, ceromby_name_of("ALL")), ceromby_forget(work_floor, ceromby_name_of("ALL")))
 CALL(recall, ceromby_recall_in(&work_floor, ceromby_name_of("ALL")), ceromby_recall(work_floor, ceromby_name_of("ALL")))
 CALL(round, ceromby_round_in(&work_floor, &report), ceromby_round(work_floor))
+static ceromby_bounded bounded;
+CALL(bound, ceromby_bound_in(&work_floor, &bounded), ceromby_bound(work_floor))
 static ceromby_reading reading;
 CALL(read, ceromby_read_in(&work_floor, 0, &reading), ceromby_read(work_floor, 0))
 CALL(write, ceromby_write_in(&work_floor, image, sizeof image, &length), ceromby_write(work_floor, image, sizeof image))
@@ -67,7 +69,7 @@ static const struct {
 } calls[] = {
 #define ROW(name) {#name, name##_in, name##_by_value}
     ROW(fresh), ROW(load), ROW(book), ROW(book_anywhere), ROW(book_list), ROW(stop), ROW(repair), ROW(keep), ROW(forget),
-    ROW(recall), ROW(round), ROW(read), ROW(write), ROW(page), ROW(feed), ROW(plan_offer), ROW(plan_release),
+    ROW(recall), ROW(round), ROW(bound), ROW(read), ROW(write), ROW(page), ROW(feed), ROW(plan_offer), ROW(plan_release),
     ROW(plan_report), ROW(barge_book), ROW(barge_book_anywhere), ROW(barge_stop), ROW(barge_repair), ROW(barge_round),
 };
 

@@ -50,6 +50,17 @@ pub struct Floor {
     pub(crate) memory: raw::Floor,
 }
 
+/// What [`Floor::bound`] answers.
+#[derive(Clone, Copy, PartialEq, Eq, Hash, Debug)]
+pub struct Bound {
+    /// After so many rounds all that can be delivered is delivered; at least 1.
+    pub rounds: u32,
+    /// Canisters on tiles with a live path to a hopper: these are delivered.
+    pub connected: u32,
+    /// Canisters on all other tiles.
+    pub unconnected: u32,
+}
+
 impl Floor {
     /// A floor without canisters. Refused by [`Refusal::Grid`],
     /// [`Refusal::Sets`], [`Refusal::Measure`].
@@ -187,6 +198,20 @@ impl Floor {
         accepted(answer.refusal)?;
         self.memory = answer.floor;
         Ok(())
+    }
+
+    /// When at the latest: after so many rounds, with no accepted booking, stop or
+    /// repair between them, every canister that can reach a hopper is delivered,
+    /// and the others are still on the floor. The cap of a loop that runs until
+    /// all is delivered; ask again after a booking, stop, repair or recall.
+    pub fn bound(&self) -> Result<Bound, Refusal> {
+        let bounded = raw::bound(&self.memory);
+        accepted(bounded.refusal)?;
+        Ok(Bound {
+            rounds: bounded.rounds,
+            connected: bounded.connected,
+            unconnected: bounded.unconnected,
+        })
     }
 
     /// All that a tile has. Refused by [`Refusal::NoTile`].

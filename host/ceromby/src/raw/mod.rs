@@ -22,17 +22,17 @@ pub use barge::{Barge, BargeAnswer, BargePlaced, BargeRounded};
 pub use plan::{Entry, Offered, Plan, Planned, Released, Stage};
 pub use throughput::{feed, Fed, Throughput, Told, FED_CLOSED, FED_OPEN, FED_REFUSED, WINDOW};
 pub use types::{
-    reason, tiles, Answer, Booking, Canister, Counters, Delivery, Floor, Layout, Name, Placed,
-    Reading, Report, Rounded, Settings, Side, Tile, Written, DISTANCE_NONE, LONGEST_IMAGE,
+    reason, tiles, Answer, Booking, Bounded, Canister, Counters, Delivery, Floor, Layout, Name,
+    Placed, Reading, Report, Rounded, Settings, Side, Tile, Written, DISTANCE_NONE, LONGEST_IMAGE,
     LONGEST_LIST, LONGEST_PAGE, MAX_HOPPERS, MAX_LAYOUTS, MAX_TILES, PLACES,
 };
 
 /// The archive's functions, declared as the header has them.
 mod c {
     use super::{
-        Answer, Barge, BargeAnswer, BargePlaced, BargeRounded, Booking, Canister, Floor, Name,
-        Offered, Placed, Plan, Planned, Reading, Released, Report, Rounded, Settings, Throughput,
-        Told, Written,
+        Answer, Barge, BargeAnswer, BargePlaced, BargeRounded, Booking, Bounded, Canister, Floor,
+        Name, Offered, Placed, Plan, Planned, Reading, Released, Report, Rounded, Settings,
+        Throughput, Told, Written,
     };
 
     extern "C" {
@@ -47,6 +47,7 @@ mod c {
         pub fn ceromby_forget(floor: Floor, name: Name) -> Answer;
         pub fn ceromby_recall(floor: Floor, name: Name) -> Answer;
         pub fn ceromby_round(floor: Floor) -> Rounded;
+        pub fn ceromby_bound(floor: Floor) -> Bounded;
         pub fn ceromby_read(floor: Floor, tile: u32) -> Reading;
         pub fn ceromby_load(bytes: *const u8, length: usize) -> Answer;
         pub fn ceromby_write(floor: Floor, buffer: *mut u8, length: usize) -> Written;
@@ -156,6 +157,13 @@ pub fn round(floor: &Floor) -> Rounded {
 pub fn read(floor: &Floor, tile: u32) -> Reading {
     // SAFETY: plain values in and out.
     unsafe { c::ceromby_read(*floor, tile) }
+}
+
+/// After how many rounds without an accepted booking, stop or repair what can
+/// be delivered is delivered, and how many canisters that is.
+pub fn bound(floor: &Floor) -> Bounded {
+    // SAFETY: plain values in and out.
+    unsafe { c::ceromby_bound(*floor) }
 }
 
 /// The floor of an image. Zero bytes, as in the file of a new controller, load

@@ -1,6 +1,8 @@
 //! The structs of include/ceromby.h.
 
-use std::fmt;
+use core::fmt;
+
+use crate::refusal::{accepted, Refusal};
 
 /// Most tiles a floor can have.
 pub const MAX_TILES: usize = 64;
@@ -29,7 +31,7 @@ pub mod reason {
     pub const NO_ARROW: u8 = 3;
     /// The turn of the tile ahead was another's, before it passed on.
     pub const TURN: u8 = 4;
-    /// On the tile ahead; [`crate::Report::missing`] says how much is missing.
+    /// On the tile ahead; [`super::Report::missing`] says how much is missing.
     pub const NO_GAP: u8 = 5;
     /// It didn't stand: its canisters shifted.
     pub const MOVED: u8 = 6;
@@ -37,7 +39,7 @@ pub mod reason {
 
 /// A canister, and its south-west corner from the tile's.
 #[repr(C)]
-#[derive(Clone, Copy, PartialEq, Eq, Debug)]
+#[derive(Clone, Copy, PartialEq, Eq, Hash, Debug)]
 pub struct Canister {
     /// Never 0 on a floor.
     pub number: u32,
@@ -45,6 +47,13 @@ pub struct Canister {
     pub a: u16,
     /// Northward.
     pub b: u16,
+}
+
+impl Canister {
+    /// A canister with its number and place.
+    pub const fn new(number: u32, a: u16, b: u16) -> Canister {
+        Canister { number, a, b }
+    }
 }
 
 /// An entry of a list of bookings.
@@ -56,13 +65,33 @@ pub struct Booking {
     /// What is booked, and at which place.
     pub canister: Canister,
     /// What the single booking would answer, 0 for accepted; what stood here
-    /// before doesn't matter.
+    /// before doesn't matter. [`Booking::answer()`] tells it as a result.
     pub answer: u8,
+}
+
+impl Booking {
+    /// The answer of a booking that wasn't sent. No call gives it.
+    pub const UNSENT: u8 = 255;
+
+    /// An entry that wasn't sent.
+    pub const fn new(tile: u32, canister: Canister) -> Booking {
+        Booking {
+            tile,
+            canister,
+            answer: Booking::UNSENT,
+        }
+    }
+
+    /// What it was answered; none where it wasn't sent, and where its list was
+    /// refused as too long.
+    pub fn answer(&self) -> Option<Result<(), Refusal>> {
+        (self.answer != Booking::UNSENT).then(|| accepted(self.answer))
+    }
 }
 
 /// A side of a tile, or none.
 #[repr(C)]
-#[derive(Clone, Copy, PartialEq, Eq, Debug)]
+#[derive(Clone, Copy, PartialEq, Eq, Debug, Default)]
 pub struct Side {
     /// 0 none, 1 west, 2 south, 3 north, 4 east.
     pub code: u8,
@@ -101,7 +130,7 @@ pub struct Tile {
 /// Required: v < l, d = l + r < U, and (U - l) / d, rounded down, at most 3.
 /// Sets have bit t for tile t; a tile's number is column x H + row.
 #[repr(C)]
-#[derive(Clone, Copy, PartialEq, Eq, Debug)]
+#[derive(Clone, Copy, PartialEq, Eq)]
 pub struct Settings {
     /// W.
     pub columns: u8,
@@ -121,9 +150,39 @@ pub struct Settings {
     pub travel: u16,
 }
 
+/// Sets as their tiles.
+impl fmt::Debug for Settings {
+    fn fmt(&self, f: &mut fmt::Formatter) -> fmt::Result {
+        f.debug_struct("Settings")
+            .field("columns", &self.columns)
+            .field("rows", &self.rows)
+            .field("hoppers", &Set(self.hoppers))
+            .field("sources", &Set(self.sources))
+            .field("width", &self.width)
+            .field("length", &self.length)
+            .field("gap", &self.gap)
+            .field("travel", &self.travel)
+            .finish()
+    }
+}
+
+/// A set of tiles as its numbers.
+struct Set(u64);
+
+impl fmt::Debug for Set {
+    fn fmt(&self, f: &mut fmt::Formatter) -> fmt::Result {
+        f.debug_set().entries(tiles(self.0)).finish()
+    }
+}
+
+/// The tiles of a set, by rising number.
+pub fn tiles(set: u64) -> impl DoubleEndedIterator<Item = u32> + Clone {
+    (0..u64::BITS).filter(move |tile| set >> tile & 1 == 1)
+}
+
 /// Booked is the sum of delivered and those on the floor.
 #[repr(C)]
-#[derive(Clone, Copy, PartialEq, Eq, Debug)]
+#[derive(Clone, Copy, PartialEq, Eq, Debug, Default)]
 pub struct Counters {
     /// The last number booked.
     pub last: u32,
@@ -136,7 +195,7 @@ pub struct Counters {
 /// A name for a layout: 1 to 8 letters A to Z, then zeros. Any bytes may
 /// stand here; what is no name is refused by 44.
 #[repr(C)]
-#[derive(Clone, Copy, PartialEq, Eq, Debug)]
+#[derive(Clone, Copy, PartialEq, Eq, Hash)]
 pub struct Name {
     /// As in `*b"NETS\0\0\0\0"`; from text: `Name::from("NETS")`.
     pub letters: [u8; 8],
@@ -154,18 +213,30 @@ impl From<&str> for Name {
     }
 }
 
-/// The letters alone.
+/// The letters alone; a byte that is none by its number.
 impl fmt::Display for Name {
     fn fmt(&self, f: &mut fmt::Formatter) -> fmt::Result {
         let end = self.letters.iter().position(|byte| *byte == 0);
         let used = &self.letters[..end.unwrap_or(self.letters.len())];
-        f.pad(&used.escape_ascii().to_string())
+        match core::str::from_utf8(used) {
+            Ok(text) if used.iter().all(u8::is_ascii_graphic) => f.pad(text),
+            _ => fmt::Display::fmt(&used.escape_ascii(), f),
+        }
+    }
+}
+
+/// All bytes but the zeros at the end.
+impl fmt::Debug for Name {
+    fn fmt(&self, f: &mut fmt::Formatter) -> fmt::Result {
+        let last = self.letters.iter().rposition(|byte| *byte != 0);
+        let used = &self.letters[..last.map_or(0, |at| at + 1)];
+        write!(f, "\"{}\"", used.escape_ascii())
     }
 }
 
 /// The tiles that ran when it was kept.
 #[repr(C)]
-#[derive(Clone, Copy, PartialEq, Eq, Debug)]
+#[derive(Clone, Copy, PartialEq, Eq)]
 pub struct Layout {
     /// The first letter in the highest byte, so that names rise as numbers do.
     pub name: u64,
@@ -182,11 +253,21 @@ impl Layout {
     }
 }
 
+/// The name as letters, the set as its tiles.
+impl fmt::Debug for Layout {
+    fn fmt(&self, f: &mut fmt::Formatter) -> fmt::Result {
+        f.debug_struct("Layout")
+            .field("name", &self.letters())
+            .field("set", &Set(self.set))
+            .finish()
+    }
+}
+
 /// Canisters of tile t are at places 16 t to 16 t + count - 1, by rising number.
 /// Unused places and tiles are zero. Any bytes may stand here; a floor that
 /// isn't well formed is refused by 30.
 #[repr(C)]
-#[derive(Clone, Copy, PartialEq, Eq, Debug)]
+#[derive(Clone, Copy, PartialEq, Eq)]
 pub struct Floor {
     /// What it was made with.
     pub settings: Settings,
@@ -200,14 +281,59 @@ pub struct Floor {
     pub layouts: [Layout; MAX_LAYOUTS],
 }
 
+/// Tiles, canisters and layouts by their place; those that are all zero are
+/// left out.
+impl fmt::Debug for Floor {
+    fn fmt(&self, f: &mut fmt::Formatter) -> fmt::Result {
+        let zero = Tile {
+            running: 0,
+            distance: 0,
+            next: Side::NONE,
+            token: Side::NONE,
+            count: 0,
+        };
+        let none = Canister {
+            number: 0,
+            a: 0,
+            b: 0,
+        };
+        let free = Layout { name: 0, set: 0 };
+        f.debug_struct("Floor")
+            .field("settings", &self.settings)
+            .field("counters", &self.counters)
+            .field("tiles", &Used(&self.tiles, zero))
+            .field("canisters", &Used(&self.canisters, none))
+            .field("layouts", &Used(&self.layouts, free))
+            .finish()
+    }
+}
+
+/// What differs from what an unused place holds, by its place.
+struct Used<'a, T>(&'a [T], T);
+
+impl<T: fmt::Debug + PartialEq> fmt::Debug for Used<'_, T> {
+    fn fmt(&self, f: &mut fmt::Formatter) -> fmt::Result {
+        let used = self.0.iter().enumerate().filter(|(_, at)| **at != self.1);
+        f.debug_map().entries(used).finish()
+    }
+}
+
 /// What one hopper took in.
 #[repr(C)]
-#[derive(Clone, Copy, PartialEq, Eq, Debug)]
+#[derive(Clone, Copy, PartialEq, Eq, Debug, Default)]
 pub struct Delivery {
     /// Rising, then zeros.
     pub numbers: [u32; 4],
     /// How many, 0 to 4.
     pub count: u8,
+}
+
+impl Delivery {
+    /// The numbers that count.
+    pub fn used(&self) -> &[u32] {
+        let count = usize::from(self.count);
+        self.numbers.get(..count).unwrap_or(&self.numbers)
+    }
 }
 
 /// What a round did.
@@ -223,6 +349,18 @@ pub struct Report {
     pub missing: [u16; MAX_TILES],
     /// One for each hopper in tile order, then zeros.
     pub deliveries: [Delivery; MAX_HOPPERS],
+}
+
+/// What stands beside a refusal: nothing was done.
+impl Default for Report {
+    fn default() -> Report {
+        Report {
+            grants: [0; MAX_TILES],
+            reasons: [0; MAX_TILES],
+            missing: [0; MAX_TILES],
+            deliveries: [Delivery::default(); MAX_HOPPERS],
+        }
+    }
 }
 
 /// The answer of a call that gives a floor.
@@ -302,8 +440,8 @@ pub struct Bounded {
     pub refusal: u8,
 }
 
-/// The answer of a write or a page as C gets it; [`crate::write`] and
-/// [`crate::page`] don't give the length of a refused one.
+/// The answer of a write or a page as C gets it; [`super::write`] and
+/// [`super::page`] don't give the length of a refused one.
 #[repr(C)]
 #[derive(Clone, Copy, PartialEq, Eq, Debug)]
 pub struct Written {

@@ -2,7 +2,7 @@
 
 use std::mem::{offset_of, size_of};
 
-use ceromby::{
+use ceromby::raw::{
     Answer, Barge, BargeAnswer, BargePlaced, BargeRounded, Booking, Bounded, Canister, Counters,
     Delivery, Entry, Floor, Layout, Name, Offered, Placed, Plan, Planned, Reading, Released,
     Report, Rounded, Settings, Side, Throughput, Tile, Told, Written,
@@ -54,5 +54,5 @@ fn as_in_c() {
         "barge_placed" BargePlaced { barge, a, b, refusal }
         "barge_rounded" BargeRounded { barge, report, refusal }
     };
-    assert_eq!(ours, include_str!("../../example/layout.txt"));
+    assert_eq!(ours, include_str!("../../../example/layout.txt"));
 }
