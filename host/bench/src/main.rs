@@ -3,11 +3,13 @@
 //! cost much more than another one. With --growth: how a round's cost grows
 //! with tiles and canisters. With --methods: the binding's methods against the
 //! raw calls that they make; fails if one takes more than 3 % above its call.
+//! With --worst: looks for the slowest reading of a full floor.
 
 mod barges;
 mod floors;
 mod methods;
 mod plans;
+mod worst;
 
 use std::hint::black_box;
 use std::process::ExitCode;
@@ -382,6 +384,10 @@ fn main() -> ExitCode {
         } else {
             ExitCode::FAILURE
         };
+    }
+    if asked("--worst") {
+        worst::search();
+        return ExitCode::SUCCESS;
     }
     println!("medians of {REPETITIONS}, the two by turns; 34, 40: a full tile refuses");
     head("library ns", "oracle ns");
