@@ -345,7 +345,7 @@ typedef struct ceromby_throughput {
 #define CEROMBY_FED_OPEN 1   /* it is still open; ceromby_fed.rounds says how many it has, 1 to 255, this one included */
 #define CEROMBY_FED_CLOSED 2 /* this was its 256th; ceromby_fed.rate is its rate */
 
-/* `Told` in Rattle and Rust. */
+/* `FedValues` in Rattle, `raw::Told` in Rust. */
 typedef struct ceromby_fed {
     ceromby_throughput throughput; /* where refused, as it came */
     double rate;                   /* 0 unless the window closed */

@@ -2,7 +2,7 @@
    that, or over 4 KB more.
 
    The floors are those that need most: 8 x 8 tiles, full, with numbers that take the longest way through the check (all have
-   one remainder by 2,039, and two of them one by 65,536). */
+   one remainder by 2,039, so that the passes decide). */
 
 #include "painted.h"
 
@@ -106,9 +106,7 @@ static void fill(void) {
         }
         floor_.tiles[tile].count = CEROMBY_PLACES;
     }
-    /* the last one: the first's remainder by 65,536 too */
-    floor_.canisters[CEROMBY_PLACES * 64 - 1].number = 5 + 2039u * 65536u;
-    floor_.counters.last = 5 + 2039u * 65536u;
+    floor_.counters.last = 5 + 2039u * 1007u;
     floor_.counters.booked = canisters;
     if (ceromby_aboard(&floor_) != 1008 || ceromby_read_in(&floor_, 0, &reading) != CEROMBY_ACCEPTED)
         fail("the full floor isn't well formed");

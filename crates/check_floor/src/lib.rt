@@ -61,7 +61,7 @@ fn counters_ok(s: Settings, c: Counters, n: u32) -> bool
 }
 
 // Well formed but for the layouts, once the settings have passed. First the tiles without their canisters, and the places of
-// the tiles that have none, so that a floor without canisters costs no more. Then the places of the others, tested where they
+// the tiles that have none; a floor without canisters is done then. After that the places of the others, tested where they
 // are and copied only where a tile has two canisters or more, with their numbers.
 fn scan(f: Floor) -> bool
     requires { ⌜ settingsPass (f .settings) ≡ true ⌝ }

@@ -24,7 +24,7 @@ fn wide(x: u16) -> usize
     x as usize
 }
 
-// EQUAL, DIFFERENT or UNKNOWN. heads[h] is 1 + the last place so far whose
+// EQUAL, DIFFERENT or, where the steps ran out, UNKNOWN, which promises nothing. heads[h] is 1 + the last place so far whose
 // number has the remainder h, prev[i] is 1 + the last one before place i with i's remainder; 0 where there is none.
 fn chained(keys: [u32; 1024]) -> u8
     requires { ⌜ Runs keys ⌝ }

@@ -1,5 +1,5 @@
-// Signal, the second step of a round: which side each tile grants, its new turn, and why it stood. The pass over the tiles
-// that reads their canisters is in `run_round`.
+// Parts of Signal, the second step of a round: what tiles show each other, a tile with its new turn, and why each tile stood.
+// The pass over the tiles, which reads their canisters, is in `run_round`.
 
 ghost use mathlib.Core.Path.{_≡_};
 ghost use mathlib.Core.Bool.{cond};

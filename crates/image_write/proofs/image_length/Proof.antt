@@ -91,7 +91,7 @@ image-length-spec =
     (λ c κs. tt)  -- tile-count-requires
     (λ c κs. search needs)  -- size-requires
     (λ c κs. search needs)  -- first-length-requires
-    (λ c κs. search needs)  -- laid-out-requires
+    (λ c κs. search needs)  -- layout-count-requires
     cast-n
     add-n
     (λ c. search needs)  -- cast-n-2

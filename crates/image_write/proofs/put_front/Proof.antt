@@ -64,7 +64,7 @@ put-front-spec =
     add-third
     (λ c. search needs)  -- mul-third
     add-third-2
-    (λ c κs. search needs)  -- laid-out-requires
+    (λ c κs. search needs)  -- layout-count-requires
     put-layouts-requires
     mul-result
     add-result
