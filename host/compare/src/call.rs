@@ -6,13 +6,14 @@ use std::sync::atomic::{AtomicBool, Ordering};
 
 use ::ceromby::raw as ceromby;
 use oracle::{
-    Answer, Booking, Canister, FeedAnswer, Floor, OfferAnswer, PlaceAnswer, Plan, PlanAnswer,
-    Reading, ReleaseAnswer, Report, RoundAnswer, Settings, Throughput, Tile, WriteAnswer,
+    Answer, Booking, Bounded, Canister, FeedAnswer, Floor, OfferAnswer, PlaceAnswer, Plan,
+    PlanAnswer, Reading, ReleaseAnswer, Report, RoundAnswer, Settings, Throughput, Tile,
+    WriteAnswer,
 };
 
 use crate::barges::{self, Given, Named};
 use crate::layouts::{self, Name};
-use crate::{book_lists, page, places, plans, reasons, throughput};
+use crate::{book_lists, bounds, page, places, plans, reasons, throughput};
 
 #[derive(Clone, PartialEq, Debug)]
 pub enum Call {
@@ -62,6 +63,7 @@ pub enum Call {
     Page {
         size: usize,
     },
+    Bound,
     Offer {
         plan: Box<Plan>,
     },
@@ -76,7 +78,7 @@ pub enum Call {
     Barge(Box<Named>),
 }
 
-pub const NAMES: [&str; 23] = [
+pub const NAMES: [&str; 24] = [
     "fresh",
     "book",
     "stop",
@@ -92,6 +94,7 @@ pub const NAMES: [&str; 23] = [
     "book list",
     "feed",
     "page",
+    "bound",
     "plan offer",
     "plan release",
     "plan report",
@@ -118,11 +121,12 @@ pub const KEEP: usize = 8;
 pub const FORGET: usize = 9;
 pub const RECALL: usize = 10;
 pub const BOOK_ANYWHERE: usize = 11;
-pub const OFFER: usize = 15;
-pub const RELEASE: usize = 16;
-pub const REPORT: usize = 17;
+pub const BOUND: usize = 15;
+pub const OFFER: usize = 16;
+pub const RELEASE: usize = 17;
+pub const REPORT: usize = 18;
 /// The first of the calls on a barge.
-pub const BARGE: usize = 18;
+pub const BARGE: usize = 19;
 
 impl Call {
     /// Its place among `NAMES`.
@@ -143,6 +147,7 @@ impl Call {
             Call::BookList { .. } => 12,
             Call::Feed { .. } => 13,
             Call::Page { .. } => 14,
+            Call::Bound => BOUND,
             Call::Offer { .. } => OFFER,
             Call::Release { .. } => RELEASE,
             Call::Report { .. } => REPORT,
@@ -234,6 +239,7 @@ pub enum Outcome {
     Reading(Reading),
     Written(WriteAnswer, Vec<u8>),
     Fed(FeedAnswer),
+    Bounded(Bounded),
     Offered(OfferAnswer),
     Released(Box<ReleaseAnswer>),
     Planned(Box<PlanAnswer>),
@@ -249,6 +255,7 @@ impl Outcome {
             Outcome::Reading(answer) => answer.refusal,
             Outcome::Written(answer, _) => answer.refusal,
             Outcome::Fed(answer) => answer.fed.err().unwrap_or(0),
+            Outcome::Bounded(answer) => answer.refusal,
             Outcome::Offered(answer) => answer.refusal,
             Outcome::Released(answer) => answer.refusal,
             Outcome::Planned(answer) => answer.refusal,
@@ -390,6 +397,9 @@ pub fn by_library(floor: &Floor, call: &Call) -> Outcome {
             let answer = page::by_library(&theirs(), &mut buffer, &mut other);
             return Outcome::Written(convert::from_written(&answer), buffer);
         }
+        Call::Bound => {
+            return Outcome::Bounded(convert::from_bounded(&ceromby::bound(&theirs())));
+        }
         Call::Offer { plan } => return Outcome::Offered(plans::offer(plan)),
         Call::Release { plan, label } => {
             return Outcome::Released(plans::release(plan, floor, *label).into());
@@ -433,6 +443,7 @@ fn by_oracle(floor: &Floor, call: &Call) -> Outcome {
             let answer = oracle::page(floor, &mut buffer);
             return Outcome::Written(answer, buffer);
         }
+        Call::Bound => return Outcome::Bounded(oracle::bound(floor)),
         Call::Offer { plan } => return Outcome::Offered(oracle::offer(plan)),
         Call::Release { plan, label } => {
             return Outcome::Released(oracle::release(plan, floor, *label).into());
@@ -525,6 +536,7 @@ pub fn both(floor: &Floor, call: &Call) -> Result<Outcome, Trouble> {
         (Outcome::Written(answer, buffer), Call::Page { .. }) => {
             page::check(floor, answer, buffer)?;
         }
+        (Outcome::Bounded(answer), _) => bounds::check(floor, answer)?,
         (Outcome::OnBarge(given), Call::Barge(named)) => barges::check(named, given)?,
         _ if call.takes_a_plan() => plans::check(floor, call, &library)?,
         _ => layouts::check(floor, call, &library)?,
@@ -552,6 +564,9 @@ fn keeps_all(floor: &Floor, call: &Call, outcome: &Outcome) -> bool {
             answer.length == 0 && *buffer == blank(buffer.len())
         }
         (Outcome::Fed(answer), Call::Feed { record, .. }) => answer.throughput == *record,
+        (Outcome::Bounded(answer), _) => {
+            (answer.rounds, answer.connected, answer.unconnected) == (0, 0, 0)
+        }
         (Outcome::Offered(answer), _) => answer.label == 0,
         (Outcome::Released(answer), Call::Release { plan, .. }) => {
             let told = (answer.number, answer.a, answer.b);
@@ -625,6 +640,11 @@ fn describe(library: &Outcome, oracle: &Outcome) -> String {
             fields.note("record", &one.throughput, &other.throughput);
             let bits = |answer: &FeedAnswer| answer.throughput.rate_bits();
             fields.each("bits of rate", &bits(one), &bits(other));
+        }
+        (Outcome::Bounded(one), Outcome::Bounded(other)) => {
+            fields.note("rounds", &one.rounds, &other.rounds);
+            fields.note("connected", &one.connected, &other.connected);
+            fields.note("unconnected", &one.unconnected, &other.unconnected);
         }
         (Outcome::Offered(one), Outcome::Offered(other)) => {
             fields.note("label", &one.label, &other.label);

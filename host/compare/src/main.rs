@@ -4,6 +4,7 @@ mod arrows;
 mod barges;
 mod blank;
 mod book_lists;
+mod bounds;
 mod call;
 mod exchange;
 #[cfg(feature = "faults")]
@@ -88,6 +89,8 @@ fn requests(extent: Extent, tally: &mut Tally) -> Result<(), Found> {
         if at % 10 == 0 {
             let mut own = Rng::new(Rng::new(!extent.seed ^ at << 20 ^ 12).draw());
             single::whole_plan(&mut own, tally).map_err(found("a whole plan"))?;
+            let mut own = Rng::new(Rng::new(!extent.seed ^ at << 20 ^ 15).draw());
+            single::spent_bound(&mut own, tally).map_err(found("rounds up to the bound"))?;
         }
         if at % 20 == 0 {
             let mut own = Rng::new(Rng::new(!extent.seed ^ at << 20 ^ 13).draw());
@@ -122,6 +125,8 @@ fn cycles(extent: Extent, tally: &mut Tally) -> Result<(), Found> {
             single::feeds(&mut own, tally).map_err(found("a throughput record"))?;
             let mut own = Rng::new(Rng::new(extent.seed ^ cycle << 20 ^ 7).draw());
             single::pages(&mut own, tally).map_err(found("a page"))?;
+            let mut own = Rng::new(Rng::new(extent.seed ^ cycle << 20 ^ 15).draw());
+            single::bounds(&mut own, tally).map_err(found("a bound"))?;
             let mut own = Rng::new(Rng::new(extent.seed ^ cycle << 20 ^ 12).draw());
             single::plans(&mut own, tally).map_err(found("a plan"))?;
             let mut own = Rng::new(Rng::new(extent.seed ^ cycle << 20 ^ 13).draw());

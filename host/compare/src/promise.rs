@@ -25,7 +25,8 @@ pub struct Record {
     latest: Option<(u32, bool)>,
 }
 
-fn held(floor: &Floor) -> impl Iterator<Item = u32> + '_ {
+/// The numbers on the floor.
+pub fn held(floor: &Floor) -> impl Iterator<Item = u32> + '_ {
     let tiles = 0..floor.settings.tile_count();
     tiles
         .flat_map(|tile| floor.members(tile))
@@ -221,7 +222,7 @@ fn check_places(floor: &Floor) -> Result<(), Trouble> {
 }
 
 /// Tiles with a live path to a hopper.
-fn live(floor: &Floor) -> Vec<bool> {
+pub fn live(floor: &Floor) -> Vec<bool> {
     let grid = Grid::of(&floor.settings);
     let spots: Vec<_> = grid.spots().collect();
     let mut live = vec![false; spots.len()];
@@ -236,7 +237,8 @@ fn live(floor: &Floor) -> Vec<bool> {
     live
 }
 
-fn numbers_where(floor: &Floor, live: &[bool], wanted: bool) -> BTreeSet<u32> {
+/// The numbers on the tiles that have a live path, or on those that haven't.
+pub fn numbers_where(floor: &Floor, live: &[bool], wanted: bool) -> BTreeSet<u32> {
     (0..live.len())
         .filter(|tile| live[*tile] == wanted)
         .flat_map(|tile| floor.members(tile))
@@ -245,7 +247,7 @@ fn numbers_where(floor: &Floor, live: &[bool], wanted: bool) -> BTreeSet<u32> {
 }
 
 /// (C - 1) (1 + K M).
-fn bound(settings: &Settings, waiting: usize) -> u64 {
+pub fn bound(settings: &Settings, waiting: usize) -> u64 {
     let across = u64::from((settings.width - settings.length) / settings.travel) + 1;
     (settings.tile_count() as u64 - 1) * (1 + waiting as u64 * across)
 }

@@ -151,11 +151,27 @@ impl<'a> Run<'a> {
         self.case.first = self.floor;
     }
 
-    fn check(&mut self) -> Result<(), Trouble> {
+    fn demand_3(&mut self) -> Result<(), Trouble> {
         match self.case.sound {
             true => self.record.check(&self.floor),
             false => Ok(()),
         }
+    }
+
+    /// Demand 3, and the bound of the floor of the moment.
+    fn check(&mut self) -> Result<(), Trouble> {
+        self.demand_3()?;
+        self.bound()
+    }
+
+    /// The bound of the floor of the moment, which stays. Not one of the calls
+    /// that are counted, so that those are as many as without it.
+    fn bound(&mut self) -> Result<(), Trouble> {
+        let calls = self.tally.calls;
+        self.make(Call::Bound)?;
+        self.tally.calls = calls;
+        self.case.calls.pop();
+        Ok(())
     }
 
     /// Writes the floor and loads what was written, which gives it again. False
@@ -211,7 +227,7 @@ pub fn replay(case: &Case) -> Option<Trouble> {
             return turned;
         }
         let made = run.make(call.clone()).map(|_| ());
-        if let Err(trouble) = made.and_then(|()| run.check()) {
+        if let Err(trouble) = made.and_then(|()| run.demand_3()) {
             return Some(trouble);
         }
     }
@@ -322,6 +338,7 @@ fn arbitrary_floor(rng: &mut Rng) -> Floor {
 pub fn arbitrary(rng: &mut Rng, tally: &mut Tally) -> Result<(), Box<Failure>> {
     let first = arbitrary_floor(rng);
     finish(begin(first, true, None), tally, |run| {
+        run.bound()?;
         for _ in 0..rng.range(1, 20) {
             let floor = run.floor;
             run.make(makers::any_call(rng, &floor))?;
@@ -395,7 +412,9 @@ pub fn damaged(rng: &mut Rng, tally: &mut Tally) -> Result<(), Box<Failure>> {
             run.case.calls.clear();
             run.make(call)?;
         }
-        Ok(())
+        run.floor = first;
+        run.case.calls.clear();
+        run.bound()
     })
 }
 

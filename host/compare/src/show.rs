@@ -134,6 +134,7 @@ fn call(call: &Call) -> String {
         }
         Call::Feed { record, count } => throughput::show(record, *count),
         Call::Page { size } => format!("page to {size} bytes"),
+        Call::Bound => "bound".into(),
         Call::Offer { .. } | Call::Release { .. } | Call::Report { .. } => plans::show(call),
         Call::Barge(named) => {
             let floors = named.barge.floors.iter().enumerate();

@@ -5,14 +5,14 @@ use std::ops::Range;
 
 use oracle::{Floor, Grid, RoundAnswer, Side};
 
-use crate::call::{Call, Outcome, BARGE, NAMES, OFFER};
+use crate::call::{Call, Outcome, BARGE, BOUND, NAMES, OFFER};
 use crate::{
-    arrows, barges, blank, book_lists, exchange, hoppers, layouts, page, places, plans, reasons,
-    throughput, waits,
+    arrows, barges, blank, book_lists, bounds, exchange, hoppers, layouts, page, places, plans,
+    reasons, throughput, waits,
 };
 
 /// The answers that each call can give, in the order of `NAMES`.
-const ANSWERS: [&[u8]; 23] = [
+const ANSWERS: [&[u8]; 24] = [
     &[0, 1, 2, 3],
     &[0, 30, 4, 5, 6, 7, 31, 33, 34],
     &[0, 30, 4, 8, 31],
@@ -28,6 +28,7 @@ const ANSWERS: [&[u8]; 23] = [
     &[0, 42],
     &[0, 30, 41],
     &[0, 30, 43],
+    &[0, 30],
     &[0, 30, 47],
     &[0, 30, 47, 48, 4, 5, 31, 33, 40],
     &[0, 30, 47],
@@ -127,6 +128,7 @@ pub struct Tally {
     book_lists: book_lists::Counts,
     pub throughput: throughput::Counts,
     page: page::Counts,
+    pub bounds: bounds::Counts,
     pub plans: plans::Counts,
     pub barges: barges::Counts,
     pub settled: u64,
@@ -156,6 +158,7 @@ impl Tally {
     pub fn add(&mut self, further: Tally) {
         self.take_plans(&further);
         self.take_barges(&further);
+        self.take_bounds(&further);
         self.exchanges = further.exchanges;
         self.waits.add(&further.waits);
         self.hoppers.add(&further.hoppers);
@@ -183,6 +186,12 @@ impl Tally {
         self.take_answers(own, BARGE..NAMES.len());
     }
 
+    /// Takes over what a run met of bounds, and no more.
+    pub fn take_bounds(&mut self, own: &Tally) {
+        self.bounds.add(&own.bounds);
+        self.take_answers(own, BOUND..OFFER);
+    }
+
     fn take_answers(&mut self, own: &Tally, kinds: Range<usize>) {
         for kind in kinds {
             for (count, more) in self.answers[kind].iter_mut().zip(own.answers[kind]) {
@@ -203,6 +212,9 @@ impl Tally {
         }
         if let Call::Page { size } = call {
             self.page.note(before, *size, outcome.refusal());
+        }
+        if let Outcome::Bounded(answer) = outcome {
+            self.bounds.note(before, answer);
         }
         if let (Call::Barge(named), Outcome::OnBarge(given)) = (call, outcome) {
             self.barges.note(named, given);
@@ -285,6 +297,7 @@ impl Tally {
             self.book_lists.lines(),
             self.throughput.lines(),
             self.page.lines(),
+            self.bounds.lines(),
             self.plans.lines(),
             self.barges.lines(),
         ];
@@ -295,7 +308,8 @@ impl Tally {
             lines.event(&name, count, 1);
         }
         let sizes = ("floor sizes that had a page", self.page.sizes(), 63);
-        for (name, count, least) in self.blank.events().into_iter().chain([sizes]) {
+        let spent = ("floors run up to their bound", self.bounds.spent(), 200);
+        for (name, count, least) in self.blank.events().into_iter().chain([sizes, spent]) {
             lines.event(name, count, least);
         }
         let closest = format!("rounds used of the bound, at most: {:.3}", self.closest);

@@ -2,8 +2,9 @@
 
 use ::ceromby::raw as ceromby;
 use oracle::{
-    Answer, Barge, Booking, Canister, Counters, Delivery, Entry, Floor, Layout, PlaceAnswer, Plan,
-    PlanAnswer, Reading, ReleaseAnswer, Report, RoundAnswer, Settings, Tile, WriteAnswer,
+    Answer, Barge, Booking, Bounded, Canister, Counters, Delivery, Entry, Floor, Layout,
+    PlaceAnswer, Plan, PlanAnswer, Reading, ReleaseAnswer, Report, RoundAnswer, Settings, Tile,
+    WriteAnswer,
 };
 
 /// Two functions, there and back, for a struct that has the same fields on both sides.
@@ -123,6 +124,15 @@ pub fn from_reading(from: &ceromby::Reading) -> Reading {
         refusal: from.refusal,
         tile: from_tile(from.tile),
         members: from.members.each_ref().map(from_canister),
+    }
+}
+
+pub fn from_bounded(from: &ceromby::Bounded) -> Bounded {
+    Bounded {
+        rounds: from.rounds,
+        connected: from.connected,
+        unconnected: from.unconnected,
+        refusal: from.refusal,
     }
 }
 

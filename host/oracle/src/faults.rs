@@ -164,6 +164,21 @@ faults! {
     AnywhereFree "anywhere-free" "a booking without a place is never 50"
     PlaceBeyond "place-beyond" "a booking that is 50 tells its place"
     StopLoaded "stop-loaded" "a stop may be 50"
+    BoundAllTiles "bound-all-tiles" "the bound has C in place of C - 1"
+    BoundNoStart "bound-no-start" "the bound is (C - 1) x K x M"
+    CrossingShort "crossing-short" "M lacks its + 1"
+    WholeWidth "whole-width" "M by U in place of U - l"
+    IdleBound "idle-bound" "the bound is 0 where K is 0"
+    BoundCut "bound-cut" "the bound in sixteen bits"
+    AllConnected "all-connected" "K counts all canisters"
+    TilesConnected "tiles-connected" "K counts tiles in place of canisters"
+    StoppedConnected "stopped-connected" "the canisters on stopped tiles count as connected"
+    StoppedLeftOut "stopped-left-out" "the canisters on stopped tiles aren't counted"
+    StopLeadsOn "stop-leads-on" "a live path may lead over stopped tiles"
+    LowestHopperEnds "lowest-hopper-ends" "a live path ends at the lowest hopper alone"
+    AcrossColumns "across-columns" "a live path may go from a column's north end to the next one's south end"
+    DistanceConnects "distance-connects" "a tile with a distance has a live path"
+    RefusedCounted "refused-counted" "a refused bound tells the canisters"
 }
 
 #[cfg(feature = "faults")]

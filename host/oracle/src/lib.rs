@@ -7,6 +7,7 @@
 
 mod anywhere;
 mod barge;
+mod bound;
 mod calls;
 mod check;
 #[cfg(feature = "faults")]
@@ -31,6 +32,7 @@ pub use barge::{
     barge_book, barge_book_anywhere, barge_repair, barge_round, barge_stop, Barge, BargeAnswer,
     BargePlaceAnswer, BargeRoundAnswer, FLOORS, MAX_ALLOWANCE,
 };
+pub use bound::{bound, Bounded};
 pub use calls::{book, fresh, read, repair, stop};
 pub use check::{settings_refusal, well_formed};
 pub use grid::{Grid, Side, Spot};

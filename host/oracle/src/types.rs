@@ -261,7 +261,7 @@ pub fn only(tile: u8) -> u64 {
     1u64.checked_shl(tile.into()).unwrap_or(0)
 }
 
-fn holds(set: u64, tile: usize) -> bool {
+pub(crate) fn holds(set: u64, tile: usize) -> bool {
     tile < MAX_TILES && set >> tile & 1 == 1
 }
 

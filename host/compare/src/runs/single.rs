@@ -9,7 +9,9 @@ use crate::call::{Call, Outcome, Trouble};
 use crate::plans::Follow;
 use crate::tally::Tally;
 use crate::throughput::{self, Follow as Feeds};
-use crate::{arrows, barges, blank, book_lists, exchange, layouts, makers, page, places, plans};
+use crate::{
+    arrows, barges, blank, book_lists, bounds, exchange, layouts, makers, page, places, plans,
+};
 
 /// Every pair in either order, on a well-formed floor and on a damaged one.
 pub fn exchange_once(rng: &mut Rng, tally: &mut Tally) -> Result<(), Box<Failure>> {
@@ -243,6 +245,40 @@ pub fn pages(rng: &mut Rng, tally: &mut Tally) -> Result<(), Box<Failure>> {
         })?;
     }
     tally.calls = calls;
+    Ok(())
+}
+
+/// The bounds of a floor with lines of stopped tiles, of one that takes long
+/// and of a damaged one.
+pub fn bounds(rng: &mut Rng, tally: &mut Tally) -> Result<(), Box<Failure>> {
+    let mut own = Tally::new();
+    for at in 0..3 {
+        let (first, must) = match at {
+            0 => (bounds::walled_floor(rng), None),
+            1 => (bounds::slow_floor(rng), None),
+            _ => {
+                let (floor, known) = damaged_floor(rng, &mut Tally::new());
+                (floor, known.then_some(30))
+            }
+        };
+        finish(begin(first, at < 2, must), &mut own, |run| run.bound())?;
+    }
+    tally.take_bounds(&own);
+    Ok(())
+}
+
+/// A small floor, run by the library for as many rounds as its bound tells.
+pub fn spent_bound(rng: &mut Rng, tally: &mut Tally) -> Result<(), Box<Failure>> {
+    let Some(first) = bounds::small_floor(rng) else {
+        return Ok(());
+    };
+    let mut own = Tally::new();
+    finish(begin(first, true, None), &mut own, |run| {
+        run.bound()?;
+        let spent = bounds::spend(&first, &mut run.tally.bounds);
+        spent.inspect_err(|_| run.case.drain = true)
+    })?;
+    tally.take_bounds(&own);
     Ok(())
 }
 

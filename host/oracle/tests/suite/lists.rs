@@ -213,6 +213,10 @@ fn drain(rng: &mut Rng, first: &Floor, cap: u64) -> Option<u64> {
     let cut_off = numbers_on(first, |tile| !live[tile]);
     let most = bound(&first.settings, waiting.len() as u64);
     assert!(most <= bound(&first.settings, held(first).len() as u64));
+    let told = oracle::bound(first);
+    assert_eq!((told.refusal, u64::from(told.rounds)), (0, most));
+    assert_eq!(told.connected as usize, waiting.len());
+    assert_eq!(told.unconnected as usize, cut_off.len());
     let mut record = Record::of(first);
     let mut floor = *first;
     let mut rounds = 0;

@@ -5,6 +5,7 @@ mod arrows;
 mod barge;
 mod blank;
 mod book_list;
+mod bound;
 mod common;
 mod floors;
 mod full;
