@@ -166,6 +166,10 @@ static void call(ceromby_floor *floor) {
     }
     case 6: {
         ceromby_reading reading, told = ceromby_read(before, tile);
+        ceromby_bounded bounded, latest = ceromby_bound(before);
+        CHECK(ceromby_bound_in(floor, &bounded) == latest.refusal && bounded.rounds == latest.rounds);
+        CHECK(bounded.connected == latest.connected && bounded.unconnected == latest.unconnected);
+        CHECK(latest.refusal != CEROMBY_ACCEPTED || bounded.connected + bounded.unconnected == ceromby_aboard(floor));
         number = ceromby_read_in(floor, tile, &reading);
         CHECK(memcmp(&reading.tile, &told.tile, sizeof told.tile) == 0);
         CHECK(memcmp(reading.members, told.members, sizeof told.members) == 0);

@@ -2,7 +2,7 @@
 //! the answer's, or as it was.
 
 use ceromby::raw;
-use ceromby::{Barge, Booking, Canister, Floor, Place, Plan, Refusal, Report, Throughput};
+use ceromby::{Barge, Booking, Bound, Canister, Floor, Place, Plan, Refusal, Report, Throughput};
 use ceromby::{Entry, Fed, Settings};
 
 /// Any numbers (xorshift).
@@ -125,6 +125,14 @@ fn one_call(random: &mut Random, floor: &mut Floor) -> bool {
             assert_eq!(answer.map(drop), told(due.refusal, ()));
             let held = answer.iter().flat_map(|tile| tile.canisters());
             assert!(held.eq(due.members.iter().take(due.tile.count.into())));
+            let due = raw::bound(&before);
+            let bound = Bound {
+                rounds: due.rounds,
+                connected: due.connected,
+                unconnected: due.unconnected,
+            };
+            assert_eq!(floor.bound(), told(due.refusal, bound));
+            assert_eq!(bound.connected + bound.unconnected, floor.aboard());
             (1, before)
         }
         8 => {
