@@ -7,6 +7,7 @@ use oracle::random::{self, Rng};
 use oracle::{Bounded, Floor, Grid, Settings, Tile, NONE};
 
 use crate::call::{by_library, Call, Outcome, Trouble};
+use crate::tally::{add, line};
 use crate::{makers, page, promise};
 
 /// 63 tiles of sixteen canisters, which cross a tile in 59,999 rounds.
@@ -194,13 +195,6 @@ impl Counts {
 
     /// Lines of counts, each with its name.
     pub fn lines(&self) -> Vec<(String, Vec<(String, u64)>)> {
-        let line = |name: &str, names: &[&str], counts: &[u64]| {
-            let cells = names.iter().map(ToString::to_string);
-            (
-                name.to_string(),
-                cells.zip(counts.iter().copied()).collect(),
-            )
-        };
         vec![
             line("bounds, canisters:", &CANISTERS, &self.canisters),
             line("bounds, without a live path:", &WITHOUT, &self.without),
@@ -211,12 +205,6 @@ impl Counts {
             line("bounds of malformed floors:", &MALFORMED, &self.malformed),
             line("run up to their bound:", &SPENT, &self.spent),
         ]
-    }
-}
-
-fn add(counts: &mut [u64], more: &[u64]) {
-    for (count, more) in counts.iter_mut().zip(more) {
-        *count += more;
     }
 }
 

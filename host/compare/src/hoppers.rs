@@ -3,6 +3,7 @@
 use oracle::{Floor, Report, MAX_HOPPERS};
 
 use crate::first::First;
+use crate::tally::add;
 
 /// The answers of a load.
 const ANSWERS: [u8; 8] = [0, 9, 10, 11, 1, 2, 3, 12];
@@ -100,12 +101,6 @@ impl Counts {
         let faults = faults.map(|((name, due, _), count)| (format!("{name} ({due})"), count));
         lines.push(("images with faults about hoppers:".into(), named(faults)));
         lines
-    }
-}
-
-fn add(counts: &mut [u64], more: &[u64]) {
-    for (count, more) in counts.iter_mut().zip(more) {
-        *count += more;
     }
 }
 

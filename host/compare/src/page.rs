@@ -6,6 +6,7 @@ use oracle::random::{self, Rng};
 use oracle::{Floor, Settings, WriteAnswer, LONGEST_PAGE, NONE};
 
 use crate::call::Trouble;
+use crate::tally::line;
 
 /// A page as C gets it, so that the length beside a refusal is compared too.
 /// The binding's own answer must be the same, without that length. The two
@@ -159,13 +160,6 @@ impl Counts {
 
     /// Lines of counts, each with its name.
     pub fn lines(&self) -> Vec<(String, Vec<(String, u64)>)> {
-        let line = |name: &str, names: &[&str], counts: &[u64]| {
-            let cells = names.iter().map(ToString::to_string);
-            (
-                name.to_string(),
-                cells.zip(counts.iter().copied()).collect(),
-            )
-        };
         vec![
             line("pages by buffer:", &TAKEN, &self.taken),
             line("buffers that are 43:", &SHORT, &self.short),

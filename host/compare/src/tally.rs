@@ -11,6 +11,22 @@ use crate::{
     reasons, throughput, waits,
 };
 
+/// A line of counts: its name, and each count with its own.
+pub fn line(name: &str, names: &[&str], counts: &[u64]) -> (String, Vec<(String, u64)>) {
+    let cells = names.iter().map(ToString::to_string);
+    (
+        name.to_string(),
+        cells.zip(counts.iter().copied()).collect(),
+    )
+}
+
+/// Adds counts one by one.
+pub fn add(counts: &mut [u64], more: &[u64]) {
+    for (count, more) in counts.iter_mut().zip(more) {
+        *count += more;
+    }
+}
+
 /// The answers that each call can give, in the order of `NAMES`.
 const ANSWERS: [&[u8]; 24] = [
     &[0, 1, 2, 3],
