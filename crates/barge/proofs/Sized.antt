@@ -10,4 +10,4 @@ use Rattle.barge.specs.declared.Barge.{Barge}
 use Rattle.barge.specs.contracts.Barge.{the_type}
 
 pub floors_length : (b : Barge) (vs : List Val) → Is (row the_type) b vs → length b.floors ≡ 4
-floors_length b vs p = sym (length-map b.floors floor-field.into) ∙ p.1.1.0.1.0.1
+floors_length b vs p = p.1.1.0.1.0.1

@@ -1,4 +1,6 @@
 // Four floors with a joint allowance (document 02's [13]): the barge, and the answers of its calls.
+#![tactic(auto)]
+
 use floor::{Floor, Report};
 
 // "floor number not 0 to 3, after 30"
@@ -12,7 +14,7 @@ pub const MAX_ALLOWANCE: u32 = 4032;
 
 // Four floors, and how many canisters may be aboard. How many are is not stored: the floors have them.
 #[repr(C)]
-#[derive(Drop)]
+#[derive(Clone, Copy)]
 pub struct Barge {
     pub floors: [Floor; 4],
     pub allowance: u32,
@@ -20,7 +22,7 @@ pub struct Barge {
 
 // The answer of a booking, a stop and a repair: the refusal number, 0 where the call was accepted.
 #[repr(C)]
-#[derive(Drop)]
+#[derive(Clone, Copy)]
 pub struct BargeAnswer {
     pub barge: Barge,
     pub refusal: u8,
@@ -28,7 +30,7 @@ pub struct BargeAnswer {
 
 // The answer of a booking without a place: the place found; refused: zeros.
 #[repr(C)]
-#[derive(Drop)]
+#[derive(Clone, Copy)]
 pub struct BargePlaced {
     pub barge: Barge,
     pub a: u16,
@@ -38,7 +40,7 @@ pub struct BargePlaced {
 
 // The answer of a round, with the report of the floor that it named.
 #[repr(C)]
-#[derive(Drop)]
+#[derive(Clone, Copy)]
 pub struct BargeRounded {
     pub barge: Barge,
     pub report: Report,

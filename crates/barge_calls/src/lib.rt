@@ -1,4 +1,6 @@
 // The calls on a barge. Each takes any bytes, and its contract determines the whole answer on all of them.
+#![tactic(auto)]
+
 ghost use Rattle.std.specs.Prelude.{◌≡◌};
 ghost use Rattle.barge.specs.Barges.{barge_book, barge_book_anywhere, barge_stop, barge_repair, barge_round};
 

@@ -1,4 +1,6 @@
 // How a call on a barge begins and ends: the check of the whole barge, the joint total, the refusals 30, 49 and 50.
+#![tactic(auto)]
+
 ghost use Rattle.std.specs.Prelude.{◌≡◌, true, cond, not, [], ◌∷◌, ◌-◌, ◌≤◌, ◌<◌, leb};
 ghost use Rattle.laws.specs.Define.{sum, refusal};
 ghost use Rattle.barge.specs.Barges.{aboard, barge_sound};
@@ -43,7 +45,7 @@ pub fn last_refusal(total: u64, allowance: u32) -> u8
 }
 
 // How a call on a barge begins: the joint total, and 30 or 49, or 0.
-#[derive(Drop)]
+#[derive(Clone, Copy)]
 pub struct Begun {
     pub total: u64,
     pub refusal: u8,

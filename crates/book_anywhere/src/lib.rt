@@ -1,5 +1,7 @@
 // A booking without a place, a call on a floor. It takes any bytes, and its contract determines the whole answer on all of
 // them.
+#![tactic(auto)]
+
 ghost use Rattle.std.specs.Prelude.{◌≡◌, ◌≤◌, ◌<◌, take};
 ghost use Rattle.laws.specs.Define.{refusal};
 ghost use Rattle.floor.specs.Settings.{total};
@@ -13,7 +15,7 @@ use floor::{Canister, Floor, Members, Placed, Settings, refusals};
 use round_members::insert;
 
 // The canister at the place found, and the number that the booking is refused by.
-#[derive(Drop)]
+#[derive(Clone, Copy)]
 pub struct Found {
     pub canister: Canister,
     pub refusal: u8,

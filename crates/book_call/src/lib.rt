@@ -1,4 +1,6 @@
 // Book, a call on a floor. It takes any bytes, and its contract determines the whole answer on all of them.
+#![tactic(auto)]
+
 ghost use Rattle.std.specs.Prelude.{◌≡◌};
 ghost use Rattle.floor.specs.Well.{well_formed};
 ghost use Rattle.floor.specs.Calls.{book_answer};

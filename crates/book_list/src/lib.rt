@@ -1,5 +1,7 @@
 // A list of bookings in one call. It takes any bytes, and its contract determines the whole answer, and every entry, on all
 // of them.
+#![tactic(auto)]
+
 ghost use Rattle.std.specs.Prelude.{◌≡◌};
 ghost use Rattle.floor.specs.Well.{well_formed};
 ghost use Rattle.floor.specs.Bookings.{single, list_answer, list_after};
@@ -13,7 +15,7 @@ use floor::{Answer, Booking, Floor, refusals};
 const LONGEST_LIST: usize = 64;
 
 // How a list begins: how many entries are booked, and whether the floor is well formed.
-#[derive(Drop)]
+#[derive(Clone, Copy)]
 pub struct Begun {
     pub entries: usize,
     pub well: bool,
@@ -76,7 +78,7 @@ pub fn book_list(floor: Floor, list: &mut [Booking]) -> Answer
 }
 
 // A list by value: 64 places, with the answers of those that were used.
-#[derive(Drop)]
+#[derive(Clone, Copy)]
 pub struct Listed {
     pub floor: Floor,
     pub list: [Booking; 64],

@@ -1,4 +1,6 @@
 // The lowest place on a tile that keeps the spacing: the lowest b with a free a, then the lowest a there.
+#![tactic(auto)]
+
 ghost use Rattle.std.specs.Prelude.{◌≡◌, suc, ◌+◌, ◌≤◌, ◌<◌, take};
 ghost use Rattle.laws.specs.Every.{All};
 ghost use Rattle.floor.specs.Settings.{spacing, span};
@@ -8,7 +10,7 @@ use check_places::stands_apart;
 use floor::{Canister, Settings};
 
 // A place on a tile; b is U - l + 1 where there is none.
-#[derive(Drop)]
+#[derive(Clone, Copy)]
 pub struct Place {
     pub a: u16,
     pub b: u16,

@@ -1,4 +1,6 @@
 // A booking on one tile: the number that it is refused by, and the tile's head and the counters that an accepted one leaves.
+#![tactic(auto)]
+
 ghost use Rattle.std.specs.Prelude.{◌≡◌, ◌≤◌, ◌<◌, take};
 ghost use Rattle.laws.specs.Define.{all_of, refusal};
 ghost use Rattle.floor.specs.Settings.{total, spacing};

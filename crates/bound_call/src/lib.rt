@@ -1,6 +1,8 @@
 // The call bound: after how many rounds what can be delivered is delivered, and how many canisters that is. It takes any
 // bytes, and its contract determines the whole answer on all of them. The tiles with a live path are found as a set of bits,
 // in passes over all tiles together.
+#![tactic(auto)]
+
 ghost use Rattle.std.specs.Prelude.{◌≡◌, true, ◌&&◌, ◌||◌, cond, ℕ, ◌+◌, ◌≤◌, ◌<◌, ◌^◌};
 ghost use Rattle.laws.specs.Define.{any_of, bit};
 ghost use Rattle.floor.specs.Sides.{sides};

@@ -1,5 +1,7 @@
 // A fresh floor, and stop, repair and read on a well-formed one: their refusals, the floor that an accepted one leaves, the
 // tile that is read.
+#![tactic(auto)]
+
 ghost use Rattle.std.specs.Prelude.{◌≡◌, true, ◌<◌, get_or};
 ghost use Rattle.laws.specs.Define.{tab, refusal};
 ghost use Rattle.floor.specs.Settings.{total, settings_pass};

@@ -1,5 +1,7 @@
 // The calls on a floor; book, book_anywhere, book_list and, by value, book_places, bound, and keep, forget and recall come
 // from crates of their own. Each takes any bytes, and its contract determines the whole answer on all of them.
+#![tactic(auto)]
+
 ghost use Rattle.std.specs.Prelude.{◌≡◌};
 ghost use Rattle.floor.specs.Calls.{fresh_answer, stop_answer, repair_answer, read_answer, round_answer};
 ghost use Rattle.calls.specs.InternalRefused.{unread_with};

@@ -1,1 +1,2 @@
 // Cases beyond the paper's trials, in proofs/; no code.
+#![tactic(auto)]

@@ -1,4 +1,6 @@
 // The calls for C and Rust. Each export ensures what the call that it wraps ensures, and takes any bytes.
+#![tactic(auto)]
+
 ghost use Rattle.std.specs.Prelude.{◌≡◌, length};
 ghost use Rattle.floor.specs.Layouts.{name_number};
 ghost use Rattle.floor.specs.Calls.{fresh_answer, book_answer, stop_answer, repair_answer, keep_answer, forget_answer, recall_answer, round_answer, read_answer};

@@ -1,4 +1,6 @@
 // Whether a floor in memory is well formed, on any bytes.
+#![tactic(auto)]
+
 ghost use Rattle.std.specs.Prelude.{◌≡◌, true, ◌≤◌, ◌<◌, ◌^◌, length};
 ghost use Rattle.floor.specs.Settings.{hoppers_of, settings_pass, Ranged};
 ghost use Rattle.floor.specs.Well.{counters_sound, state_well, well_formed};

@@ -1,4 +1,6 @@
 // Whether a tile in memory is as it must be, without its canisters.
+#![tactic(auto)]
+
 ghost use Rattle.std.specs.Prelude.{◌≡◌, ◌<◌};
 ghost use Rattle.floor.specs.Settings.{total, Ranged};
 ghost use Rattle.floor.specs.Memory.{is_zero_tile, head_fits};

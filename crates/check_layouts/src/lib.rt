@@ -1,4 +1,6 @@
 // Whether the layouts that stand in memory are as they must be, on any bytes.
+#![tactic(auto)]
+
 ghost use Rattle.std.specs.Prelude.{◌≡◌, true};
 ghost use Rattle.laws.specs.Define.{all_below};
 ghost use Rattle.floor.specs.Settings.{settings_pass};

@@ -1,4 +1,6 @@
 // Whether all numbers on a floor differ: each number is compared with the earlier ones of its remainder.
+#![tactic(auto)]
+
 ghost use Rattle.std.specs.Prelude.{◌≡◌, true, false};
 ghost use Rattle.check_unique.specs.InternalDiffer.{differ, Runs};
 

@@ -1,4 +1,6 @@
 // Whether the sixteen places of a tile in memory are as they must be.
+#![tactic(auto)]
+
 ghost use Rattle.std.specs.Prelude.{◌≡◌, ◌≤◌, length, take, get_or, leb};
 ghost use Rattle.laws.specs.Define.{pairs_of, all_below};
 ghost use Rattle.floor.specs.Settings.{spacing};

@@ -1,4 +1,6 @@
 // The refusals 1 to 3 of settings, on any bytes.
+#![tactic(auto)]
+
 ghost use Rattle.std.specs.Prelude.{◌≡◌, false};
 ghost use Rattle.floor.specs.Settings.{settings_refusal};
 ghost use Rattle.check_settings.specs.InternalGroups.{sizes_wrong, sets_wrong, rules_wrong, measures_wrong};

@@ -1,18 +1,21 @@
 // The console: reads calls line by line from standard input and answers each on standard output.
+#![tactic(auto)]
+
 ghost use Rattle.std.specs.Prelude.{◌<◌, ◌≤◌, length};
 
 use console_barge::WithBarge;
-use libc::STDIN_FILENO;
+use std::io::Read;
+use std::rt::Files;
 
 // What the console keeps, and the place of the first byte not yet obeyed.
-#[derive(Drop)]
+#[derive(Clone, Copy)]
 struct Place {
     all: WithBarge,
     at: usize,
 }
 
 // One line: a remark is passed over.
-fn line_done(before: WithBarge, line: &[u8]) -> WithBarge {
+fn line_done(rt: &(impl Files + Print), before: WithBarge, line: &[u8]) -> WithBarge {
     let mut s = before.session;
     s.lines = std::num::wrapping_add_u64(s.lines, 1);
     let a = console_barge::with_session(before, s);
@@ -20,14 +23,14 @@ fn line_done(before: WithBarge, line: &[u8]) -> WithBarge {
         return a;
     }
     if 400 < line.len() {
-        console_say::too_long(s.lines);
+        console_say::too_long(rt, s.lines);
         return a;
     }
-    console_obey::obey(a, line)
+    console_obey::obey(rt, a, line)
 }
 
 // Obeys the whole lines of the text.
-fn obey_lines(before: WithBarge, text: &[u8]) -> Place
+fn obey_lines(rt: &(impl Files + Print), before: WithBarge, text: &[u8]) -> Place
     ensures { result.at ≤ length text.now }
 {
     let mut a = before;
@@ -37,27 +40,27 @@ fn obey_lines(before: WithBarge, text: &[u8]) -> Place
         if to == text.len() {
             break;
         }
-        a = line_done(a, &text[at..to]);
+        a = line_done(rt, a, &text[at..to]);
         at = to + 1;
     }
     Place { all: a, at: at }
 }
 
 // Reads once into the buffer from `end` on. Gives the new end, the same one where the input has ended.
-fn read_more(buf: &mut [u8], end: usize) -> usize
+fn read_more(rt: &impl Print, input: &mut impl Read, buf: &mut [u8], end: usize) -> usize
     requires { end < length buf.old }
     ensures { (end ≤ result) × (result ≤ length buf.new) }
 {
-    let got = libc::read(STDIN_FILENO, &mut buf[end..]);
-    if got < 0 {
-        console_say::text(b"console: standard input can't be read any further\n");
-    }
-    end + io::count(got, &buf[end..])
+    let Ok(more) = input.read(&mut buf[end..]) else {
+        console_say::text(rt, b"console: standard input can't be read any further\n");
+        return end;
+    };
+    end + more
 }
 
 // After a read: what the console keeps, how many bytes of an unfinished line stand at the front of the buffer, whether to
 // read again.
-#[derive(Drop)]
+#[derive(Clone, Copy)]
 struct After {
     all: WithBarge,
     kept: usize,
@@ -65,11 +68,17 @@ struct After {
 }
 
 // Reads once, obeys the lines that are whole now, and keeps what is left at the front.
-fn turn(before: WithBarge, buf: &mut [u8], kept: usize) -> After
+fn turn(
+    rt: &(impl Files + Print),
+    input: &mut impl Read,
+    before: WithBarge,
+    buf: &mut [u8],
+    kept: usize,
+) -> After
     requires { (kept ≤ 401) × (401 < length buf.old) }
     ensures { result.kept ≤ 401 }
 {
-    let end = read_more(buf, kept);
+    let end = read_more(rt, input, buf, kept);
     if end == kept {
         return After {
             all: before,
@@ -77,7 +86,7 @@ fn turn(before: WithBarge, buf: &mut [u8], kept: usize) -> After
             more: false,
         };
     }
-    let place = obey_lines(before, &buf[..end]);
+    let place = obey_lines(rt, before, &buf[..end]);
     let a = place.all;
     let left = console_lines::keep(buf, place.at, end);
     After {
@@ -89,25 +98,25 @@ fn turn(before: WithBarge, buf: &mut [u8], kept: usize) -> After
 
 // The end of the input: a last line without its end is obeyed; a list that has no `end` is not sent. `more`: there may be
 // input, and no reads are left.
-fn finish(a: WithBarge, rest: &[u8], more: bool) {
+fn finish(rt: &(impl Files + Print), a: WithBarge, rest: &[u8], more: bool) {
     if more {
-        console_say::text(b"console: no reads are left; the lines after line ");
-        console_say::number(a.session.lines);
-        console_say::text(b" are not read\n");
+        console_say::text(rt, b"console: no reads are left; the lines after line ");
+        console_say::number(rt, a.session.lines);
+        console_say::text(rt, b" are not read\n");
         return;
     }
     let mut last = a;
     if a.session.going && 0 < rest.len() {
-        last = line_done(a, rest);
+        last = line_done(rt, a, rest);
     }
     if last.session.entries.begun {
-        console_say::text(b"list: not sent, there is no end\n");
+        console_say::text(rt, b"list: not sent, there is no end\n");
     }
 }
 
 // Obeys lines as they come, until `quit` or the end of the input. A proved loop has to end, and nothing says that the input
 // does: so the reads are counted down, from a number that no run uses up.
-fn converse(buf: &mut [u8])
+fn converse(rt: &(impl Files + Print), input: &mut impl Read, buf: &mut [u8])
     requires { 401 < length buf.old }
 {
     let mut a = console_barge::begin();
@@ -115,18 +124,22 @@ fn converse(buf: &mut [u8])
     let mut more = true;
     let mut reads = u64::MAX;
     while 0 < reads && more {
-        let done = turn(a, buf, kept);
+        let done = turn(rt, input, a, buf, kept);
         let after = done.all;
         a = after;
         kept = done.kept;
         more = done.more;
         reads -= 1;
     }
-    finish(a, &buf[..kept], more);
+    finish(rt, a, &buf[..kept], more);
 }
 
-fn main() {
-    console_say::text(b"console: begin with fresh or load; help lists the calls, quit ends\n");
-    let mut buf = io::buffer();
-    converse(&mut buf);
+fn main(rt: HostRuntime) {
+    console_say::text(
+        &rt,
+        b"console: begin with fresh or load; help lists the calls, quit ends\n",
+    );
+    let mut input = rt.stdin();
+    let mut buf = [0u8; 4096];
+    converse(&rt, &mut input, &mut buf);
 }

@@ -1,4 +1,6 @@
 // A barge as it is typed: four floors, put there and taken from there, and their joint allowance.
+#![tactic(auto)]
+
 ghost use Rattle.std.specs.Prelude.{◌≡◌, ◌<◌};
 ghost use Rattle.console_barge.specs.Aboard.{start_barge, session_set, barge_set, place_of, floor_set};
 
@@ -8,7 +10,7 @@ use console_session::Session;
 use floor::Floor;
 
 // The session, the barge beside it, and how many rounds each floor of the barge went.
-#[derive(Drop)]
+#[derive(Clone, Copy)]
 pub struct WithBarge {
     pub session: Session,
     pub barge: Barge,
@@ -50,22 +52,22 @@ pub fn with_barge(a: WithBarge, barge: Barge) -> WithBarge
     next
 }
 
-pub fn cannot(a: WithBarge, line: &[u8]) -> WithBarge
+pub fn cannot(rt: &impl Print, a: WithBarge, line: &[u8]) -> WithBarge
     ensures { result ≡ a }
 {
-    console_say::unreadable(a.session.lines, line);
+    console_say::unreadable(rt, a.session.lines, line);
     a
 }
 
 // Sets the allowance. The calls refuse one that isn't 1 to 4,032.
-pub fn allowance(a: WithBarge, line: &[u8]) -> WithBarge {
+pub fn allowance(rt: &impl Print, a: WithBarge, line: &[u8]) -> WithBarge {
     let n = console_parse::arguments(line, 1);
     if !n.good {
-        return cannot(a, line);
+        return cannot(rt, a, line);
     }
-    text(b"allowance: ");
-    small(n.at[0]);
-    text(b"\n");
+    text(rt, b"allowance: ");
+    small(rt, n.at[0]);
+    text(rt, b"\n");
     let mut barge = a.barge;
     barge.allowance = n.at[0];
     with_barge(a, barge)
@@ -97,12 +99,12 @@ fn floor_at(barge: Barge, number: u32) -> Floor {
 }
 
 // A floor number that isn't 0 to 3, or a floor that isn't there.
-fn no_floor(call: &[u8], floor: u32) {
+fn no_floor(rt: &impl Print, call: &[u8], floor: u32) {
     if 3 < floor {
-        console_say::refused_as(call, barge::NO_FLOOR, b"floor number not 0 to 3");
+        console_say::refused_as(rt, call, barge::NO_FLOOR, b"floor number not 0 to 3");
     } else {
-        text(call);
-        text(b": the barge hasn't that floor\n");
+        text(rt, call);
+        text(rt, b": the barge hasn't that floor\n");
     }
 }
 
@@ -119,65 +121,65 @@ fn held(f: Floor) -> u64 {
 }
 
 // A floor of the barge that `put` doesn't give up.
-fn holds(floor: u32, n: u64) {
-    text(b"put: floor ");
-    small(floor);
-    text(b" of the barge holds ");
-    console_say::amount(n);
-    text(b"; put! gives it up\n");
+fn holds(rt: &impl Print, floor: u32, n: u64) {
+    text(rt, b"put: floor ");
+    small(rt, floor);
+    text(rt, b" of the barge holds ");
+    console_say::amount(rt, n);
+    text(rt, b"; put! gives it up\n");
 }
 
 // Moves the console's floor to the barge. A floor there that holds canisters is given up by `put!` alone.
-pub fn put(a: WithBarge, line: &[u8], give_up: bool) -> WithBarge {
+pub fn put(rt: &impl Print, a: WithBarge, line: &[u8], give_up: bool) -> WithBarge {
     let n = console_parse::arguments(line, 1);
     if !n.good {
-        return cannot(a, line);
+        return cannot(rt, a, line);
     }
     let s = a.session;
     if !s.made {
-        console_say::no_floor(b"put");
+        console_say::no_floor(rt, b"put");
         return a;
     }
     if 3 < n.at[0] {
-        no_floor(b"put", n.at[0]);
+        no_floor(rt, b"put", n.at[0]);
         return a;
     }
     let barge = a.barge;
     let there = held(floor_at(barge, n.at[0]));
     if 0 < there && !give_up {
-        holds(n.at[0], there);
+        holds(rt, n.at[0], there);
         return a;
     }
-    text(b"put: now floor ");
-    small(n.at[0]);
-    text(b" of the barge\n");
+    text(rt, b"put: now floor ");
+    small(rt, n.at[0]);
+    text(rt, b" of the barge\n");
     let floor = s.floor;
-    let without = console_session::without_floor(s);
+    let without = console_session::without_floor(rt, s);
     let next = with_floor(a, n.at[0], floor);
     with_session(next, without)
 }
 
 // Moves a floor of the barge to the console. The console's own, if it holds canisters, is given up by `take!` alone.
-pub fn take(a: WithBarge, line: &[u8], give_up: bool) -> WithBarge {
+pub fn take(rt: &impl Print, a: WithBarge, line: &[u8], give_up: bool) -> WithBarge {
     let n = console_parse::arguments(line, 1);
     if !n.good {
-        return cannot(a, line);
+        return cannot(rt, a, line);
     }
     let barge = a.barge;
     let floor = floor_at(barge, n.at[0]);
     if 3 < n.at[0] || !is_there(floor) {
-        no_floor(b"take", n.at[0]);
+        no_floor(rt, b"take", n.at[0]);
         return a;
     }
     let s = a.session;
     let here = held(s.floor);
     if 0 < here && !give_up {
-        console_say::holds(b"take", here);
+        console_say::holds(rt, b"take", here);
         return a;
     }
     let settings = floor.settings;
-    console_show::made(b"take", settings);
-    let with = console_session::begun(s, floor);
+    console_show::made(rt, b"take", settings);
+    let with = console_session::begun(rt, s, floor);
     let none = floor::zero_floor();
     let next = with_floor(a, n.at[0], none);
     with_session(next, with)
@@ -191,37 +193,37 @@ fn total(floors: [Floor; 4]) -> u64 {
 }
 
 // A floor of the barge, in a line.
-fn tell(k: usize, f: Floor, rounds: u64) {
-    text(b"barge: floor ");
-    number(k as u64);
+fn tell(rt: &impl Print, k: usize, f: Floor, rounds: u64) {
+    text(rt, b"barge: floor ");
+    number(rt, k as u64);
     if is_there(f) {
-        text(b": ");
+        text(rt, b": ");
         let c = f.counters;
         let s = f.settings;
-        console_show::counters(c, s.hoppers, rounds);
+        console_show::counters(rt, c, s.hoppers, rounds);
     } else {
-        text(b": none\n");
+        text(rt, b": none\n");
     }
 }
 
 // Tells the allowance, the joint total, and each floor's counters.
-pub fn barge(a: WithBarge, line: &[u8]) -> WithBarge
+pub fn barge(rt: &impl Print, a: WithBarge, line: &[u8]) -> WithBarge
     ensures { result ≡ a }
 {
     if !console_parse::ended(line, 1) {
-        return cannot(a, line);
+        return cannot(rt, a, line);
     }
     let barge = a.barge;
     let floors = barge.floors;
     let rounds = a.rounds;
-    text(b"barge: allowance ");
-    small(barge.allowance);
-    text(b", aboard ");
-    number(total(floors));
-    text(b"\n");
-    tell(0, floors[0], rounds[0]);
-    tell(1, floors[1], rounds[1]);
-    tell(2, floors[2], rounds[2]);
-    tell(3, floors[3], rounds[3]);
+    text(rt, b"barge: allowance ");
+    small(rt, barge.allowance);
+    text(rt, b", aboard ");
+    number(rt, total(floors));
+    text(rt, b"\n");
+    tell(rt, 0, floors[0], rounds[0]);
+    tell(rt, 1, floors[1], rounds[1]);
+    tell(rt, 2, floors[2], rounds[2]);
+    tell(rt, 3, floors[3], rounds[3]);
     a
 }

@@ -1,4 +1,6 @@
 // Bookings as they are typed: one with its place, one without, and a list of them.
+#![tactic(auto)]
+
 ghost use Rattle.std.specs.Prelude.{true, ◌≡◌};
 ghost use Rattle.floor.specs.Calls.{book_answer};
 ghost use Rattle.floor.specs.Anywhere.{anywhere_answer};
@@ -22,49 +24,49 @@ pub fn canister(n: Numbers) -> Canister
 }
 
 // A booking without a place; the place found is told.
-fn anywhere(s: Session, tile: u32, number: u32) -> Session
+fn anywhere(rt: &impl Print, s: Session, tile: u32, number: u32) -> Session
     ensures { result ≡ after_placed s (anywhere_answer s.floor tile number) }
 {
     let floor = s.floor;
     let answer = calls::book_anywhere(floor, tile, number);
     if answer.refusal != 0 {
-        return console_session::refused(s, b"book", answer.refusal);
+        return console_session::refused(rt, s, b"book", answer.refusal);
     }
     let c = Canister {
         number: number,
         a: answer.a,
         b: answer.b,
     };
-    console_say::booked(c, tile);
+    console_say::booked(rt, c, tile);
     let booked = answer.floor;
     console_session::with_floor(s, booked)
 }
 
 // A booking.
-fn placed(s: Session, tile: u32, c: Canister) -> Session
+fn placed(rt: &impl Print, s: Session, tile: u32, c: Canister) -> Session
     ensures { result ≡ after_booked s (book_answer s.floor tile c) }
 {
     let floor = s.floor;
     let answer = calls::book(floor, tile, c);
     if answer.refusal == 0 {
-        console_say::booked(c, tile);
+        console_say::booked(rt, c, tile);
     }
-    console_session::answered(s, b"book", answer)
+    console_session::answered(rt, s, b"book", answer)
 }
 
-pub fn book(s: Session, line: &[u8]) -> Session
+pub fn book(rt: &impl Print, s: Session, line: &[u8]) -> Session
     ensures { result ≡ book_typed s line.now }
 {
     let two = console_parse::arguments(line, 2);
     if two.good {
-        return anywhere(s, two.at[0], two.at[1]);
+        return anywhere(rt, s, two.at[0], two.at[1]);
     }
     let n = console_parse::arguments(line, 4);
     if !n.good {
-        return console_session::cannot(s, line);
+        return console_session::cannot(rt, s, line);
     }
     let c = canister(n);
-    placed(s, n.at[0], c)
+    placed(rt, s, n.at[0], c)
 }
 
 // Begins a list, or begins it again.
@@ -78,7 +80,7 @@ pub fn list(s: Session) -> Session
 }
 
 // Sends the list that was typed, and tells each answer.
-fn send(s: Session) -> Session
+fn send(rt: &impl Print, s: Session) -> Session
     ensures { result ≡ sent s }
 {
     let typed = s.entries;
@@ -89,21 +91,21 @@ fn send(s: Session) -> Session
     let floor = s.floor;
     let answer = calls::book_places(floor, list, typed.count);
     if (answer.refusal != 0) | !s.made {
-        return console_session::refused(next, b"list", answer.refusal);
+        return console_session::refused(rt, next, b"list", answer.refusal);
     }
     let places = answer.list;
-    console_list::tell(places, typed.count);
+    console_list::tell(rt, places, typed.count);
     let booked = answer.floor;
     console_session::with_floor(next, booked)
 }
 
 // One more booking of the list.
-fn entry(s: Session, line: &[u8]) -> Session
+fn entry(rt: &impl Print, s: Session, line: &[u8]) -> Session
     ensures { result ≡ line_typed s line.now }
 {
     let n = console_parse::numbers_at(line, 0, 4);
     if !(n.good & console_parse::ended(line, 4)) {
-        return console_session::cannot(s, line);
+        return console_session::cannot(rt, s, line);
     }
     let c = canister(n);
     let b = Booking {
@@ -119,12 +121,12 @@ fn entry(s: Session, line: &[u8]) -> Session
 }
 
 // A line of a list: its end, its beginning once more, or an entry. A list in which `quit` stands is not sent.
-pub fn obey_list(s: Session, line: &[u8]) -> Session {
+pub fn obey_list(rt: &impl Print, s: Session, line: &[u8]) -> Session {
     if !console_parse::ended(line, 1) {
-        return entry(s, line);
+        return entry(rt, s, line);
     }
     if console_parse::is(line, 0, b"end") {
-        return send(s);
+        return send(rt, s);
     }
     if console_parse::is(line, 0, b"list") {
         return list(s);
@@ -132,5 +134,5 @@ pub fn obey_list(s: Session, line: &[u8]) -> Session {
     if console_parse::is(line, 0, b"quit") {
         return console_session::ended(s);
     }
-    console_session::cannot(s, line)
+    console_session::cannot(rt, s, line)
 }

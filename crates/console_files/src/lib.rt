@@ -1,27 +1,33 @@
 // A floor shown as its page, and kept in a file as its image: written whole and only then put in the place of an older file;
 // read to its end or not at all.
+#![tactic(auto)]
+
 ghost use Rattle.std.specs.Prelude.{◌≤◌};
 
 use floor::{Answer, Floor, refusals};
-use libc::STDOUT_FILENO;
+use std::fs::OpenFile;
+use std::io::Write;
+use std::rt::Files;
+use std::{fs, io};
 
 // The first n bytes of a text.
-fn write_front(fd: i32, text: &[u8], n: usize) -> bool {
+fn write_front(to: &mut impl Write, text: &[u8], n: usize) -> bool {
     if n <= text.len() {
-        return io::write_all(fd, &text[..n]);
+        return to.write_all(&text[..n]).is_ok();
     }
     false
 }
 
 // The page of a floor; nothing of one that isn't well formed.
-pub fn show(floor: Floor) {
+pub fn show(rt: &impl Print, floor: Floor) {
     let mut text = [0u8; 528];
     let written = page_call::page(floor, &mut text);
-    write_front(STDOUT_FILENO, &text, written.length as usize);
+    let mut out = io::writer(rt);
+    write_front(&mut out, &text, written.length as usize);
 }
 
 // A name of a file, and how long it is.
-#[derive(Drop)]
+#[derive(Clone, Copy)]
 struct Path {
     bytes: [u8; 404],
     length: usize,
@@ -48,61 +54,66 @@ fn first_name(path: &[u8]) -> Path
 }
 
 // Opens the file with the name of the first k bytes, emptied.
-fn open_new(name: &[u8], k: usize) -> i32 {
+fn open_new<R: Files>(rt: &R, name: &[u8], k: usize) -> Option<R::File> {
     if k <= name.len() {
-        return os::open_overwrite(&name[..k]);
+        let path = str::from_utf8(&name[..k]).ok()?;
+        return fs::create(rt, path).ok();
     }
-    -1
+    None
 }
 
 // Gives the file with the name of the first k bytes another name.
-fn rename(name: &[u8], k: usize, path: &[u8]) -> i32 {
+fn rename(rt: &impl Files, name: &[u8], k: usize, path: &[u8]) -> bool {
     if k <= name.len() {
-        return os::rename(&name[..k], path);
+        let Ok(from) = str::from_utf8(&name[..k]) else {
+            return false;
+        };
+        let Ok(to) = str::from_utf8(path) else {
+            return false;
+        };
+        return fs::rename(rt, from, to).is_ok();
     }
-    -1
+    false
 }
 
 // Writes a file anew; whether all of the first n bytes have reached its device.
-fn write_new(name: &[u8], k: usize, bytes: &[u8], n: usize) -> bool {
-    let fd = open_new(name, k);
-    if fd < 0 {
+fn write_new(rt: &impl Files, name: &[u8], k: usize, bytes: &[u8], n: usize) -> bool {
+    let Some(mut file) = open_new(rt, name, k) else {
         return false;
-    }
-    let whole = write_front(fd, bytes, n);
-    let kept = libc::fsync(fd);
-    let closed = libc::close(fd);
-    whole & (kept == 0) & (closed == 0)
+    };
+    let whole = write_front(&mut file, bytes, n);
+    let kept = file.sync_all().is_ok();
+    whole & kept
 }
 
 // Puts the first n bytes in a file's place, by a new file; whether it has them now. If not, the old file stays as it was.
-fn replace(path: &[u8], bytes: &[u8], n: usize) -> bool {
+fn replace(rt: &impl Files, path: &[u8], bytes: &[u8], n: usize) -> bool {
     if 400 < path.len() {
         return false;
     }
     let first = first_name(path);
     let name = first.bytes;
     let k = first.length;
-    if !write_new(&name, k, bytes, n) {
+    if !write_new(rt, &name, k, bytes, n) {
         return false;
     }
-    rename(&name, k, path) == 0
+    rename(rt, &name, k, path)
 }
 
 // What saving gave: the number that the library refuses by, the image's length, whether the file has it.
-#[derive(Drop)]
+#[derive(Clone, Copy)]
 pub struct Saved {
     pub length: u32,
     pub refusal: u8,
     pub done: bool,
 }
 
-pub fn save(floor: Floor, path: &[u8]) -> Saved {
+pub fn save(rt: &impl Files, floor: Floor, path: &[u8]) -> Saved {
     let mut image = [0u8; 8908];
     let written = image_calls::write(floor, &mut image);
     let mut done = false;
     if written.refusal == 0 {
-        done = replace(path, &image, written.length as usize);
+        done = replace(rt, path, &image, written.length as usize);
     }
     Saved {
         length: written.length,
@@ -112,7 +123,7 @@ pub fn save(floor: Floor, path: &[u8]) -> Saved {
 }
 
 // What loading gave: the library's answer to the file's bytes, and whether they could be read.
-#[derive(Drop)]
+#[derive(Clone, Copy)]
 pub struct Loaded {
     pub answer: Answer,
     pub read: bool,
@@ -131,14 +142,18 @@ fn unread() -> Loaded {
     }
 }
 
-pub fn load(path: &[u8]) -> Loaded {
-    let fd = os::open_read(path);
-    if fd < 0 {
+// Opens a file to read it.
+fn open_old<R: Files>(rt: &R, path: &[u8]) -> Option<R::File> {
+    let name = str::from_utf8(path).ok()?;
+    fs::open(rt, name).ok()
+}
+
+pub fn load(rt: &impl Files, path: &[u8]) -> Loaded {
+    let Some(mut file) = open_old(rt, path) else {
         return unread();
-    }
+    };
     let mut bytes = image_input::room();
-    let input = image_input::read_input(fd, &mut bytes);
-    libc::close(fd);
+    let input = image_input::read_input(&mut file, &mut bytes);
     if input.failed {
         return unread();
     }

@@ -1,10 +1,13 @@
 // Floors as they are typed: made, shown, kept in a file and taken from one.
+#![tactic(auto)]
+
 ghost use Rattle.std.specs.Prelude.{◌≡◌};
 ghost use Rattle.console_floors.specs.Held.{taken_by};
 
 use console_parse::{Numbers, Sources};
 use console_session::Session;
 use floor::{Answer, Settings};
+use std::rt::Files;
 
 // Every tile but the hoppers.
 fn all_sources(s: Settings) -> u64 {
@@ -31,7 +34,7 @@ fn chosen_settings(a: Numbers, hoppers: u64, b: Numbers) -> Settings {
 }
 
 // Settings, and whether they could be read.
-#[derive(Drop)]
+#[derive(Clone, Copy)]
 struct Choice {
     settings: Settings,
     good: bool,
@@ -64,83 +67,83 @@ fn chosen(line: &[u8]) -> Choice {
 
 // Takes the floor that a call gave. Refused, the floor stays as it was; one that holds canisters is given up by the call
 // with `!` alone.
-fn taken(s: Session, call: &[u8], answer: Answer, give_up: bool) -> Session
+fn taken(rt: &impl Print, s: Session, call: &[u8], answer: Answer, give_up: bool) -> Session
     ensures { result ≡ taken_by s answer give_up }
 {
     if answer.refusal != 0 {
-        console_say::refused(call, answer.refusal);
+        console_say::refused(rt, call, answer.refusal);
         return s;
     }
     let canisters = console_session::held(s.floor.counters);
     if (0 < canisters) & !give_up {
-        console_say::holds(call, canisters);
+        console_say::holds(rt, call, canisters);
         return s;
     }
     let floor = answer.floor;
     let settings = floor.settings;
-    console_show::made(call, settings);
-    console_session::begun(s, floor)
+    console_show::made(rt, call, settings);
+    console_session::begun(rt, s, floor)
 }
 
 // Makes a floor.
-pub fn fresh(s: Session, line: &[u8], give_up: bool) -> Session {
+pub fn fresh(rt: &impl Print, s: Session, line: &[u8], give_up: bool) -> Session {
     let c = chosen(line);
     if !c.good {
-        return console_session::cannot(s, line);
+        return console_session::cannot(rt, s, line);
     }
     let settings = c.settings;
     let answer = calls::fresh(settings);
-    taken(s, b"fresh", answer, give_up)
+    taken(rt, s, b"fresh", answer, give_up)
 }
 
 // Keeps the floor in a file.
-pub fn save(s: Session, line: &[u8]) -> Session
+pub fn save(rt: &(impl Files + Print), s: Session, line: &[u8]) -> Session
     ensures { result ≡ s }
 {
     if !console_parse::ended(line, 2) {
-        return console_session::cannot(s, line);
+        return console_session::cannot(rt, s, line);
     }
     let w = console_words::nth(line, 1);
     let from = w.from;
     let to = w.to;
     let floor = s.floor;
-    let saved = console_files::save(floor, &line[from..to]);
+    let saved = console_files::save(rt, floor, &line[from..to]);
     if saved.refusal != 0 {
-        return console_session::refused(s, b"save", saved.refusal);
+        return console_session::refused(rt, s, b"save", saved.refusal);
     }
-    console_say::saved(saved.done, saved.length, &line[from..to]);
+    console_say::saved(rt, saved.done, saved.length, &line[from..to]);
     s
 }
 
 // Takes the floor of a file.
-pub fn load(s: Session, line: &[u8], give_up: bool) -> Session {
+pub fn load(rt: &(impl Files + Print), s: Session, line: &[u8], give_up: bool) -> Session {
     if !console_parse::ended(line, 2) {
-        return console_session::cannot(s, line);
+        return console_session::cannot(rt, s, line);
     }
     let w = console_words::nth(line, 1);
     let from = w.from;
     let to = w.to;
-    let loaded = console_files::load(&line[from..to]);
+    let loaded = console_files::load(rt, &line[from..to]);
     if !loaded.read {
-        console_say::unread(&line[from..to]);
+        console_say::unread(rt, &line[from..to]);
         return s;
     }
     let answer = loaded.answer;
-    taken(s, b"load", answer, give_up)
+    taken(rt, s, b"load", answer, give_up)
 }
 
 // Shows the floor.
-pub fn show(s: Session) -> Session
+pub fn show(rt: &impl Print, s: Session) -> Session
     ensures { result ≡ s }
 {
     let floor = s.floor;
     let answer = calls::read(floor, 0);
     if answer.refusal != 0 {
-        return console_session::refused(s, b"show", answer.refusal);
+        return console_session::refused(rt, s, b"show", answer.refusal);
     }
     let counters = floor.counters;
-    console_say::text(b"show: ");
-    console_show::counters(counters, floor.settings.hoppers, s.rounds);
-    console_files::show(floor);
+    console_say::text(rt, b"show: ");
+    console_show::counters(rt, counters, floor.settings.hoppers, s.rounds);
+    console_files::show(rt, floor);
     s
 }

@@ -1,4 +1,6 @@
 // A line that comes in pieces: what is kept of it between two reads.
+#![tactic(auto)]
+
 ghost use Rattle.std.specs.Prelude.{◌+◌, ◌-◌, ◌≤◌, ◌≡◌, length, take, drop};
 ghost use Rattle.console_lines.specs.Kept.{Kept};
 

@@ -1,11 +1,13 @@
 // A list of bookings as it is typed: its entries so far, and their answers told.
+#![tactic(auto)]
+
 ghost use Rattle.std.specs.Prelude.{◌≡◌};
 ghost use Rattle.console_list.specs.Entries.{with_entry, no_entries};
 
 use floor::{Booking, Canister};
 
 // The first 64 entries typed, how many were typed (65: more than 64), and whether a list is begun.
-#[derive(Drop)]
+#[derive(Clone, Copy)]
 pub struct Entries {
     pub list: [Booking; 64],
     pub count: usize,
@@ -44,28 +46,28 @@ pub fn with_entry(e: Entries, b: Booking) -> Entries
 }
 
 // An entry with its answer; `at` entries stand before it.
-fn tell_one(at: usize, b: Booking) {
-    console_say::text(b"list ");
-    console_say::number(std::num::wrapping_add_u64(at as u64, 1));
-    console_say::text(b": ");
+fn tell_one(rt: &impl Print, at: usize, b: Booking) {
+    console_say::text(rt, b"list ");
+    console_say::number(rt, std::num::wrapping_add_u64(at as u64, 1));
+    console_say::text(rt, b": ");
     if b.answer != 0 {
-        console_say::refused(b"book", b.answer);
+        console_say::refused(rt, b"book", b.answer);
     } else {
         let c = b.canister;
-        console_say::booked(c, b.tile);
+        console_say::booked(rt, c, b.tile);
     }
 }
 
 // The answers of the first n.
-pub fn tell(list: [Booking; 64], n: usize) {
+pub fn tell(rt: &impl Print, list: [Booking; 64], n: usize) {
     if n == 0 {
-        console_say::text(b"list: no entries\n");
+        console_say::text(rt, b"list: no entries\n");
     }
     let mut k: usize = 0;
     while k < 64 {
         if k < n {
             let b = list[k];
-            tell_one(k, b);
+            tell_one(rt, k, b);
         }
         k += 1;
     }

@@ -1,4 +1,6 @@
 // Calls on one floor of the barge as they are typed: on FLOOR, then the call.
+#![tactic(auto)]
+
 ghost use Rattle.std.specs.Prelude.{◌≡◌, ◌≤◌};
 ghost use Rattle.barge.specs.Barges.{barge_book, barge_book_anywhere};
 ghost use Rattle.console_on.specs.Typed.{arguments_on, answered_on, placed_on, stop_on, repair_on, book_on};
@@ -9,26 +11,33 @@ use console_parse::Numbers;
 use floor::{Canister, refusals};
 
 // A refused call on a floor of the barge.
-fn refused(floor: u32, call: &[u8], n: u8) {
-    console_show::on(floor);
+fn refused(rt: &impl Print, floor: u32, call: &[u8], n: u8) {
+    console_show::on(rt, floor);
     match n {
         refusals::MALFORMED => console_say::refused_as(
+            rt,
             call,
             n,
             b"the allowance isn't 1 to 4032, or a floor isn't there",
         ),
-        barge::NO_FLOOR => console_say::refused_as(call, n, b"floor number not 0 to 3"),
-        barge::OVERLOADED => console_say::refused_as(call, n, b"the allowance is used up"),
-        _ => console_say::refused(call, n),
+        barge::NO_FLOOR => console_say::refused_as(rt, call, n, b"floor number not 0 to 3"),
+        barge::OVERLOADED => console_say::refused_as(rt, call, n, b"the allowance is used up"),
+        _ => console_say::refused(rt, call, n),
     }
 }
 
 // After a call's answer: the barge that it gives, or the refusal told.
-fn answered(a: WithBarge, floor: u32, call: &[u8], answer: BargeAnswer) -> WithBarge
+fn answered(
+    rt: &impl Print,
+    a: WithBarge,
+    floor: u32,
+    call: &[u8],
+    answer: BargeAnswer,
+) -> WithBarge
     ensures { result ≡ answered_on a answer }
 {
     if answer.refusal != 0 {
-        refused(floor, call, answer.refusal);
+        refused(rt, floor, call, answer.refusal);
         return a;
     }
     let after = answer.barge;
@@ -46,13 +55,13 @@ fn arguments(line: &[u8], count: usize) -> Numbers
 }
 
 // A booking without a place; the place found is told.
-fn anywhere(a: WithBarge, floor: u32, tile: u32, number: u32) -> WithBarge
+fn anywhere(rt: &impl Print, a: WithBarge, floor: u32, tile: u32, number: u32) -> WithBarge
     ensures { result ≡ placed_on a (barge_book_anywhere a.barge floor tile number) }
 {
     let before = a.barge;
     let answer = barge_calls::book_anywhere(before, floor, tile, number);
     if answer.refusal != 0 {
-        refused(floor, b"book", answer.refusal);
+        refused(rt, floor, b"book", answer.refusal);
         return a;
     }
     let c = Canister {
@@ -60,81 +69,81 @@ fn anywhere(a: WithBarge, floor: u32, tile: u32, number: u32) -> WithBarge
         a: answer.a,
         b: answer.b,
     };
-    console_show::on(floor);
-    console_say::booked(c, tile);
+    console_show::on(rt, floor);
+    console_say::booked(rt, c, tile);
     let after = answer.barge;
     console_barge::with_barge(a, after)
 }
 
 // A booking.
-fn placed(a: WithBarge, floor: u32, tile: u32, c: Canister) -> WithBarge
+fn placed(rt: &impl Print, a: WithBarge, floor: u32, tile: u32, c: Canister) -> WithBarge
     ensures { result ≡ answered_on a (barge_book a.barge floor tile c) }
 {
     let before = a.barge;
     let answer = barge_calls::book(before, floor, tile, c);
     if answer.refusal == 0 {
-        console_show::on(floor);
-        console_say::booked(c, tile);
+        console_show::on(rt, floor);
+        console_say::booked(rt, c, tile);
     }
-    answered(a, floor, b"book", answer)
+    answered(rt, a, floor, b"book", answer)
 }
 
-fn book(a: WithBarge, line: &[u8], floor: u32) -> WithBarge
+fn book(rt: &impl Print, a: WithBarge, line: &[u8], floor: u32) -> WithBarge
     ensures { result ≡ book_on a line.now floor }
 {
     let two = arguments(line, 2);
     if two.good {
-        return anywhere(a, floor, two.at[0], two.at[1]);
+        return anywhere(rt, a, floor, two.at[0], two.at[1]);
     }
     let n = arguments(line, 4);
     if !n.good {
-        return console_barge::cannot(a, line);
+        return console_barge::cannot(rt, a, line);
     }
     let c = console_book::canister(n);
-    placed(a, floor, n.at[0], c)
+    placed(rt, a, floor, n.at[0], c)
 }
 
-fn stop(a: WithBarge, line: &[u8], floor: u32) -> WithBarge
+fn stop(rt: &impl Print, a: WithBarge, line: &[u8], floor: u32) -> WithBarge
     ensures { result ≡ stop_on a line.now floor }
 {
     let n = arguments(line, 1);
     if !n.good {
-        return console_barge::cannot(a, line);
+        return console_barge::cannot(rt, a, line);
     }
     let before = a.barge;
     let answer = barge_calls::stop(before, floor, n.at[0]);
     if answer.refusal == 0 {
-        console_show::on(floor);
-        console_say::pressed(b"stop", n.at[0], b" stopped\n");
+        console_show::on(rt, floor);
+        console_say::pressed(rt, b"stop", n.at[0], b" stopped\n");
     }
-    answered(a, floor, b"stop", answer)
+    answered(rt, a, floor, b"stop", answer)
 }
 
-fn repair(a: WithBarge, line: &[u8], floor: u32) -> WithBarge
+fn repair(rt: &impl Print, a: WithBarge, line: &[u8], floor: u32) -> WithBarge
     ensures { result ≡ repair_on a line.now floor }
 {
     let n = arguments(line, 1);
     if !n.good {
-        return console_barge::cannot(a, line);
+        return console_barge::cannot(rt, a, line);
     }
     let before = a.barge;
     let answer = barge_calls::repair(before, floor, n.at[0]);
     if answer.refusal == 0 {
-        console_show::on(floor);
-        console_say::pressed(b"repair", n.at[0], b" running\n");
+        console_show::on(rt, floor);
+        console_say::pressed(rt, b"repair", n.at[0], b" running\n");
     }
-    answered(a, floor, b"repair", answer)
+    answered(rt, a, floor, b"repair", answer)
 }
 
 // A round of one floor, told with its number.
-fn round(a: WithBarge, line: &[u8], floor: u32) -> WithBarge {
+fn round(rt: &impl Print, a: WithBarge, line: &[u8], floor: u32) -> WithBarge {
     if !console_parse::ended(line, 3) {
-        return console_barge::cannot(a, line);
+        return console_barge::cannot(rt, a, line);
     }
     let before = a.barge;
     let answer = barge_calls::round(before, floor);
     if answer.refusal != 0 {
-        refused(floor, b"round", answer.refusal);
+        refused(rt, floor, b"round", answer.refusal);
         return a;
     }
     let after = answer.barge;
@@ -144,29 +153,29 @@ fn round(a: WithBarge, line: &[u8], floor: u32) -> WithBarge {
     rounds[k] = std::num::wrapping_add_u64(rounds[k], 1);
     let report = answer.report;
     let deliveries = report.deliveries;
-    console_show::delivered(floor, rounds[k], moved.settings.hoppers, deliveries);
+    console_show::delivered(rt, floor, rounds[k], moved.settings.hoppers, deliveries);
     let mut next = console_barge::with_barge(a, after);
     next.rounds = rounds;
     next
 }
 
 // Obeys a line about one floor.
-pub fn on(a: WithBarge, line: &[u8]) -> WithBarge {
+pub fn on(rt: &impl Print, a: WithBarge, line: &[u8]) -> WithBarge {
     let n = console_parse::numbers_at(line, 1, 1);
     if !n.good {
-        return console_barge::cannot(a, line);
+        return console_barge::cannot(rt, a, line);
     }
     if console_parse::is(line, 2, b"book") {
-        return book(a, line, n.at[0]);
+        return book(rt, a, line, n.at[0]);
     }
     if console_parse::is(line, 2, b"stop") {
-        return stop(a, line, n.at[0]);
+        return stop(rt, a, line, n.at[0]);
     }
     if console_parse::is(line, 2, b"repair") {
-        return repair(a, line, n.at[0]);
+        return repair(rt, a, line, n.at[0]);
     }
     if console_parse::is(line, 2, b"round") {
-        return round(a, line, n.at[0]);
+        return round(rt, a, line, n.at[0]);
     }
-    console_barge::cannot(a, line)
+    console_barge::cannot(rt, a, line)
 }

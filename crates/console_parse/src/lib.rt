@@ -1,4 +1,6 @@
 // A line's words as names, numbers and sets of tiles.
+#![tactic(auto)]
+
 ghost use Rattle.std.specs.Prelude.{◌≡◌, true, ◌≤◌, min};
 ghost use Rattle.console_words.specs.Text.{nth_word};
 ghost use Rattle.console_parse.specs.Line.{ends_by, remark, is_value, value_of, number_at, numbers_of, arguments_of, TilesIn, SourcesIn, name_in};
@@ -6,14 +8,14 @@ ghost use Rattle.console_parse.specs.Line.{ends_by, remark, is_value, value_of, 
 use console_words::Parsed;
 
 // Up to four numbers, and whether each was one.
-#[derive(Drop)]
+#[derive(Clone, Copy)]
 pub struct Numbers {
     pub good: bool,
     pub at: [u32; 4],
 }
 
 // The fill tiles of a `fresh`.
-#[derive(Drop)]
+#[derive(Clone, Copy)]
 pub enum Sources {
     All,
     Set(u64),

@@ -1,4 +1,6 @@
 // A plan as it is typed: its entries, what it offers, releases, and the labels that rounds deliver.
+#![tactic(auto)]
+
 ghost use Rattle.std.specs.Prelude.{◌≡◌, ◌≤◌};
 ghost use Rattle.plan.specs.Plans.{report_answer};
 ghost use Rattle.console_session.specs.Sessions.{no_plan, with_plan};
@@ -19,64 +21,66 @@ fn with_plan(s: Session, plan: Plan) -> Session
 }
 
 // Begins an empty plan.
-pub fn plan(s: Session) -> Session
+pub fn plan(rt: &impl Print, s: Session) -> Session
     ensures { result ≡ with_plan s no_plan }
 {
-    text(b"plan: no entries\n");
+    text(rt, b"plan: no entries\n");
     let none = console_session::no_plan();
     with_plan(s, none)
 }
 
 // A refused call about the plan. The floor is well formed, so 30 is the plan's.
-fn refused(call: &[u8], n: u8) {
+fn refused(rt: &impl Print, call: &[u8], n: u8) {
     match n {
-        refusals::MALFORMED => console_say::refused_as(call, n, b"the plan isn't sound"),
+        refusals::MALFORMED => console_say::refused_as(rt, call, n, b"the plan isn't sound"),
         plan::BAD_LABEL => console_say::refused_as(
+            rt,
             call,
             n,
             b"the label is there already or not 1 to 64, or one to come before it is absent or not lower",
         ),
         plan::NOT_RELEASED => console_say::refused_as(
+            rt,
             call,
             n,
             b"no such label waits, or one before it isn't delivered",
         ),
-        _ => console_say::refused(call, n),
+        _ => console_say::refused(rt, call, n),
     }
 }
 
 // A label that comes before an entry's; 0 is none.
-fn after(label: u8) {
+fn after(rt: &impl Print, label: u8) {
     if label != 0 {
-        text(b" after ");
-        number(label as u64);
+        text(rt, b" after ");
+        number(rt, label as u64);
     }
 }
 
 // An entry's state: it waits, or what number it was booked under.
-fn state(e: Entry) {
+fn state(rt: &impl Print, e: Entry) {
     let stage = e.stage;
     match stage {
-        plan::WAITING => text(b": waits"),
-        plan::DELIVERED => text(b": delivered, number "),
-        _ => text(b": booked, number "),
+        plan::WAITING => text(rt, b": waits"),
+        plan::DELIVERED => text(rt, b": delivered, number "),
+        _ => text(rt, b": booked, number "),
     }
     if stage != plan::WAITING {
-        small(e.number);
+        small(rt, e.number);
     }
-    text(b"\n");
+    text(rt, b"\n");
 }
 
 // An entry, by the call named.
-fn tell(call: &[u8], e: Entry) {
-    text(call);
-    text(b": label ");
-    number(e.label as u64);
-    text(b" on tile ");
-    small(e.tile);
-    after(e.first);
-    after(e.second);
-    state(e);
+fn tell(rt: &impl Print, call: &[u8], e: Entry) {
+    text(rt, call);
+    text(rt, b": label ");
+    number(rt, e.label as u64);
+    text(rt, b" on tile ");
+    small(rt, e.tile);
+    after(rt, e.first);
+    after(rt, e.second);
+    state(rt, e);
 }
 
 // How many numbers an entry is typed with: two to four.
@@ -106,30 +110,30 @@ fn with_entry(p: Plan, e: Entry) -> Plan
 }
 
 // Adds a waiting entry. One with which the plan would be refused is left out, and so is a 65th.
-fn add(s: Session, e: Entry) -> Session
+fn add(rt: &impl Print, s: Session, e: Entry) -> Session
     ensures { result ≡ added s e }
 {
     let before = s.plan;
     if 63 < before.count {
-        text(b"entry: the plan has 64 entries\n");
+        text(rt, b"entry: the plan has 64 entries\n");
         return s;
     }
     let more = with_entry(before, e);
     let answer = plan_calls::offer(more);
     if answer.refusal != 0 {
-        refused(b"entry", answer.refusal);
+        refused(rt, b"entry", answer.refusal);
         return s;
     }
-    tell(b"entry", e);
+    tell(rt, b"entry", e);
     with_plan(s, more)
 }
 
-pub fn entry(s: Session, line: &[u8]) -> Session
+pub fn entry(rt: &impl Print, s: Session, line: &[u8]) -> Session
     ensures { result ≡ entry_typed s line.now }
 {
     let n = console_parse::arguments(line, typed(line));
     if !n.good {
-        return console_session::cannot(s, line);
+        return console_session::cannot(rt, s, line);
     }
     let e = Entry {
         tile: n.at[1],
@@ -139,22 +143,22 @@ pub fn entry(s: Session, line: &[u8]) -> Session
         second: console_parse::byte(n.at[3]),
         stage: plan::WAITING,
     };
-    add(s, e)
+    add(rt, s, e)
 }
 
 // Every entry of the plan.
-pub fn entries(s: Session) -> Session
+pub fn entries(rt: &impl Print, s: Session) -> Session
     ensures { result ≡ s }
 {
     let p = s.plan;
     let all = p.entries;
     if p.count == 0 {
-        text(b"entries: none\n");
+        text(rt, b"entries: none\n");
     }
     let mut k: usize = 0;
     while k < 64 {
         if (k as u32) < p.count {
-            tell(b"entries", all[k]);
+            tell(rt, b"entries", all[k]);
         }
         k += 1;
     }
@@ -162,22 +166,22 @@ pub fn entries(s: Session) -> Session
 }
 
 // The label offered.
-pub fn offer(s: Session) -> Session
+pub fn offer(rt: &impl Print, s: Session) -> Session
     ensures { result ≡ s }
 {
     let p = s.plan;
     let answer = plan_calls::offer(p);
     if answer.refusal != 0 {
-        refused(b"offer", answer.refusal);
+        refused(rt, b"offer", answer.refusal);
         return s;
     }
     if answer.label == 0 {
-        text(b"offer: none\n");
+        text(rt, b"offer: none\n");
         return s;
     }
-    text(b"offer: label ");
-    number(answer.label as u64);
-    text(b"\n");
+    text(rt, b"offer: label ");
+    number(rt, answer.label as u64);
+    text(rt, b"\n");
     s
 }
 
@@ -196,31 +200,31 @@ fn tile_of(entries: [Entry; 64], label: u32) -> u32 {
 }
 
 // A label that was released: its canister, and its tile.
-fn released(label: u32, c: Canister, tile: u32) {
-    text(b"release: label ");
-    small(label);
-    text(b" is ");
-    console_say::canister(c);
-    text(b" on tile ");
-    small(tile);
-    text(b"\n");
+fn released(rt: &impl Print, label: u32, c: Canister, tile: u32) {
+    text(rt, b"release: label ");
+    small(rt, label);
+    text(rt, b" is ");
+    console_say::canister(rt, c);
+    text(rt, b" on tile ");
+    small(rt, tile);
+    text(rt, b"\n");
 }
 
-pub fn release(s: Session, line: &[u8]) -> Session
+pub fn release(rt: &impl Print, s: Session, line: &[u8]) -> Session
     ensures { result ≡ release_typed s line.now }
 {
     let n = console_parse::arguments(line, 1);
     if !n.good {
-        return console_session::cannot(s, line);
+        return console_session::cannot(rt, s, line);
     }
     let p = s.plan;
     let floor = s.floor;
     let answer = plan_calls::release(p, floor, n.at[0]);
     if !s.made {
-        return console_session::refused(s, b"release", answer.refusal);
+        return console_session::refused(rt, s, b"release", answer.refusal);
     }
     if answer.refusal != 0 {
-        refused(b"release", answer.refusal);
+        refused(rt, b"release", answer.refusal);
         return s;
     }
     let c = Canister {
@@ -229,7 +233,7 @@ pub fn release(s: Session, line: &[u8]) -> Session
         b: answer.b,
     };
     let all = p.entries;
-    released(n.at[0], c, tile_of(all, n.at[0]));
+    released(rt, n.at[0], c, tile_of(all, n.at[0]));
     let booked = answer.floor;
     let after = answer.plan;
     let next = console_session::with_floor(s, booked);
@@ -237,22 +241,22 @@ pub fn release(s: Session, line: &[u8]) -> Session
 }
 
 // The labels that a report marked delivered.
-fn marked(before: [Entry; 64], after: [Entry; 64]) {
+fn marked(rt: &impl Print, before: [Entry; 64], after: [Entry; 64]) {
     let mut k: usize = 0;
     while k < 64 {
         let old = before[k];
         let new = after[k];
         if old.stage != new.stage {
-            text(b"plan: label ");
-            number(new.label as u64);
-            text(b" delivered\n");
+            text(rt, b"plan: label ");
+            number(rt, new.label as u64);
+            text(rt, b" delivered\n");
         }
         k += 1;
     }
 }
 
 // Hands a round's report to the plan, and tells the labels that it marks. A refused report gives the plan back as it was.
-pub fn follow(s: Session, report: Report) -> Session
+pub fn follow(rt: &impl Print, s: Session, report: Report) -> Session
     ensures { result ≡ with_plan s (report_answer s.plan report).plan }
 {
     let p = s.plan;
@@ -260,6 +264,6 @@ pub fn follow(s: Session, report: Report) -> Session
     let q = answer.plan;
     let before = p.entries;
     let after = q.entries;
-    marked(before, after);
+    marked(rt, before, after);
     with_plan(s, q)
 }

@@ -1,4 +1,6 @@
 // What the console keeps between two lines, and what every command shares.
+#![tactic(auto)]
+
 ghost use Rattle.std.specs.Prelude.{◌-◌, ◌<◌, ◌^◌, ◌≡◌};
 ghost use Rattle.laws.specs.Define.{sum};
 ghost use Rattle.console_session.specs.Sessions.{no_plan, start_session, with_floor, ended_with, begun_with, floorless, after_call};
@@ -11,7 +13,7 @@ use throughput::Throughput;
 // The floor, the plan for it, the throughput of each hopper, what the last round's report says of each tile, the entries of
 // a list that is being typed, how many lines were read, how many rounds the floor went, whether there is a floor, whether to
 // go on.
-#[derive(Drop)]
+#[derive(Clone, Copy)]
 pub struct Session {
     pub floor: Floor,
     pub plan: Plan,
@@ -57,22 +59,22 @@ pub fn begin() -> Session
     }
 }
 
-pub fn cannot(s: Session, line: &[u8]) -> Session
+pub fn cannot(rt: &impl Print, s: Session, line: &[u8]) -> Session
     ensures { result ≡ s }
 {
-    console_say::unreadable(s.lines, line);
+    console_say::unreadable(rt, s.lines, line);
     s
 }
 
 // A refused call changes nothing. Where no floor was made yet, the library refuses every call, because a floor of zeros
 // isn't well formed.
-pub fn refused(s: Session, name: &[u8], n: u8) -> Session
+pub fn refused(rt: &impl Print, s: Session, name: &[u8], n: u8) -> Session
     ensures { result ≡ s }
 {
     if s.made {
-        console_say::refused(name, n);
+        console_say::refused(rt, name, n);
     } else {
-        console_say::no_floor(name);
+        console_say::no_floor(rt, name);
     }
     s
 }
@@ -96,11 +98,11 @@ pub fn with_floor(s: Session, floor: Floor) -> Session
 }
 
 // After a call's answer: the floor that it gives, or the refusal told.
-pub fn answered(s: Session, name: &[u8], answer: Answer) -> Session
+pub fn answered(rt: &impl Print, s: Session, name: &[u8], answer: Answer) -> Session
     ensures { result ≡ after_call s answer.refusal answer.floor }
 {
     if answer.refusal != 0 {
-        return refused(s, name, answer.refusal);
+        return refused(rt, s, name, answer.refusal);
     }
     let floor = answer.floor;
     with_floor(s, floor)
@@ -124,11 +126,11 @@ pub fn held(c: Counters) -> u64
 }
 
 // The session with another floor, whose throughput and plan begin anew: the numbers of a plan are those of its floor.
-pub fn begun(s: Session, floor: Floor) -> Session
+pub fn begun(rt: &impl Print, s: Session, floor: Floor) -> Session
     ensures { result ≡ begun_with s floor }
 {
     if 0 < s.plan.count {
-        console_say::text(b"plan: no entries, its floor is gone\n");
+        console_say::text(rt, b"plan: no entries, its floor is gone\n");
     }
     let mut next = with_floor(s, floor);
     let plan = no_plan();
@@ -141,11 +143,11 @@ pub fn begun(s: Session, floor: Floor) -> Session
 }
 
 // The session without a floor.
-pub fn without_floor(s: Session) -> Session
+pub fn without_floor(rt: &impl Print, s: Session) -> Session
     ensures { result ≡ floorless s }
 {
     let none = floor::zero_floor();
-    let mut next = begun(s, none);
+    let mut next = begun(rt, s, none);
     next.made = false;
     next
 }

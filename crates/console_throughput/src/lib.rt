@@ -1,4 +1,6 @@
 // Throughput at the console: a record for each hopper, fed every round, and told in plain words.
+#![tactic(auto)]
+
 ghost use Rattle.std.specs.Prelude.{◌≡◌, replicate};
 ghost use Rattle.throughput.specs.Lists.{zero_throughput};
 ghost use Rattle.throughput.specs.Window.{feed_values};
@@ -17,7 +19,7 @@ pub fn begin() -> [Throughput; 4]
 }
 
 // The records after a round, and whether it closed a window. All of them are fed in the same rounds, so all close together.
-#[derive(Drop)]
+#[derive(Clone, Copy)]
 pub struct Followed {
     pub records: [Throughput; 4],
     pub closed: bool,
@@ -47,103 +49,103 @@ pub fn follow(records: [Throughput; 4], deliveries: [Delivery; 4]) -> Followed
 }
 
 // n below 100,000,000 in eight digits.
-fn eight(n: u32) {
+fn eight(rt: &impl Print, n: u32) {
     if n < 10000000 {
-        console_say::text(b"0");
+        console_say::text(rt, b"0");
     }
     if n < 1000000 {
-        console_say::text(b"0");
+        console_say::text(rt, b"0");
     }
     if n < 100000 {
-        console_say::text(b"0");
+        console_say::text(rt, b"0");
     }
     if n < 10000 {
-        console_say::text(b"0");
+        console_say::text(rt, b"0");
     }
     if n < 1000 {
-        console_say::text(b"0");
+        console_say::text(rt, b"0");
     }
     if n < 100 {
-        console_say::text(b"0");
+        console_say::text(rt, b"0");
     }
     if n < 10 {
-        console_say::text(b"0");
+        console_say::text(rt, b"0");
     }
-    console_say::small(n);
+    console_say::small(rt, n);
 }
 
 // A rate in decimals, exactly: 1 / 256 is 0.00390625.
-fn rate(x: f64) {
+fn rate(rt: &impl Print, x: f64) {
     let n = throughput::deliveries_of(x) as u32;
-    console_say::small(n / 256);
-    console_say::text(b".");
-    eight(n % 256 * 390625);
+    console_say::small(rt, n / 256);
+    console_say::text(rt, b".");
+    eight(rt, n % 256 * 390625);
 }
 
 // The hopper that a line is about, where there are several.
-fn at(several: bool, tile: u8) {
+fn at(rt: &impl Print, several: bool, tile: u8) {
     if several {
-        console_say::text(b" at ");
-        console_say::number(tile as u64);
+        console_say::text(rt, b" at ");
+        console_say::number(rt, tile as u64);
     }
 }
 
 // The rate of the window that closed with this round, at the lowest hopper of the rest; nothing where none is left.
-fn window(round: u64, several: bool, rest: u64, t: Throughput) {
+fn window(rt: &impl Print, round: u64, several: bool, rest: u64, t: Throughput) {
     let tile = sets::lowest(rest);
     if tile < 64 {
-        console_say::text(b"round ");
-        console_say::number(round);
-        console_say::text(b": window closed");
-        at(several, tile);
-        console_say::text(b", rate ");
-        rate(t.last);
-        console_say::text(b"\n");
+        console_say::text(rt, b"round ");
+        console_say::number(rt, round);
+        console_say::text(rt, b": window closed");
+        at(rt, several, tile);
+        console_say::text(rt, b", rate ");
+        rate(rt, t.last);
+        console_say::text(rt, b"\n");
     }
 }
 
-pub fn closed(round: u64, hoppers: u64, records: [Throughput; 4]) {
+pub fn closed(rt: &impl Print, round: u64, hoppers: u64, records: [Throughput; 4]) {
     let several = 1 < sets::size(hoppers);
     let second = others(hoppers);
     let third = others(second);
     let fourth = others(third);
-    window(round, several, hoppers, records[0]);
-    window(round, several, second, records[1]);
-    window(round, several, third, records[2]);
-    window(round, several, fourth, records[3]);
+    window(rt, round, several, hoppers, records[0]);
+    window(rt, round, several, second, records[1]);
+    window(rt, round, several, third, records[2]);
+    window(rt, round, several, fourth, records[3]);
 }
 
 // A record: the closed rates, and the open window.
-fn line(several: bool, rest: u64, t: Throughput) {
+fn line(rt: &impl Print, several: bool, rest: u64, t: Throughput) {
     let tile = sets::lowest(rest);
     if tile < 64 {
-        console_say::text(b"throughput");
-        at(several, tile);
+        console_say::text(rt, b"throughput");
+        at(rt, several, tile);
         if t.closed == 0 {
-            console_say::text(b": no window closed yet");
+            console_say::text(rt, b": no window closed yet");
         } else {
-            console_say::text(b": last ");
-            rate(t.last);
-            console_say::text(b", least ");
-            rate(t.least);
-            console_say::text(b", greatest ");
-            rate(t.greatest);
+            console_say::text(rt, b": last ");
+            rate(rt, t.last);
+            console_say::text(rt, b", least ");
+            rate(rt, t.least);
+            console_say::text(rt, b", greatest ");
+            rate(rt, t.greatest);
         }
-        console_say::text(b"; open window: rounds ");
-        console_say::small(t.rounds as u32);
-        console_say::text(b", delivered ");
-        console_say::small(t.deliveries as u32);
-        console_say::text(b"\n");
+        console_say::text(rt, b"; open window: rounds ");
+        console_say::small(rt, t.rounds as u32);
+        console_say::text(rt, b", delivered ");
+        console_say::small(rt, t.deliveries as u32);
+        console_say::text(rt, b"\n");
     }
 }
 
-pub fn show(hoppers: u64, records: [Throughput; 4]) {
+pub fn show(rt: &impl Print, hoppers: u64, records: [Throughput; 4]) {
     let several = 1 < sets::size(hoppers);
     let second = others(hoppers);
     let third = others(second);
     let fourth = others(third);
-    line(several, hoppers, records[0]);
-    line(several, second, records[1]);
-    line(several, third, records[2]);
-    line(several, fourth, records[3]);
+    line(rt, several, hoppers, records[0]);
+    line(rt, several, second, records[1]);
+    line(rt, several, third, records[2]);
+    line(rt, several, fourth, records[3]);
 }

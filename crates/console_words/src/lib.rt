@@ -1,16 +1,18 @@
 // Text as bytes: where a line ends, the words of a line, a word as a decimal number.
+#![tactic(auto)]
+
 ghost use Rattle.std.specs.Prelude.{◌≡◌, ℕ, ◌-◌, ◌≤◌, ◌<◌, length, get_or, take, drop};
 ghost use Rattle.console_words.specs.Text.{after_blanks, after_word, word, nth_word, number_of};
 
 // A part of a text: its first byte, and the byte after its last.
-#[derive(Drop)]
+#[derive(Clone, Copy)]
 pub struct Span {
     pub from: usize,
     pub to: usize,
 }
 
 // A word as a number, or not one.
-#[derive(Drop)]
+#[derive(Clone, Copy)]
 pub enum Parsed {
     Value(u32),
     Unreadable,

@@ -62,6 +62,7 @@ unfair h = none (h 1 [] (2 ∷ 3 ∷ []) [] (omega arith) (omega arith) refl)
   where
     none : Memᴰ {A = ℕ} 4 (2 ∷ 3 ∷ []) → ⊥
     none (Memᴰ.head e) = absurd (omega arith)
+    none (Memᴰ.tail (Memᴰ.tail x8)) = elim x8 [ ]
     none (Memᴰ.tail (Memᴰ.head e)) = absurd (omega arith)
 
 -- ---- the turn and the grant of tile 2, with 6 on tile 4 too: east wants, and the turn, west's, wants; it is granted. With 7 on tile 2, 5 millimetres short of the gap for it, none is

@@ -35,6 +35,7 @@ unfolding sides
 each_side P p1 p2 p3 p4 (Memᴰ.head e) = rw e p1
 each_side P p1 p2 p3 p4 (Memᴰ.tail (Memᴰ.head e)) = rw e p2
 each_side P p1 p2 p3 p4 (Memᴰ.tail (Memᴰ.tail (Memᴰ.head e))) = rw e p3
+each_side P p1 p2 p3 p4 {k = k} (Memᴰ.tail (Memᴰ.tail (Memᴰ.tail (Memᴰ.tail x16)))) = elim x16 [ ]
 each_side P p1 p2 p3 p4 (Memᴰ.tail (Memᴰ.tail (Memᴰ.tail (Memᴰ.head e)))) = rw e p4
 
 -- a number by which a choice is not none is a side

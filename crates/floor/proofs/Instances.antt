@@ -229,12 +229,14 @@ unfair : ¬ (Fair 4 (1 ∷ 2 ∷ 1 ∷ []))
 unfair h = none (h 1 [] (2 ∷ []) [] (omega arith) (omega arith) refl)
   where
     none : Memᴰ {A = ℕ} 4 (2 ∷ []) → ⊥
+    none (Memᴰ.tail x4) = elim x4 [ ]
     none (Memᴰ.head e) = absurd (omega arith)
 
 -- the further promises: east waits while the three others are granted; a stop and a repair at once leave no side wanting; the grant and the turn
 not_east : ¬ (Memᴰ {A = ℕ} 4 (1 ∷ 2 ∷ 3 ∷ []))
 not_east (Memᴰ.head e) = absurd (omega arith)
 not_east (Memᴰ.tail (Memᴰ.head e)) = absurd (omega arith)
+not_east (Memᴰ.tail (Memᴰ.tail (Memᴰ.tail x12))) = elim x12 [ ]
 not_east (Memᴰ.tail (Memᴰ.tail (Memᴰ.head e))) = absurd (omega arith)
 
 east_test : (waiting_by (made crowd).1 (rounds 3) 4 4 ≡ true) × (grants_by_lem (made crowd).1 (rounds 3) 4 ≡ 1 ∷ 2 ∷ 3 ∷ [])

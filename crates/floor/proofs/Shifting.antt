@@ -38,6 +38,7 @@ has (Memᴰ.tail h) = omega arith
 
 -- two of one tile with one number are one
 rising_same : (l : List Canister) → Rising l → (x y : Canister) → Memᴰ x l → Memᴰ y l → x.number ≡ y.number → x ≡ y
+rising_same [] h x y x6 _ e = elim x6 [ ]
 rising_same (c ∷ l) h x y (Memᴰ.head p) (Memᴰ.head q) e = p ∙ sym q
 rising_same (c ∷ l) h x y (Memᴰ.head p) (Memᴰ.tail q) e = absurd (omega (arith, e, ap (λ (z : Canister). z.number) p, all_mem (λ z. c.number < z.number) q h.0))
 rising_same (c ∷ l) h x y (Memᴰ.tail p) (Memᴰ.head q) e = absurd (omega (arith, e, ap (λ (z : Canister). z.number) q, all_mem (λ z. c.number < z.number) p h.0))

@@ -17,16 +17,16 @@ use Rattle.floor.specs.contracts.Canister.{the_field as canister-field}
 use Rattle.floor.specs.contracts.Layout.{the_field as layout-field}
 
 pub tiles_length : (f : Floor) (vs : List Val) → Is (row the_type) f vs → length f.tiles ≡ 64
-tiles_length f vs p = sym (length-map f.tiles tile-field.into) ∙ p.1.1.1.1.0.1.0.1
+tiles_length f vs p = p.1.1.1.1.0.1.0.1
 
 pub canisters_length : (f : Floor) (vs : List Val) → Is (row the_type) f vs → length f.canisters ≡ 1024
-canisters_length f vs p = sym (length-map f.canisters canister-field.into) ∙ p.1.1.1.1.1.0.1.0.1
+canisters_length f vs p = p.1.1.1.1.1.0.1.0.1
 
 pub layouts_length : (f : Floor) (vs : List Val) → Is (row the_type) f vs → length f.layouts ≡ 8
-layouts_length f vs p = sym (length-map f.layouts layout-field.into) ∙ p.1.1.1.1.1.1.0.1.0.1
+layouts_length f vs p = p.1.1.1.1.1.1.0.1.0.1
 
 pub items_length : (m : Members) (vs : List Val) → Is (row members-type) m vs → length m.items ≡ 16
-items_length m vs p = sym (length-map m.items canister-field.into) ∙ p.1.1.0.1.0.1
+items_length m vs p = p.1.1.0.1.0.1
 
 pub delivered_length : (c : Counters) (vs : List Val) → Is (row counters-type) c vs → length c.delivered ≡ 4
-delivered_length c vs p = sym (length-map c.delivered u32-field.into) ∙ p.1.1.1.1.0.1.0.1
+delivered_length c vs p = p.1.1.1.1.0.1.0.1

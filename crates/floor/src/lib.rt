@@ -1,4 +1,5 @@
 // The memory of a floor, the answers of the calls, and the sides of a tile.
+#![tactic(auto)]
 
 ghost use Rattle.std.specs.Prelude.{◌≡◌, ℕ, ◌+◌, ◌%◌, ◌≤◌, ◌<◌, eqb};
 ghost use Rattle.laws.specs.Define.{bit};
@@ -16,7 +17,7 @@ use sets::has;
 
 // A canister: its number, never 0, and its place, the south-west corner measured from the tile's.
 #[repr(C)]
-#[derive(Drop)]
+#[derive(Clone, Copy)]
 pub struct Canister {
     pub number: u32,
     pub a: u16,
@@ -77,7 +78,7 @@ fn last_row(rows: u8) -> u64
 
 // A side of a tile, by document 01's number.
 #[repr(C)]
-#[derive(Drop)]
+#[derive(Clone, Copy)]
 pub struct Side {
     pub code: u8,
 }
@@ -165,7 +166,7 @@ pub const DISTANCE_NONE: u8 = 255;
 // A tile without its canisters. `running` is 1 or 0; `distance` is DISTANCE_NONE where there is none; `next` is document
 // 01's arrow, `token` its turn; `count` is how many of the tile's sixteen places are used.
 #[repr(C)]
-#[derive(Drop)]
+#[derive(Clone, Copy)]
 pub struct Tile {
     pub running: u8,
     pub distance: u8,
@@ -186,7 +187,7 @@ impl Tile {
 
 // W, H, the hopper set, the fill set, U, l, r and v. A set has bit t for tile t.
 #[repr(C)]
-#[derive(Drop)]
+#[derive(Clone, Copy)]
 pub struct Settings {
     pub columns: u8,
     pub rows: u8,
@@ -228,7 +229,7 @@ impl Settings {
 // The last number booked, how many were booked, and how many were delivered to each hopper, the hoppers in tile order, then
 // zeros.
 #[repr(C)]
-#[derive(Drop)]
+#[derive(Clone, Copy)]
 pub struct Counters {
     pub last: u32,
     pub booked: u32,
@@ -245,7 +246,7 @@ impl Counters {
 
 // A name as its eight bytes, the first letter first, zero filled.
 #[repr(C)]
-#[derive(Drop)]
+#[derive(Clone, Copy)]
 pub struct Name {
     pub letters: [u8; 8],
 }
@@ -253,7 +254,7 @@ pub struct Name {
 // A layout: its name as one number, the first letter in the highest byte, zero filled; and the set of tiles that ran when it
 // was kept.
 #[repr(C)]
-#[derive(Drop)]
+#[derive(Clone, Copy)]
 pub struct Layout {
     pub name: u64,
     pub set: u64,
@@ -267,7 +268,7 @@ impl Layout {
 // An entry of a list of bookings: a tile, a canister with its place, and the number that the booking is refused by, 0 where
 // it is accepted.
 #[repr(C)]
-#[derive(Drop)]
+#[derive(Clone, Copy)]
 pub struct Booking {
     pub tile: u32,
     pub canister: Canister,
@@ -277,7 +278,7 @@ pub struct Booking {
 // A floor. The canisters of tile t stand from place 16 * t on, by rising number, the layouts by rising name; unused places
 // are zero.
 #[repr(C)]
-#[derive(Drop)]
+#[derive(Clone, Copy)]
 pub struct Floor {
     pub settings: Settings,
     pub counters: Counters,
@@ -288,7 +289,7 @@ pub struct Floor {
 
 // What a round delivered to one hopper: how many, and their numbers, rising, then zeros.
 #[repr(C)]
-#[derive(Drop)]
+#[derive(Clone, Copy)]
 pub struct Delivery {
     pub numbers: [u32; 4],
     pub count: u8,
@@ -304,7 +305,7 @@ impl Delivery {
 // What a round reports: the side that each tile granted; why each tile stood, 6 where it moved, and the millimetres missing
 // beside reason 5; and what came to each hopper, the hoppers in tile order, then zeros.
 #[repr(C)]
-#[derive(Drop)]
+#[derive(Clone, Copy)]
 pub struct Report {
     pub grants: [u8; 64],
     pub reasons: [u8; 64],
@@ -326,7 +327,7 @@ impl Report {
 // accepted.
 // The number stands last: padding before the floor costs another copy of it.
 #[repr(C)]
-#[derive(Drop)]
+#[derive(Clone, Copy)]
 pub struct Answer {
     pub floor: Floor,
     pub refusal: u8,
@@ -334,7 +335,7 @@ pub struct Answer {
 
 // The answer of a booking without a place: the place found; refused: zeros, which are a place too, so look at the refusal.
 #[repr(C)]
-#[derive(Drop)]
+#[derive(Clone, Copy)]
 pub struct Placed {
     pub floor: Floor,
     pub a: u16,
@@ -344,7 +345,7 @@ pub struct Placed {
 
 // The answer of a round.
 #[repr(C)]
-#[derive(Drop)]
+#[derive(Clone, Copy)]
 pub struct Rounded {
     pub floor: Floor,
     pub report: Report,
@@ -354,7 +355,7 @@ pub struct Rounded {
 // The answer of reading a tile: the tile and its sixteen places. It holds no floor, so the order of its fields costs no
 // copy.
 #[repr(C)]
-#[derive(Drop)]
+#[derive(Clone, Copy)]
 pub struct Reading {
     pub refusal: u8,
     pub tile: Tile,
@@ -363,7 +364,7 @@ pub struct Reading {
 
 // The canisters of one tile, by rising number, then zeros.
 #[repr(C)]
-#[derive(Drop)]
+#[derive(Clone, Copy)]
 pub struct Members {
     pub items: [Canister; 16],
     pub count: u8,

@@ -56,10 +56,10 @@ module _ (m : Model) (S : Sound m) where
       set false = tt
 
   each_fits : (k : ℕ) → get_or m.counters.delivered k 0 < 2 ^ 32
-  each_fits k = omega (arith, part_le m.counters.delivered k, S.counted, S.booked_last, S.last_Fits)
+  each_fits k = omega (arith, part_le m.counters.delivered k, S.counted, S.booked_last, S.last_fits)
 
   counters_fit : Fit (counters_widths (hopper_count m.settings)) (counters_values (hopper_count m.settings) m.counters)
-  counters_fit = (S.last_Fits, (omega (arith, S.booked_last, S.last_Fits), row (hopper_count m.settings) (λ k. get_or m.counters.delivered k 0) each_fits))
+  counters_fit = (S.last_fits, (omega (arith, S.booked_last, S.last_fits), row (hopper_count m.settings) (λ k. get_or m.counters.delivered k 0) each_fits))
 
   canisters_fit : (t : ℕ) → t < total m.settings → All (λ c. Fit canister_widths (canister_values c)) (members_of m t)
   unfolding numbers_on
@@ -67,7 +67,7 @@ module _ (m : Model) (S : Sound m) where
       let M = S.measured in
       let B = all_unmap (λ n. n ≤ m.counters.last) (λ c. c.number) (members_of m t) (cat_all (λ n. n ≤ m.counters.last) (total m.settings) (λ t. numbers (members_of m t)) t l S.below) in
       all_imp (λ c. (c.number ≤ m.counters.last) × Inside m.settings c) (λ c. Fit canister_widths (canister_values c)) (members_of m t)
-      (λ c p. (omega (arith, p.0, S.last_Fits), (omega (arith, p.1.in_a, M.narrow), (omega (arith, p.1.in_b, M.narrow), tt))))
+      (λ c p. (omega (arith, p.0, S.last_fits), (omega (arith, p.1.in_a, M.narrow), (omega (arith, p.1.in_b, M.narrow), tt))))
       (all_both (λ c. c.number ≤ m.counters.last) (Inside m.settings) (members_of m t) B (S.inside t))
 
   tile_fits_lem : (t : ℕ) → t < total m.settings → TileFits (tile_of m t)

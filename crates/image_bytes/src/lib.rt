@@ -1,4 +1,6 @@
 // Numbers as little-endian bytes in a slice: what stands at a place, and how it is written there.
+#![tactic(auto)]
+
 ghost use Rattle.std.specs.Prelude.{◌≡◌, ◌+◌, ◌≤◌, length, drop};
 ghost use Rattle.image_bytes.specs.Bytes.{le, bytes};
 ghost use Rattle.image_bytes.specs.InternalPut.{put};

@@ -1,4 +1,6 @@
 // Loading and writing an image. Each takes any bytes, and its contract determines the whole answer on all of them.
+#![tactic(auto)]
+
 ghost use Rattle.std.specs.Prelude.{◌≡◌, length};
 ghost use Rattle.image.specs.Image.{image_answer, standard, load_answer, write_answer, written};
 

@@ -1,5 +1,7 @@
 // Reads an image: gives the floor that its records hold, or the first refusal in reading order. It doesn't check that the
 // floor is well formed (12); only a layout without a name is refused here.
+#![tactic(auto)]
+
 ghost use Rattle.std.specs.Prelude.{◌≡◌, ℕ, ◌+◌, ◌*◌, ◌≤◌, ◌<◌, ltb, length, take, drop, get_or};
 ghost use Rattle.laws.specs.Define.{tab, all_of};
 ghost use Rattle.image_bytes.specs.Bytes.{field};
@@ -15,7 +17,7 @@ use sets::size;
 
 // What the front of an image holds, the records of kinds 1, 2 and 5: how many layouts there are, where the tiles' records
 // begin, and the first refusal, 0 where there is none.
-#[derive(Drop)]
+#[derive(Clone, Copy)]
 pub struct Front {
     pub settings: Settings,
     pub counters: Counters,
@@ -133,7 +135,9 @@ fn read_front(s: &[u8]) -> Front
 
 // The floor that the bytes hold; or the first refusal in reading order, with the all-zero floor. A layout without a name is
 // 12 here, because in memory it would look like an unused place. Every other floor that is not well formed is given as it
-// is: `image_calls::load` checks it and answers 12.
+// is: `image_calls::load` checks it and answers 12. Not inlined: its frame is gone when the floor is checked, and a load takes
+// 71 KB of stack for 114.
+#[inline(never)]
 pub fn read_image(s: &[u8]) -> Answer
     ensures { result ≡ records_answer s.now }
 {

@@ -1,5 +1,7 @@
 // The records of an image, read one by one: the reader of each kind, and the scans of the layouts' and the tiles' records.
 // Each tells the first refusal, without 12.
+#![tactic(auto)]
+
 ghost use Rattle.std.specs.Prelude.{◌≡◌, ◌⊎◌, not, ◌&&◌, ◌+◌, ◌*◌, ◌≤◌, eqb, length, take, drop, get_or};
 ghost use Rattle.laws.specs.Define.{tab, refusal};
 ghost use Rattle.floor.specs.Layouts.{name_number};
@@ -14,7 +16,7 @@ use image_bytes::{u16_at, u32_at, u64_at};
 use sets::{lowest, single, size};
 
 // What was read of a record: the part of its kind, the others zero; and its refusal, 0 where there is none.
-#[derive(Drop)]
+#[derive(Clone, Copy)]
 pub struct Found {
     pub settings: Settings,
     pub counters: Counters,
@@ -24,7 +26,7 @@ pub struct Found {
 }
 
 // What a scan of the tiles' records finds: the first refusal, 0 where there is none, the tiles, and where each body starts.
-#[derive(Drop)]
+#[derive(Clone, Copy)]
 pub struct Scan {
     pub starts: [usize; 64],
     pub tiles: [Tile; 64],
@@ -33,7 +35,7 @@ pub struct Scan {
 
 // What a scan of the layouts' records finds: the first refusal, 0 where there is none, the eight places, and how many
 // records there are, twenty bytes each.
-#[derive(Drop)]
+#[derive(Clone, Copy)]
 pub struct LayoutScan {
     pub layouts: [Layout; 8],
     pub count: usize,

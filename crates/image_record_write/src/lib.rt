@@ -1,5 +1,7 @@
 // The records of an image, put one by one: each function puts its bytes into a buffer that has room for them, and leaves the
 // others.
+#![tactic(auto)]
+
 ghost use Rattle.std.specs.Prelude.{◌≡◌, ◌++◌, ◌+◌, ◌*◌, ◌≤◌, length};
 ghost use Rattle.image_bytes.specs.Bytes.{bytes};
 ghost use Rattle.image_bytes.specs.InternalPut.{put};

@@ -1,4 +1,6 @@
 // Writing an image: how long it is, and all its records into a buffer that has room for them. The other bytes stay.
+#![tactic(auto)]
+
 ghost use Rattle.std.specs.Prelude.{◌≡◌, true, cond, ℕ, ◌+◌, ◌*◌, ◌≤◌, ◌<◌, ltb, length, take};
 ghost use Rattle.image_bytes.specs.InternalPut.{put};
 ghost use Rattle.floor.specs.Memory.{used_layouts, view};

@@ -384,6 +384,7 @@ mem_perm {A} {l} {k} p x h = all_mem (λ y. Memᴰ y k) h (all_perm (λ y. Mem�
 
 pub mem_filter : {A : Type 0} (p : A → Bool) {x : A} (l : List A) → p x ≡ true → Memᴰ x l → Memᴰ x (filter p l)
 unfolding filter
+mem_filter {A} p {x} [] e m = elim m [ ]
 mem_filter p (y ∷ l) e (Memᴰ.head q) = rw (ap p (sym q) ∙ e) (Memᴰ.head q)
 mem_filter {A} p {x} (y ∷ l) e (Memᴰ.tail h) = go (p y) (mem_filter p l e h)
   where
@@ -393,6 +394,7 @@ mem_filter {A} p {x} (y ∷ l) e (Memᴰ.tail h) = go (p y) (mem_filter p l e h)
 
 -- an element of the first list and one of the second
 pub pairs_between : {A : Type 0} (R : A → A → Type 0) (l k : List A) → Pairs R (l ++ k) → {x y : A} → Memᴰ x l → Memᴰ y k → R x y
+pairs_between {A} R [] k h {x} {y} p q = elim p [ ]
 pairs_between R (z ∷ l) k h {x} {y} (Memᴰ.head e) q = subst (λ w. R w y) (sym e) (all_mem (R z) q (all_right (R z) l k h.0))
 pairs_between R (z ∷ l) k h (Memᴰ.tail p) q = pairs_between R l k h.1 p q
 

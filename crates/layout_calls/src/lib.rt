@@ -1,5 +1,7 @@
 // Keep, forget and recall: the calls on a floor's named layouts. Each takes any bytes, and its contract determines the whole
 // answer on all of them.
+#![tactic(auto)]
+
 ghost use Rattle.std.specs.Prelude.{◌≡◌};
 ghost use Rattle.floor.specs.Layouts.{name_number};
 ghost use Rattle.floor.specs.Calls.{keep_answer, forget_answer, recall_answer};

@@ -1,5 +1,7 @@
 // Floors that aren't well formed: every call that takes a floor answers 30 and gives the same floor, zeros for a reading,
 // the same bytes for a writing and for a page; a list of bookings answers 30 in every entry.
+#![tactic(auto)]
+
 use floor::Floor;
 use trials_tally::{Tally, floors};
 
@@ -60,51 +62,51 @@ fn damaged(f: Floor, kind: u8) -> Floor {
     }
 }
 
-fn tile_name(kind: u8) {
+fn tile_name(rt: &impl Print, kind: u8) {
     match kind {
-        0 => trials_tally::text(b"a count of 255"),
-        1 => trials_tally::text(b"an arrow of 200"),
-        2 => trials_tally::text(b"a turn of 200"),
-        3 => trials_tally::text(b"running 7"),
-        4 => trials_tally::text(b"a distance of C"),
-        5 => trials_tally::text(b"a tile beyond C not zero"),
-        6 => trials_tally::text(b"a turn that faces no tile"),
-        7 => trials_tally::text(b"a stopped hopper"),
-        8 => trials_tally::text(b"a hopper without distance 0"),
-        _ => trials_tally::text(b"a stopped tile with its distance"),
+        0 => trials_tally::text(rt, b"a count of 255"),
+        1 => trials_tally::text(rt, b"an arrow of 200"),
+        2 => trials_tally::text(rt, b"a turn of 200"),
+        3 => trials_tally::text(rt, b"running 7"),
+        4 => trials_tally::text(rt, b"a distance of C"),
+        5 => trials_tally::text(rt, b"a tile beyond C not zero"),
+        6 => trials_tally::text(rt, b"a turn that faces no tile"),
+        7 => trials_tally::text(rt, b"a stopped hopper"),
+        8 => trials_tally::text(rt, b"a hopper without distance 0"),
+        _ => trials_tally::text(rt, b"a stopped tile with its distance"),
     }
 }
 
-fn canister_name(kind: u8) {
+fn canister_name(rt: &impl Print, kind: u8) {
     match kind {
-        10 => trials_tally::text(b"canisters out of order"),
-        11 => trials_tally::text(b"number 0"),
-        12 => trials_tally::text(b"a number on two tiles"),
-        13 => trials_tally::text(b"a place beyond U - l"),
-        14 => trials_tally::text(b"two canisters too near"),
-        15 => trials_tally::text(b"an unused place not zero"),
-        16 => trials_tally::text(b"a canister beyond C"),
-        17 => trials_tally::text(b"booked off by one"),
-        18 => trials_tally::text(b"delivered off by one"),
-        19 => trials_tally::text(b"last below a number"),
-        20 => trials_tally::text(b"a side of 200 tiles"),
-        21 => trials_tally::text(b"the hopper in the fill set"),
-        _ => trials_tally::text(b"v not below l"),
+        10 => trials_tally::text(rt, b"canisters out of order"),
+        11 => trials_tally::text(rt, b"number 0"),
+        12 => trials_tally::text(rt, b"a number on two tiles"),
+        13 => trials_tally::text(rt, b"a place beyond U - l"),
+        14 => trials_tally::text(rt, b"two canisters too near"),
+        15 => trials_tally::text(rt, b"an unused place not zero"),
+        16 => trials_tally::text(rt, b"a canister beyond C"),
+        17 => trials_tally::text(rt, b"booked off by one"),
+        18 => trials_tally::text(rt, b"delivered off by one"),
+        19 => trials_tally::text(rt, b"last below a number"),
+        20 => trials_tally::text(rt, b"a side of 200 tiles"),
+        21 => trials_tally::text(rt, b"the hopper in the fill set"),
+        _ => trials_tally::text(rt, b"v not below l"),
     }
 }
 
-fn one(t: Tally, f: Floor, kind: u8) -> Tally {
-    trials_tally::text(b"malformed, ");
+fn one(rt: &impl Print, t: Tally, f: Floor, kind: u8) -> Tally {
+    trials_tally::text(rt, b"malformed, ");
     if kind < 10 {
-        tile_name(kind);
+        tile_name(rt, kind);
     } else {
-        canister_name(kind);
+        canister_name(rt, kind);
     }
-    malformed_calls::refused(t, damaged(f, kind))
+    malformed_calls::refused(rt, t, damaged(f, kind))
 }
 
 // The floor before it is damaged: the calls accept it.
-fn accepted(t: Tally, f: Floor) -> Tally {
+fn accepted(rt: &impl Print, t: Tally, f: Floor) -> Tally {
     let stop = calls::stop(f, 1);
     let round = calls::round(f);
     let read = calls::read(f, 1);
@@ -117,6 +119,7 @@ fn accepted(t: Tally, f: Floor) -> Tally {
         0,
     ];
     trials_tally::trial(
+        rt,
         t,
         b"the floor before its damages: accepted",
         gave,
@@ -125,30 +128,36 @@ fn accepted(t: Tally, f: Floor) -> Tally {
 }
 
 // A refused fresh gives the all-zero floor, and every call refuses that.
-fn zero(t: Tally) -> Tally {
+fn zero(rt: &impl Print, t: Tally) -> Tally {
     let answer = calls::fresh(floors::settings(9, 1, 1, 1, 20));
     let none = answer.floor;
     let ok = (answer.refusal == 1) & malformed_calls::all_refuse(none);
     if ok {
-        trials_tally::text(b"malformed, the all-zero floor of a refused fresh: ok\n");
+        trials_tally::text(
+            rt,
+            b"malformed, the all-zero floor of a refused fresh: ok\n",
+        );
     } else {
-        trials_tally::text(b"malformed, the all-zero floor of a refused fresh: differs\n");
+        trials_tally::text(
+            rt,
+            b"malformed, the all-zero floor of a refused fresh: differs\n",
+        );
     }
     trials_tally::count(t, ok)
 }
 
-fn all(t: Tally) -> Tally {
+fn all(rt: &impl Print, t: Tally) -> Tally {
     let f = sound_floor();
-    let mut next = accepted(t, f);
+    let mut next = accepted(rt, t, f);
     let mut kind: u8 = 0;
     while kind < 23 {
-        next = one(next, f, kind);
+        next = one(rt, next, f, kind);
         kind += 1;
     }
-    zero(next)
+    zero(rt, next)
 }
 
-fn main() {
+fn main(rt: HostRuntime) {
     let start = Tally { good: 0, bad: 0 };
-    trials_tally::end(all(start));
+    trials_tally::end(&rt, all(&rt, start));
 }

@@ -1,6 +1,8 @@
 // Whether every call that takes a floor refuses one that isn't well formed: 30 and the same floor, zeros for a reading and
 // for a bound, the same bytes for a writing and for a page; a list of bookings answers 30 in every entry; a release gives
 // the plan back too.
+#![tactic(auto)]
+
 use floor::{Booking, Canister, Delivery, Floor, Layout, Report, Settings, Tile};
 use plan::{Entry, Plan};
 use trials_tally::{Tally, floors};
@@ -304,12 +306,12 @@ pub fn all_refuse(f: Floor) -> bool {
 }
 
 // The calls on a damaged floor, whose name is written before.
-pub fn refused(t: Tally, f: Floor) -> Tally {
+pub fn refused(rt: &impl Print, t: Tally, f: Floor) -> Tally {
     let ok = all_refuse(f);
     if ok {
-        trials_tally::text(b": ok\n");
+        trials_tally::text(rt, b": ok\n");
     } else {
-        trials_tally::text(b": not 30 with the same floor from every call\n");
+        trials_tally::text(rt, b": not 30 with the same floor from every call\n");
     }
     trials_tally::count(t, ok)
 }

@@ -11,7 +11,7 @@ pub fn sound_floor() -> Floor {
 }
 
 // The calls accept it.
-pub fn accepted(t: Tally, f: Floor) -> Tally {
+pub fn accepted(rt: &impl Print, t: Tally, f: Floor) -> Tally {
     let stop = calls::stop(f, 2);
     let hopper = calls::stop(f, 1);
     let round = calls::round(f);
@@ -25,6 +25,7 @@ pub fn accepted(t: Tally, f: Floor) -> Tally {
         floors::first(f, 0, 2),
     ];
     trials_tally::trial(
+        rt,
         t,
         b"the floor with three hoppers: accepted",
         gave,
@@ -106,16 +107,16 @@ pub fn damaged(f: Floor, kind: u8) -> Floor {
     }
 }
 
-pub fn name(kind: u8) {
+pub fn name(rt: &impl Print, kind: u8) {
     match kind {
-        0 => trials_tally::text(b"five hoppers"),
-        1 => trials_tally::text(b"no hopper"),
-        2 => trials_tally::text(b"a hopper off the floor"),
-        3 => trials_tally::text(b"the second hopper in the fill set"),
-        4 => trials_tally::text(b"a counter of no hopper not zero"),
-        5 => trials_tally::text(b"the second hopper stopped"),
-        6 => trials_tally::text(b"the second hopper with distance 1"),
-        7 => trials_tally::text(b"the second hopper with a canister"),
-        _ => trials_tally::text(b"the second hopper with an arrow"),
+        0 => trials_tally::text(rt, b"five hoppers"),
+        1 => trials_tally::text(rt, b"no hopper"),
+        2 => trials_tally::text(rt, b"a hopper off the floor"),
+        3 => trials_tally::text(rt, b"the second hopper in the fill set"),
+        4 => trials_tally::text(rt, b"a counter of no hopper not zero"),
+        5 => trials_tally::text(rt, b"the second hopper stopped"),
+        6 => trials_tally::text(rt, b"the second hopper with distance 1"),
+        7 => trials_tally::text(rt, b"the second hopper with a canister"),
+        _ => trials_tally::text(rt, b"the second hopper with an arrow"),
     }
 }

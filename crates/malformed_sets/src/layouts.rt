@@ -15,7 +15,7 @@ pub fn sound_floor(f: Floor) -> Floor {
 }
 
 // The calls accept it.
-pub fn accepted(t: Tally, f: Floor) -> Tally {
+pub fn accepted(rt: &impl Print, t: Tally, f: Floor) -> Tally {
     let keep = calls::keep(f, floors::name(67));
     let forget = calls::forget(f, floors::name(65));
     let recall = calls::recall(f, floors::name(65));
@@ -32,6 +32,7 @@ pub fn accepted(t: Tally, f: Floor) -> Tally {
         second.set,
     ];
     trials_tally::trial(
+        rt,
         t,
         b"the floor with two layouts: accepted",
         gave,
@@ -86,16 +87,16 @@ pub fn damaged(f: Floor, kind: u8) -> Floor {
     }
 }
 
-pub fn name(kind: u8) {
+pub fn name(rt: &impl Print, kind: u8) {
     match kind {
-        0 => trials_tally::text(b"layouts not by rising name"),
-        1 => trials_tally::text(b"a name twice"),
-        2 => trials_tally::text(b"a free place before a layout"),
-        3 => trials_tally::text(b"a small letter in a name"),
-        4 => trials_tally::text(b"a letter after a zero in a name"),
-        5 => trials_tally::text(b"a set without a name"),
-        6 => trials_tally::text(b"a layout with the second hopper stopped"),
-        7 => trials_tally::text(b"a layout with a bit for no tile"),
-        _ => trials_tally::text(b"a layout of no tile"),
+        0 => trials_tally::text(rt, b"layouts not by rising name"),
+        1 => trials_tally::text(rt, b"a name twice"),
+        2 => trials_tally::text(rt, b"a free place before a layout"),
+        3 => trials_tally::text(rt, b"a small letter in a name"),
+        4 => trials_tally::text(rt, b"a letter after a zero in a name"),
+        5 => trials_tally::text(rt, b"a set without a name"),
+        6 => trials_tally::text(rt, b"a layout with the second hopper stopped"),
+        7 => trials_tally::text(rt, b"a layout with a bit for no tile"),
+        _ => trials_tally::text(rt, b"a layout of no tile"),
     }
 }

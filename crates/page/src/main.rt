@@ -1,12 +1,12 @@
 // The page program: reads an image from standard input and prints its floor as a page, or the number that it is refused by.
+#![tactic(auto)]
+
 ghost use Rattle.std.specs.Prelude.{◌≡◌, ◌≤◌, length, take};
 ghost use Rattle.image_bytes.specs.InternalPut.{put};
 ghost use Rattle.page.specs.Printed.{refused_text, printed};
 
-use libc::{STDERR_FILENO, STDIN_FILENO, STDOUT_FILENO};
-
 // A line of text, and how long it is.
-#[derive(Drop)]
+#[derive(Clone, Copy)]
 struct Line {
     bytes: [u8; 11],
     length: usize,
@@ -81,15 +81,16 @@ fn tell(bytes: &[u8], text: &mut [u8]) -> usize
 }
 
 // A read that fails is no end of the input: what came before it is not taken for an image.
-fn main() {
+fn main(rt: HostRuntime) {
     let mut bytes = image_input::room();
-    let input = image_input::read_input(STDIN_FILENO, &mut bytes);
+    let mut file = rt.stdin();
+    let input = image_input::read_input(&mut file, &mut bytes);
     if input.failed {
-        io::write_all(STDERR_FILENO, b"page: standard input can't be read\n");
+        let _ = rt.eprint("page: standard input can't be read\n");
         return;
     }
     let n = input.length;
     let mut text = [0u8; 528];
     let k = tell(&bytes[..n], &mut text);
-    io::write_all(STDOUT_FILENO, &text[..k]);
+    let _ = rt.write_all(&text[..k]);
 }

@@ -1,4 +1,6 @@
 // The floor on the wheelhouse page: text in a lent buffer.
+#![tactic(auto)]
+
 ghost use Rattle.std.specs.Prelude.{◌≡◌, [], ◌∷◌, ◌+◌, ◌*◌, ◌-◌, ◌≤◌, ◌<◌, length, get_or};
 ghost use Rattle.image_bytes.specs.InternalPut.{put};
 ghost use Rattle.floor.specs.Memory.{zero_tile};

@@ -1,5 +1,7 @@
 // A plan of bookings, some of which must be delivered before others are made (document 02's [12]): its structs. Its
 // definitions stand in specs/; no code.
+#![tactic(auto)]
+
 use floor::Floor;
 
 // What an entry's stage says. Every other byte is read as BOOKED.
@@ -21,7 +23,7 @@ pub const NOT_RELEASED: u8 = 48;
 // An entry: its fill tile; the number that it is booked under; its label, 1 to 64; its predecessors' labels, 0 for none; its
 // stage.
 #[repr(C)]
-#[derive(Drop)]
+#[derive(Clone, Copy)]
 pub struct Entry {
     pub tile: u32,
     pub number: u32,
@@ -45,7 +47,7 @@ impl Entry {
 
 // The first `count` entries are used; the others are ignored and handed back.
 #[repr(C)]
-#[derive(Drop)]
+#[derive(Clone, Copy)]
 pub struct Plan {
     pub entries: [Entry; 64],
     pub count: u32,
@@ -53,7 +55,7 @@ pub struct Plan {
 
 // The answer of an offer: the label offered, 0 for none and where the plan is refused.
 #[repr(C)]
-#[derive(Drop)]
+#[derive(Clone, Copy)]
 pub struct Offered {
     pub label: u8,
     pub refusal: u8,
@@ -61,7 +63,7 @@ pub struct Offered {
 
 // The answer of a report to the plan.
 #[repr(C)]
-#[derive(Drop)]
+#[derive(Clone, Copy)]
 pub struct Planned {
     pub plan: Plan,
     pub refusal: u8,
@@ -69,7 +71,7 @@ pub struct Planned {
 
 // The answer of a release: the number booked and the place found; refused: zeros.
 #[repr(C)]
-#[derive(Drop)]
+#[derive(Clone, Copy)]
 pub struct Released {
     pub floor: Floor,
     pub plan: Plan,

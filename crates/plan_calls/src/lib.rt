@@ -1,4 +1,6 @@
 // The calls of a plan. Each takes any bytes, and its contract determines the whole answer on all of them.
+#![tactic(auto)]
+
 ghost use Rattle.std.specs.Prelude.{◌≡◌};
 ghost use Rattle.laws.specs.Define.{refusal};
 ghost use Rattle.plan.specs.Entries.{used};
@@ -39,7 +41,7 @@ pub fn offer(plan: Plan) -> Offered
 }
 
 // What a release books: the tile, and the number that the release is refused by before its booking.
-#[derive(Drop)]
+#[derive(Clone, Copy)]
 struct Asking {
     pub tile: u32,
     pub refusal: u8,

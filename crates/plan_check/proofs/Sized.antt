@@ -13,7 +13,7 @@ use Rattle.plan_check.specs.declared.Labels.{Labels}
 use Rattle.plan_check.specs.contracts.Labels.{the_type as labels-type}
 
 pub entries_length : (p : Plan) (vs : List Val) → Is (row the_type) p vs → length p.entries ≡ 64
-entries_length p vs h = sym (length-map p.entries entry-field.into) ∙ h.1.1.0.1.0.1
+entries_length p vs h = h.1.1.0.1.0.1
 
 pub present_length : (l : Labels) (vs : List Val) → Is (row labels-type) l vs → length l.present ≡ 256
-present_length l vs h = sym (length-map l.present bool-field.into) ∙ h.1.1.0.1.0.1
+present_length l vs h = h.1.1.0.1.0.1

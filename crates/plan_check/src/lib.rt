@@ -1,4 +1,6 @@
 // Whether a plan is sound, and whether its labels fit, on any bytes: the tests 30 and 47.
+#![tactic(auto)]
+
 ghost use Rattle.std.specs.Prelude.{◌≡◌, true, false, cond, not, ◌&&◌, ◌||◌, [], ◌∷◌, ◌+◌, ◌≤◌, eqb, leb, ltb, length, take};
 ghost use Rattle.laws.specs.Define.{all_of, pairs_of};
 ghost use Rattle.laws.specs.InternalFilled.{Upto};
@@ -72,7 +74,7 @@ fn after_predecessors(plan: Plan) -> bool
 }
 
 // The numbers of booked entries, in the order of the plan: the first `count` of them.
-#[derive(Drop)]
+#[derive(Clone, Copy)]
 pub struct Numbers {
     pub items: [u32; 64],
     pub count: usize,
@@ -140,7 +142,7 @@ pub fn sound(plan: Plan) -> bool
 }
 
 // The labels of a plan: for each label, whether an entry has it; and whether no two entries have one.
-#[derive(Drop)]
+#[derive(Clone, Copy)]
 pub struct Labels {
     pub present: [bool; 256],
     pub differing: bool,

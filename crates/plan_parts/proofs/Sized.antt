@@ -12,7 +12,7 @@ use Rattle.floor.specs.contracts.Delivery.{the_type as delivery-type, the_field 
 use Rattle.floor.specs.contracts.Report.{the_type as report-type}
 
 pub numbers_length : (d : Delivery) (vs : List Val) → Is (row delivery-type) d vs → length d.numbers ≡ 4
-numbers_length d vs h = sym (length-map d.numbers u32-field.into) ∙ h.1.1.0.1.0.1
+numbers_length d vs h = h.1.1.0.1.0.1
 
 pub deliveries_length : (r : Report) (vs : List Val) → Is (row report-type) r vs → length r.deliveries ≡ 4
-deliveries_length r vs h = sym (length-map r.deliveries delivery-field.into) ∙ h.1.1.1.1.1.0.1.0.1
+deliveries_length r vs h = h.1.1.1.1.1.0.1.0.1

@@ -1,5 +1,7 @@
 // Parts of a plan's calls: the lowest label that is ready, the entry asked for, the numbers listed, what a release and a
 // report change.
+#![tactic(auto)]
+
 ghost use Rattle.std.specs.Prelude.{◌≡◌, true, false, cond, ◌&&◌, ◌++◌, ◌+◌, ◌≤◌, eqb, leb, ltb, take};
 ghost use Rattle.laws.specs.Define.{all_of, any_of};
 ghost use Rattle.floor.specs.Reports.{listed};
@@ -44,7 +46,7 @@ pub fn lowest_ready(plan: Plan) -> u8
 }
 
 // What is asked for by a label: its tile, 0 where no entry has the label, and whether it is ready.
-#[derive(Drop)]
+#[derive(Clone, Copy)]
 pub struct Asked {
     pub tile: u32,
     pub ready: bool,
@@ -145,7 +147,7 @@ pub fn over_four(given: Report) -> bool
 }
 
 // The numbers that a report lists, for all hoppers together: the first `count` of them.
-#[derive(Drop)]
+#[derive(Clone, Copy)]
 pub struct Listing {
     pub items: [u32; 16],
     pub count: usize,

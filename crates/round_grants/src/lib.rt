@@ -1,5 +1,6 @@
 // Parts of Signal on one tile: the sides that want, from what its four neighbours show; the one whose turn it is; and how
 // many millimetres a canister is short of the gap there.
+#![tactic(auto)]
 
 ghost use Rattle.std.specs.Prelude.{◌≡◌, cond, ◌-◌, ◌^◌, max, ◌≤◌, ◌<◌, eqb};
 ghost use Rattle.floor.specs.Sides as S;

@@ -1,4 +1,6 @@
 // Parts of Move: the side along which a tile moves, what the hoppers take in, and the answer.
+#![tactic(auto)]
+
 ghost use Rattle.std.specs.Prelude.{◌≡◌, true, false, cond, ℕ, ◌≤◌, ◌<◌, ◌+◌, ◌^◌, get_or, set};
 ghost use Rattle.laws.specs.Define.{tab};
 ghost use Rattle.floor.specs.Settings.{is_hopper};
@@ -14,7 +16,7 @@ use round_members::partition;
 use sets::holds;
 
 // What the hoppers took in so far: how many of them were found, and what came to each.
-#[derive(Drop)]
+#[derive(Clone, Copy)]
 pub struct Intake {
     pub deliveries: [Delivery; 4],
     pub found: u8,

@@ -1,4 +1,5 @@
 // Route, the first step of a round: "Distance = 1 + the least old distance among the neighbours".
+#![tactic(auto)]
 
 ghost use Rattle.std.specs.Prelude.{◌≡◌, ◌≤◌};
 ghost use Rattle.laws.specs.InternalFilled.{Upto};
@@ -10,7 +11,7 @@ use floor::{DISTANCE_NONE, EAST, NORTH, SOUTH, Settings, Side, Tile, WEST};
 use sets::holds;
 
 // A distance, and the side that it was read on.
-#[derive(Drop)]
+#[derive(Clone, Copy)]
 pub struct Heading {
     pub distance: u8,
     pub side: Side,

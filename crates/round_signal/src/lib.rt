@@ -1,5 +1,6 @@
 // Parts of Signal, the second step of a round: what tiles show each other, a tile with its new turn, and why each tile stood.
 // The pass over the tiles, which reads their canisters, is in `run_round`.
+#![tactic(auto)]
 
 ghost use Rattle.std.specs.Prelude.{◌≡◌, cond, eqb, get_or, ℕ, ◌^◌, ◌≤◌, ◌<◌};
 ghost use Rattle.laws.specs.InternalFilled.{Filled};
@@ -10,7 +11,7 @@ ghost use Rattle.round_signal.specs.InternalSignalling.{side_in, ShownUpto, toke
 use floor::{Settings, Side, Tile, reason};
 
 // Why each tile stood, 6 where it moved, and the millimetres missing beside 5.
-#[derive(Drop)]
+#[derive(Clone, Copy)]
 pub struct Stood {
     pub reasons: [u8; 64],
     pub missing: [u16; 64],

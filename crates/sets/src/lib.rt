@@ -1,4 +1,6 @@
 // Sets of tiles as the bits of a word: tile t is in the set s where bit t of s is set.
+#![tactic(auto)]
+
 ghost use Rattle.std.specs.Prelude.{◌≡◌, true, false, cond, ◌||◌, ◌&&◌, not, ℕ, ◌-◌, ◌≤◌, ◌<◌, ◌^◌, eqb, ltb, length, get_or};
 ghost use Rattle.laws.specs.Define.{any_of, bit, bits_below};
 

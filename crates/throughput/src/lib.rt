@@ -1,4 +1,6 @@
 // Throughput: deliveries over windows of 256 rounds, each closed window's rate as an f64 (document 02's [2]).
+#![tactic(auto)]
+
 ghost use Rattle.std.specs.Prelude.{◌≡◌, ◌≤◌};
 ghost use Rattle.throughput.specs.Rate.{rate_of, rate_sound, deliveries_of};
 ghost use Rattle.throughput.specs.Lists.{zero_throughput};
@@ -13,7 +15,7 @@ pub const COUNT_TOO_HIGH: u8 = 41;
 // The last, least and greatest closed rates; the open window's rounds and deliveries; whether a window has closed: 0 for no,
 // any other byte for yes.
 #[repr(C)]
-#[derive(Drop)]
+#[derive(Clone, Copy)]
 pub struct Throughput {
     pub last: f64,
     pub least: f64,
@@ -24,7 +26,7 @@ pub struct Throughput {
 }
 
 // What feeding a round tells: the open window's rounds so far, or the closed window's rate, or the refusal's number.
-#[derive(Drop)]
+#[derive(Clone, Copy)]
 pub enum Fed {
     Open(u16),
     Closed(f64),
@@ -32,7 +34,7 @@ pub enum Fed {
 }
 
 // The record after the round, and what is told.
-#[derive(Drop)]
+#[derive(Clone, Copy)]
 pub struct Feeding {
     pub throughput: Throughput,
     pub fed: Fed,
@@ -47,7 +49,7 @@ pub const FED_CLOSED: u8 = 2;
 
 // The same for C and Rust; what a kind does not have is 0.
 #[repr(C)]
-#[derive(Drop)]
+#[derive(Clone, Copy)]
 pub struct FedValues {
     pub throughput: Throughput,
     pub rate: f64,

@@ -22,7 +22,7 @@ fn wide_floor() -> Floor {
 }
 
 // The floor so far, and how many bookings were accepted.
-#[derive(Drop)]
+#[derive(Clone, Copy)]
 struct Filling {
     floor: Floor,
     accepted: u64,
@@ -66,7 +66,7 @@ fn filled() -> Filling {
 }
 
 // Where rounds lead: the floor, how many numbers were reported, their sum, and how many rounds it took.
-#[derive(Drop)]
+#[derive(Clone, Copy)]
 struct Emptying {
     floor: Floor,
     reported: u64,
@@ -113,7 +113,7 @@ fn came(f: Floor) -> u64 {
 }
 
 // 1,008 bookings, then 34 on each of three full tiles.
-fn fills(t: Tally, f: Filling) -> Tally {
+fn fills(rt: &impl Print, t: Tally, f: Filling) -> Tally {
     let floor = f.floor;
     let gave = [
         f.accepted,
@@ -124,6 +124,7 @@ fn fills(t: Tally, f: Filling) -> Tally {
         floor.counters.booked as u64,
     ];
     trial(
+        rt,
         t,
         b"8 x 8: 1008 canisters booked, the next is 34",
         gave,
@@ -133,15 +134,16 @@ fn fills(t: Tally, f: Filling) -> Tally {
 
 // All numbers come out, each once: 1 to 1024 without 433 to 448 have the sum 517,752. The 100 and the 3,690 rounds are
 // also what the second implementation gives (host/oracle/tests/suite/full.rs).
-pub fn all(t: Tally) -> Tally {
+pub fn all(rt: &impl Print, t: Tally) -> Tally {
     let f = filled();
-    let next = fills(t, f);
+    let next = fills(rt, t, f);
     let floor = f.floor;
     let some = emptied(floor, 1008, 100);
     let some_floor = some.floor;
     let came_some = came(some_floor);
     let first = [some.rounds, some.reported, came_some, 0, 0, 0];
     let then = trial(
+        rt,
         next,
         b"8 x 8: the first hundred rounds",
         first,
@@ -159,6 +161,7 @@ pub fn all(t: Tally) -> Tally {
         e.rounds,
     ];
     trial(
+        rt,
         then,
         b"8 x 8: all delivered, each once",
         gave,

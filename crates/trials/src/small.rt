@@ -4,7 +4,7 @@ use trials_tally::floors::{place, wide};
 use trials_tally::{Tally, floors, trial};
 
 // W 2, hopper 1: canister 5 at (a, 0) on tile 0, and the rounds up to its delivery.
-fn one_canister(t: Tally, name: &[u8], a: u16, due: [u64; 6]) -> Tally {
+fn one_canister(rt: &impl Print, t: Tally, name: &[u8], a: u16, due: [u64; 6]) -> Tally {
     let f = floors::booked(floors::fresh(2, 1, 1, 1), 0, 5, a, 0);
     let gave = [
         floors::first(f, 1, 0),
@@ -14,14 +14,21 @@ fn one_canister(t: Tally, name: &[u8], a: u16, due: [u64; 6]) -> Tally {
         floors::delivered(f, 3),
         floors::held(f, 4, 0),
     ];
-    trial(t, name, gave, due)
+    trial(rt, t, name, gave, due)
 }
 
-fn deliveries(t: Tally) -> Tally {
+fn deliveries(rt: &impl Print, t: Tally) -> Tally {
     let from0 = [place(5, 20, 0), place(5, 40, 0), place(5, 60, 0), 0, 5, 0];
     let from10 = [place(5, 30, 0), place(5, 50, 0), place(5, 70, 0), 0, 5, 0];
-    let next = one_canister(t, b"W 2, canister at a = 0, delivered in round 4", 0, from0);
+    let next = one_canister(
+        rt,
+        t,
+        b"W 2, canister at a = 0, delivered in round 4",
+        0,
+        from0,
+    );
     one_canister(
+        rt,
         next,
         b"W 2, canister at a = 10, delivered in round 4",
         10,
@@ -29,7 +36,7 @@ fn deliveries(t: Tally) -> Tally {
     )
 }
 
-fn bookings(t: Tally) -> Tally {
+fn bookings(rt: &impl Print, t: Tally) -> Tally {
     let empty = floors::fresh(2, 1, 1, 1);
     let f = floors::booked(empty, 0, 5, 0, 0);
     let beside = floors::booked(f, 0, 6, 40, 0);
@@ -42,6 +49,7 @@ fn bookings(t: Tally) -> Tally {
         0,
     ];
     let next = trial(
+        rt,
         t,
         b"beside (0, 0): (39, 39) is 34, (40, 0) accepted",
         gave,
@@ -55,7 +63,13 @@ fn bookings(t: Tally) -> Tally {
         0,
         0,
     ];
-    trial(next, b"a = 70 accepted, 71 is 7", edge, [0, 7, 0, 0, 0, 0])
+    trial(
+        rt,
+        next,
+        b"a = 70 accepted, 71 is 7",
+        edge,
+        [0, 7, 0, 0, 0, 0],
+    )
 }
 
 fn fresh_refusal(s: Settings) -> u64 {
@@ -71,10 +85,11 @@ fn short(length: u16) -> Settings {
     s
 }
 
-fn measures(t: Tally) -> Tally {
+fn measures(rt: &impl Print, t: Tally) -> Tally {
     let v29 = fresh_refusal(floors::settings(2, 1, 1, 1, 29));
     let v30 = fresh_refusal(floors::settings(2, 1, 1, 1, 30));
     let next = trial(
+        rt,
         t,
         b"v 29 accepted, v 30 is 3",
         [v29, v30, 0, 0, 0, 0],
@@ -83,6 +98,7 @@ fn measures(t: Tally) -> Tally {
     let l20 = fresh_refusal(short(20));
     let l21 = fresh_refusal(short(21));
     trial(
+        rt,
         next,
         b"v 10, r 0: l 20 is 3, l 21 accepted",
         [l20, l21, 0, 0, 0, 0],
@@ -90,10 +106,11 @@ fn measures(t: Tally) -> Tally {
     )
 }
 
-fn westward(t: Tally) -> Tally {
+fn westward(rt: &impl Print, t: Tally) -> Tally {
     let f = floors::booked(floors::fresh(3, 1, 0, 6), 2, 5, 5, 0);
     let gave = [floors::first(f, 2, 1), floors::held(f, 2, 2), 0, 0, 0, 0];
     trial(
+        rt,
         t,
         b"W 3, hopper 0: after two rounds on tile 1 at (70, 0)",
         gave,
@@ -101,7 +118,7 @@ fn westward(t: Tally) -> Tally {
     )
 }
 
-fn distances(t: Tally) -> Tally {
+fn distances(rt: &impl Print, t: Tally) -> Tally {
     let f = floors::rounds(floors::fresh(4, 1, 0, 14), 3);
     let settled = [
         floors::distance(f, 0, 0),
@@ -112,6 +129,7 @@ fn distances(t: Tally) -> Tally {
         0,
     ];
     let next = trial(
+        rt,
         t,
         b"W 4, hopper 0: settled distances 0, 1, 2, 3",
         settled,
@@ -128,6 +146,7 @@ fn distances(t: Tally) -> Tally {
         floors::distance(cut, 2, 3),
     ];
     trial(
+        rt,
         next,
         b"tile 1 stopped: none and 3, then none and none",
         gave,
@@ -135,10 +154,11 @@ fn distances(t: Tally) -> Tally {
     )
 }
 
-fn ties_and_turns(t: Tally) -> Tally {
+fn ties_and_turns(rt: &impl Print, t: Tally) -> Tally {
     let square = floors::fresh(2, 2, 3, 7);
     let north = floors::arrow(square, 3, 0);
     let next = trial(
+        rt,
         t,
         b"W 2, H 2, hopper 3: tile 0's arrow is north",
         [north, 0, 0, 0, 0, 0],
@@ -148,6 +168,7 @@ fn ties_and_turns(t: Tally) -> Tally {
     let both = floors::booked(f, 2, 6, 0, 0);
     let gave = [floors::grant(both, 0), floors::grant(both, 1), 0, 0, 0, 0];
     trial(
+        rt,
         next,
         b"W 3, hopper 1: grants west, then east",
         gave,
@@ -156,10 +177,11 @@ fn ties_and_turns(t: Tally) -> Tally {
 }
 
 // Document 02's [6].
-fn reasons(t: Tally) -> Tally {
+fn reasons(rt: &impl Print, t: Tally) -> Tally {
     let f = floors::booked(floors::fresh(3, 1, 1, 5), 0, 5, 0, 0);
     let both = floors::booked(f, 2, 6, 0, 0);
     let waited = trial(
+        rt,
         t,
         b"W 3, hopper 1: tile 0 moves, tile 2 waits for its turn",
         floors::stood(both, 0),
@@ -168,12 +190,14 @@ fn reasons(t: Tally) -> Tally {
     let g = floors::booked(floors::fresh(3, 1, 2, 3), 0, 5, 0, 0);
     let row = floors::booked(g, 1, 6, 0, 0);
     let early = trial(
+        rt,
         waited,
         b"W 3, hopper 2: tile 0 has no arrow yet",
         floors::stood(row, 0),
         [3, 6, 2, 0, 0, 0],
     );
     trial(
+        rt,
         early,
         b"then no gap, 20 missing",
         floors::stood(row, 1),
@@ -182,7 +206,7 @@ fn reasons(t: Tally) -> Tally {
 }
 
 // "The fresh W 2 floor has an image of 64 bytes"; by [9] one byte is still 9.
-fn image(t: Tally) -> Tally {
+fn image(rt: &impl Print, t: Tally) -> Tally {
     let f = floors::fresh(2, 1, 1, 1);
     let mut bytes = [7u8; 64];
     let one = image_calls::load(&bytes[..1]);
@@ -198,6 +222,7 @@ fn image(t: Tally) -> Tally {
         0,
     ];
     trial(
+        rt,
         t,
         b"W 2: an image of 64 bytes, one and three bytes are 9",
         gave,
@@ -206,12 +231,13 @@ fn image(t: Tally) -> Tally {
 }
 
 // [9]: "Zero bytes now load the standard floor, fresh: W 4, H 4, hopper 10, fill tile 4, U 1,000, l 250, r 50, v 200."
-fn blank(t: Tally) -> Tally {
+fn blank(rt: &impl Print, t: Tally) -> Tally {
     let mut bytes = [7u8; 204];
     let empty = image_calls::load(&bytes[..0]);
     let s = empty.floor.settings;
     let written = image_calls::write(empty.floor, &mut bytes);
     let sets = trial(
+        rt,
         t,
         b"zero bytes load 4 x 4, hopper 10, fill tile 4",
         [
@@ -225,6 +251,7 @@ fn blank(t: Tally) -> Tally {
         [0, 4, 4, 1024, 16, 204],
     );
     trial(
+        rt,
         sets,
         b"with U 1000, l 250, r 50, v 200",
         [
@@ -239,14 +266,14 @@ fn blank(t: Tally) -> Tally {
     )
 }
 
-pub fn all(t: Tally) -> Tally {
-    let a = deliveries(t);
-    let b = bookings(a);
-    let c = measures(b);
-    let d = westward(c);
-    let e = distances(d);
-    let f = ties_and_turns(e);
-    let g = reasons(f);
-    let h = image(g);
-    blank(h)
+pub fn all(rt: &impl Print, t: Tally) -> Tally {
+    let a = deliveries(rt, t);
+    let b = bookings(rt, a);
+    let c = measures(rt, b);
+    let d = westward(rt, c);
+    let e = distances(rt, d);
+    let f = ties_and_turns(rt, e);
+    let g = reasons(rt, f);
+    let h = image(rt, g);
+    blank(rt, h)
 }

@@ -1,4 +1,6 @@
 // Trials of a barge through the compiled calls: every call on each floor, the allowance, and the other three floors.
+#![tactic(auto)]
+
 ghost use Rattle.std.specs.Prelude.{◌≤◌};
 
 use barge::Barge;
@@ -129,14 +131,16 @@ fn delivery(floor: u32) -> u64 {
 
 // Every call on each floor: accepted, and the other three are as they were. Bookings below the allowance, the others above
 // it.
-fn each(t: Tally) -> Tally {
+fn each(rt: &impl Print, t: Tally) -> Tally {
     let a = trial(
+        rt,
         t,
         b"a booking on each floor changes that floor alone",
         [booked(0), booked(1), booked(2), booked(3), 0, 0],
         [111, 1011, 1101, 1110, 0, 0],
     );
     let b = trial(
+        rt,
         a,
         b"a booking without a place, with the place told",
         [
@@ -157,6 +161,7 @@ fn each(t: Tally) -> Tally {
         ],
     );
     let c = trial(
+        rt,
         b,
         b"a stop; a second one is 31",
         [
@@ -170,6 +175,7 @@ fn each(t: Tally) -> Tally {
         [111, 1011, 1101, 1110, 31, 0],
     );
     let d = trial(
+        rt,
         c,
         b"a repair; of another floor's tile 32",
         [
@@ -183,6 +189,7 @@ fn each(t: Tally) -> Tally {
         [111, 1011, 1101, 1110, 32, 0],
     );
     trial(
+        rt,
         d,
         b"a round, with what that floor delivers",
         [
@@ -198,11 +205,12 @@ fn each(t: Tally) -> Tally {
 }
 
 // Three are aboard.
-fn limits(t: Tally) -> Tally {
+fn limits(rt: &impl Print, t: Tally) -> Tally {
     let c = canister(10, 0, 40);
     let at = some(3);
     let above = some(2);
     let a = trial(
+        rt,
         t,
         b"one below the allowance a booking of either sort is accepted; at it 50, on the empty floor too",
         [
@@ -216,6 +224,7 @@ fn limits(t: Tally) -> Tally {
         [0, 0, 50, 50, 50, 50],
     );
     let b = trial(
+        rt,
         a,
         b"above it 50 for bookings of either sort; stop, repair and round are as on a lone floor",
         [
@@ -229,6 +238,7 @@ fn limits(t: Tally) -> Tally {
         [50, 50, 0, 32, 0, 0],
     );
     trial(
+        rt,
         b,
         b"4, 5, 6, 33, 34 and 40 come before 50",
         [
@@ -243,7 +253,7 @@ fn limits(t: Tally) -> Tally {
     )
 }
 
-fn delivered(t: Tally) -> Tally {
+fn delivered(rt: &impl Print, t: Tally) -> Tally {
     let c = canister(10, 0, 40);
     let full = near(4);
     let answer = barge_calls::round(full, 2);
@@ -251,6 +261,7 @@ fn delivered(t: Tally) -> Tally {
     let more = barge_calls::book(fewer, 1, 0, c);
     let again = more.barge;
     trial(
+        rt,
         t,
         b"four aboard, four allowed: 50; after a delivery a booking is accepted, the next is 50",
         [
@@ -265,12 +276,13 @@ fn delivered(t: Tally) -> Tally {
     )
 }
 
-fn wrong(t: Tally) -> Tally {
+fn wrong(rt: &impl Print, t: Tally) -> Tally {
     let c = canister(10, 0, 40);
     let b = some(9);
     let f = floors::fresh(2, 1, 1, 1);
     let none = zero_floor();
     let x = trial(
+        rt,
         t,
         b"a floor's number from 4 on is 49 and not cut; 30 comes before it",
         [
@@ -284,6 +296,7 @@ fn wrong(t: Tally) -> Tally {
         [49, 49, 49, 49, 49, 30],
     );
     let y = trial(
+        rt,
         x,
         b"an allowance of 0 and of 4,033 is 30, of 1 and of 4,032 is not",
         [
@@ -297,6 +310,7 @@ fn wrong(t: Tally) -> Tally {
         [30, 0, 0, 30, 30, 30],
     );
     trial(
+        rt,
         y,
         b"one malformed floor is 30, whichever it is and whichever is named",
         [
@@ -311,11 +325,11 @@ fn wrong(t: Tally) -> Tally {
     )
 }
 
-fn main() {
+fn main(rt: HostRuntime) {
     let start = Tally { good: 0, bad: 0 };
-    let a = each(start);
-    let b = limits(a);
-    let c = delivered(b);
-    let d = wrong(c);
-    trials_tally::end(d);
+    let a = each(&rt, start);
+    let b = limits(&rt, a);
+    let c = delivered(&rt, b);
+    let d = wrong(&rt, c);
+    trials_tally::end(&rt, d);
 }

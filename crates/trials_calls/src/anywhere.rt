@@ -14,15 +14,17 @@ fn three(f: Floor) -> [u64; 6] {
 }
 
 // The lowest b, then the lowest a.
-fn places(t: Tally) -> Tally {
+fn places(rt: &impl Print, t: Tally) -> Tally {
     let empty = floors::fresh(2, 1, 1, 1);
     let next = trial(
+        rt,
         t,
         b"without a place: (0, 0) on an empty tile, then (40, 0), then (0, 40)",
         three(empty),
         [0, place(5, 0, 0), 0, place(6, 40, 0), 0, place(7, 0, 40)],
     );
     trial(
+        rt,
         next,
         b"beside (31, 5): (0, 45), then (40, 45), then 40",
         three(floors::booked(empty, 0, 4, 31, 5)),
@@ -31,7 +33,7 @@ fn places(t: Tally) -> Tally {
 }
 
 // The place found holds the canister, and the tile counts it.
-fn held(t: Tally) -> Tally {
+fn held(rt: &impl Print, t: Tally) -> Tally {
     let f = floors::anywhere(
         floors::booked(floors::fresh(2, 1, 1, 1), 0, 4, 35, 30),
         0,
@@ -40,6 +42,7 @@ fn held(t: Tally) -> Tally {
     let full = floors::booked(floors::fresh(2, 1, 1, 1), 0, 4, 35, 35);
     let none = floors::found(full, 0, 5);
     trial(
+        rt,
         t,
         b"a place at b = U - l; beside (35, 35) there is none, 40",
         [
@@ -55,7 +58,7 @@ fn held(t: Tally) -> Tally {
 }
 
 // 4, 5, 6, 31, 33, 40, each where the next holds too.
-fn refusals(t: Tally) -> Tally {
+fn refusals(rt: &impl Print, t: Tally) -> Tally {
     let f = floors::booked(floors::fresh(2, 1, 1, 1), 0, 4, 35, 35);
     let answer = calls::stop(f, 0);
     let stopped = answer.floor;
@@ -66,6 +69,7 @@ fn refusals(t: Tally) -> Tally {
     let past = floors::found(f, 0, 4);
     let near = floors::found(f, 0, 5);
     trial(
+        rt,
         t,
         b"without a place: 4, 5, 6, 31, 33, 40 in this order",
         [off[0], hopper[0], zero[0], idle[0], past[0], near[0]],
@@ -85,7 +89,7 @@ fn fifteen(f: Floor) -> Floor {
 }
 
 // A tile is filled with sixteen, place by place; the seventeenth is 40.
-fn sixteen(t: Tally) -> Tally {
+fn sixteen(rt: &impl Print, t: Tally) -> Tally {
     let mut s = floors::settings(2, 1, 1, 1, 20);
     s.length = 21;
     s.gap = 0;
@@ -96,6 +100,7 @@ fn sixteen(t: Tally) -> Tally {
     let full = floors::anywhere(f, 0, 16);
     let none = floors::found(full, 0, 17);
     trial(
+        rt,
         t,
         b"l 21, r 0: the sixteenth at (63, 63), the next is 40",
         [
@@ -110,6 +115,6 @@ fn sixteen(t: Tally) -> Tally {
     )
 }
 
-pub fn all(t: Tally) -> Tally {
-    sixteen(refusals(held(places(t))))
+pub fn all(rt: &impl Print, t: Tally) -> Tally {
+    sixteen(rt, refusals(rt, held(rt, places(rt, t))))
 }

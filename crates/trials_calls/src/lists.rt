@@ -48,12 +48,13 @@ fn answers(list: [Booking; 64]) -> [u64; 6] {
 }
 
 // W 2, hopper 1.
-fn six(t: Tally) -> Tally {
+fn six(rt: &impl Print, t: Tally) -> Tally {
     let f = floors::fresh(2, 1, 1, 1);
     let made = calls::book_places(f, mixed(), 6);
     let list = made.list;
     let gave = answers(list);
     trial(
+        rt,
         t,
         b"a list of six: 34, 33 and 5 between accepted ones",
         gave,
@@ -61,7 +62,7 @@ fn six(t: Tally) -> Tally {
     )
 }
 
-fn floor_of_six(t: Tally) -> Tally {
+fn floor_of_six(rt: &impl Print, t: Tally) -> Tally {
     let f = floors::fresh(2, 1, 1, 1);
     let made = calls::book_places(f, mixed(), 6);
     let g = made.floor;
@@ -77,6 +78,7 @@ fn floor_of_six(t: Tally) -> Tally {
         spare.answer as u64,
     ];
     trial(
+        rt,
         t,
         b"its floor: canisters 5, 6 and 8",
         gave,
@@ -102,9 +104,10 @@ fn last(f: Floor, n: usize) -> [u64; 6] {
     ]
 }
 
-fn longest(t: Tally) -> Tally {
+fn longest(rt: &impl Print, t: Tally) -> Tally {
     let f = floors::fresh(2, 1, 1, 1);
     trial(
+        rt,
         t,
         b"64 entries: one booked, the others 33",
         last(f, 64),
@@ -112,9 +115,10 @@ fn longest(t: Tally) -> Tally {
     )
 }
 
-fn too_long(t: Tally) -> Tally {
+fn too_long(rt: &impl Print, t: Tally) -> Tally {
     let f = floors::fresh(2, 1, 1, 1);
     trial(
+        rt,
         t,
         b"65 entries: 42, and no answer written",
         last(f, 65),
@@ -122,6 +126,6 @@ fn too_long(t: Tally) -> Tally {
     )
 }
 
-pub fn all(t: Tally) -> Tally {
-    too_long(longest(floor_of_six(six(t))))
+pub fn all(rt: &impl Print, t: Tally) -> Tally {
+    too_long(rt, longest(rt, floor_of_six(rt, six(rt, t))))
 }

@@ -3,7 +3,7 @@ use trials_tally::floors::wide;
 use trials_tally::{Tally, floors, trial};
 
 // The request's example, in a buffer with two bytes more.
-fn fresh(t: Tally) -> Tally {
+fn fresh(rt: &impl Print, t: Tally) -> Tally {
     let f = floors::fresh(2, 1, 1, 1);
     let mut bytes = [b'.'; 20];
     let written = page_call::page(f, &mut bytes);
@@ -16,6 +16,7 @@ fn fresh(t: Tally) -> Tally {
         0,
     ];
     trial(
+        rt,
         t,
         b"W 2: the page of 18 bytes, the two bytes after it stay",
         gave,
@@ -23,7 +24,7 @@ fn fresh(t: Tally) -> Tally {
     )
 }
 
-fn short(t: Tally) -> Tally {
+fn short(rt: &impl Print, t: Tally) -> Tally {
     let f = floors::fresh(2, 1, 1, 1);
     let mut bytes = [b'.'; 17];
     let written = page_call::page(f, &mut bytes);
@@ -36,6 +37,7 @@ fn short(t: Tally) -> Tally {
         0,
     ];
     trial(
+        rt,
         t,
         b"W 2: a buffer of 17 bytes is 43",
         gave,
@@ -44,7 +46,7 @@ fn short(t: Tally) -> Tally {
 }
 
 // Settled, then tile 1, in the north-west, stopped, and a canister on tile 0, in the south-west.
-fn square(t: Tally) -> Tally {
+fn square(rt: &impl Print, t: Tally) -> Tally {
     let f = floors::rounds(floors::fresh(2, 2, 3, 7), 3);
     let answer = calls::stop(f, 1);
     let stopped = answer.floor;
@@ -60,6 +62,7 @@ fn square(t: Tally) -> Tally {
         0,
     ];
     trial(
+        rt,
         t,
         b"W 2, H 2, tile 1 stopped: the page has the north row first",
         gave,
@@ -67,8 +70,8 @@ fn square(t: Tally) -> Tally {
     )
 }
 
-pub fn all(t: Tally) -> Tally {
-    let a = fresh(t);
-    let b = short(a);
-    square(b)
+pub fn all(rt: &impl Print, t: Tally) -> Tally {
+    let a = fresh(rt, t);
+    let b = short(rt, a);
+    square(rt, b)
 }

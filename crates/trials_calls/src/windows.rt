@@ -24,12 +24,13 @@ fn of(rate: f64) -> u64 {
     throughput::deliveries_of(rate) as u64
 }
 
-fn first(t: Tally) -> Tally {
+fn first(rt: &impl Print, t: Tally) -> Tally {
     let none = throughput::empty();
     let open = fed(none, 1, 255);
     let closed = throughput::feed_values(open.throughput, 1);
     let r = closed.throughput;
     let next = trial(
+        rt,
         t,
         b"throughput: 255 rounds are open, the 256th closes with rate 1",
         [
@@ -45,6 +46,7 @@ fn first(t: Tally) -> Tally {
     let least = after(r, 0, 256);
     let most = after(least, 4, 256);
     trial(
+        rt,
         next,
         b"throughput: the first close sets all three; then none, then four a round",
         [
@@ -87,8 +89,9 @@ fn window(rounds: u16, deliveries: u16) -> Throughput {
     r
 }
 
-fn refusals(t: Tally) -> Tally {
+fn refusals(rt: &impl Print, t: Tally) -> Tally {
     let next = trial(
+        rt,
         t,
         b"throughput: 41 for 5, 260 and 65540, 30 before it and by the open window",
         [
@@ -102,6 +105,7 @@ fn refusals(t: Tally) -> Tally {
         [411, 411, 301, 301, 0, 411],
     );
     trial(
+        rt,
         next,
         b"throughput: 30 for -0, 1/512, 1025/256, 5, a rate before the first close; 1/256 accepted",
         [
@@ -117,7 +121,7 @@ fn refusals(t: Tally) -> Tally {
 }
 
 // A floor, and the record that follows its first hopper.
-#[derive(Drop)]
+#[derive(Clone, Copy)]
 struct Following {
     floor: Floor,
     throughput: Throughput,
@@ -151,11 +155,12 @@ fn followed(f: Floor, n: u16) -> Throughput {
     s.throughput
 }
 
-fn joined(t: Tally) -> Tally {
+fn joined(rt: &impl Print, t: Tally) -> Tally {
     let one = floors::booked(floors::fresh(2, 1, 1, 1), 0, 5, 0, 0);
     let two = floors::booked(one, 0, 6, 0, 40);
     let r = followed(two, 260);
     trial(
+        rt,
         t,
         b"W 2, two canisters: a window of 256 rounds with 2 deliveries, then 4 rounds",
         [
@@ -170,8 +175,8 @@ fn joined(t: Tally) -> Tally {
     )
 }
 
-pub fn all(t: Tally) -> Tally {
-    let a = first(t);
-    let b = refusals(a);
-    joined(b)
+pub fn all(rt: &impl Print, t: Tally) -> Tally {
+    let a = first(rt, t);
+    let b = refusals(rt, a);
+    joined(rt, b)
 }

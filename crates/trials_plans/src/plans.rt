@@ -57,8 +57,9 @@ fn pair(a: Entry, b: Entry) -> Plan {
     plan_of(2, a, b, a, a)
 }
 
-fn unsound(t: Tally) -> Tally {
+fn unsound(rt: &impl Print, t: Tally) -> Tally {
     trial(
+        rt,
         t,
         b"30 from every call: 65 entries, a predecessor waiting or booked, one of two such labels, a number twice, an entry after itself",
         [
@@ -85,8 +86,9 @@ fn unsound(t: Tally) -> Tally {
     )
 }
 
-fn misfit(t: Tally) -> Tally {
+fn misfit(rt: &impl Print, t: Tally) -> Tally {
     trial(
+        rt,
         t,
         b"47 from every call: a label twice, 0, 65, a predecessor absent, not lower, a delivered entry after itself",
         [
@@ -101,8 +103,9 @@ fn misfit(t: Tally) -> Tally {
     )
 }
 
-fn offers(t: Tally) -> Tally {
+fn offers(rt: &impl Print, t: Tally) -> Tally {
     trial(
+        rt,
         t,
         b"offered: the lowest that is ready; none while its predecessor is booked, and at the end",
         [
@@ -128,7 +131,7 @@ fn seventh() -> Floor {
     floors::booked(floors::fresh(2, 1, 1, 1), 0, 7, 35, 35)
 }
 
-fn unready(t: Tally) -> Tally {
+fn unready(rt: &impl Print, t: Tally) -> Tally {
     let p = plan_of(
         4,
         waiting(1, 0, 0),
@@ -138,6 +141,7 @@ fn unready(t: Tally) -> Tally {
     );
     let f = seventh();
     trial(
+        rt,
         t,
         b"release: 48 for a label that waits for another, is booked, delivered, or in no entry, 257 too",
         [
@@ -159,11 +163,12 @@ fn on_tile(tile: u32) -> Plan {
     pair(e, waiting(2, 1, 0))
 }
 
-fn bookings(t: Tally) -> Tally {
+fn bookings(rt: &impl Print, t: Tally) -> Tally {
     let f = seventh();
     let stop = calls::stop(f, 0);
     let stopped = stop.floor;
     trial(
+        rt,
         t,
         b"release: 4, 5, 31 and 40 of its booking; 33 with no number left, before 40",
         [
@@ -182,7 +187,7 @@ fn bookings(t: Tally) -> Tally {
     )
 }
 
-fn numbers(t: Tally) -> Tally {
+fn numbers(rt: &impl Print, t: Tally) -> Tally {
     let f = seventh();
     let zero = pair(waiting(1, 0, 0), entry(2, 0, 0, 1, 0));
     let above = pair(waiting(1, 0, 0), entry(2, 0, 0, 1, 8));
@@ -191,6 +196,7 @@ fn numbers(t: Tally) -> Tally {
     malformed.settings.gap = 0;
     malformed.settings.rows = 9;
     trial(
+        rt,
         t,
         b"release: 30 for a booked number 0 or above the last, and on a malformed floor; an offer and a report take them",
         [
@@ -213,10 +219,11 @@ fn marked(p: Plan, given: Report) -> u64 {
     told(es[0]) * 1000 + told(es[1])
 }
 
-fn reports(t: Tally) -> Tally {
+fn reports(rt: &impl Print, t: Tally) -> Tally {
     let p = pair(entry(1, 0, 0, 1, 5), entry(2, 0, 0, 9, 6));
     let none = pair(entry(1, 0, 0, 1, 0), entry(2, 0, 0, 0, 6));
     trial(
+        rt,
         t,
         b"report: what it lists is marked, not what stands behind its count, nor zero filling, nor an entry that waits; five for a hopper are 30",
         [
@@ -231,9 +238,9 @@ fn reports(t: Tally) -> Tally {
     )
 }
 
-pub fn all(t: Tally) -> Tally {
-    let a = misfit(unsound(t));
-    let b = unready(offers(a));
-    let c = numbers(bookings(b));
-    reports(c)
+pub fn all(rt: &impl Print, t: Tally) -> Tally {
+    let a = misfit(rt, unsound(rt, t));
+    let b = unready(rt, offers(rt, a));
+    let c = numbers(rt, bookings(rt, b));
+    reports(rt, c)
 }

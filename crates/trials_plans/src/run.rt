@@ -46,7 +46,7 @@ pub fn diamond() -> Plan {
 }
 
 // The plan, the floor, and the labels released so far as decimals.
-#[derive(Drop)]
+#[derive(Clone, Copy)]
 pub struct Run {
     pub floor: Floor,
     pub plan: Plan,
@@ -118,19 +118,21 @@ fn shown(r: Run) -> [u64; 6] {
     ]
 }
 
-pub fn all(t: Tally) -> Tally {
+pub fn all(rt: &impl Print, t: Tally) -> Tally {
     let start = Run {
         floor: floors::fresh(2, 1, 1, 1),
         plan: diamond(),
         released: 0,
     };
     let a = trial(
+        rt,
         t,
         b"a plan of four: 1 alone is released first",
         shown(steps(start, 2)),
         [1, 0, 0, 101, 0, 0],
     );
     trial(
+        rt,
         a,
         b"run to its end: 1, then 2 and 3, then 4, all delivered",
         shown(steps(start, 60)),

@@ -31,7 +31,7 @@ fn came(f: Floor, n: u8, k: usize) -> u64
 }
 
 // No hopper passes anything on to the one beside it.
-fn beside(t: Tally) -> Tally {
+fn beside(rt: &impl Print, t: Tally) -> Tally {
     let one = floors::booked(fresh(4, 1, 6, 9), 0, 5, 0, 0);
     let f = floors::booked(one, 3, 6, 10, 0);
     let gave = [
@@ -43,6 +43,7 @@ fn beside(t: Tally) -> Tally {
         due(f, 0, 1),
     ];
     trial(
+        rt,
         t,
         b"W 4, hoppers 1 and 2: each takes from its side",
         gave,
@@ -50,7 +51,7 @@ fn beside(t: Tally) -> Tally {
     )
 }
 
-fn between(t: Tally) -> Tally {
+fn between(rt: &impl Print, t: Tally) -> Tally {
     let row = floors::booked(fresh(3, 1, 5, 2), 1, 5, 30, 30);
     let column = floors::booked(fresh(1, 3, 5, 2), 1, 5, 30, 30);
     let gave = [
@@ -62,6 +63,7 @@ fn between(t: Tally) -> Tally {
         came(column, 2, 1),
     ];
     trial(
+        rt,
         t,
         b"between hoppers 0 and 2: west in a row, south in a column",
         gave,
@@ -69,7 +71,7 @@ fn between(t: Tally) -> Tally {
     )
 }
 
-fn together(t: Tally) -> Tally {
+fn together(rt: &impl Print, t: Tally) -> Tally {
     let one = floors::booked(fresh(4, 1, 9, 6), 1, 5, 70, 0);
     let f = floors::booked(one, 2, 6, 0, 0);
     let gave = [
@@ -81,6 +83,7 @@ fn together(t: Tally) -> Tally {
         came(f, 4, 1),
     ];
     trial(
+        rt,
         t,
         b"W 4, hoppers 0 and 3: round 4 delivers at both",
         gave,
@@ -88,7 +91,7 @@ fn together(t: Tally) -> Tally {
     )
 }
 
-fn nothing_else(t: Tally) -> Tally {
+fn nothing_else(rt: &impl Print, t: Tally) -> Tally {
     let all = floors::several(2, 2, 15, 0);
     let filled = floors::several(2, 2, 15, 8);
     let f = all.floor;
@@ -103,6 +106,7 @@ fn nothing_else(t: Tally) -> Tally {
         floors::distance(f, 1, 3),
     ];
     trial(
+        rt,
         t,
         b"W 2, H 2, four hoppers: a fill tile is 2, a booking 5, a stop 8",
         gave,
@@ -111,7 +115,7 @@ fn nothing_else(t: Tally) -> Tally {
 }
 
 // Tile 2 is as near to both. Canister 5 heads west until tile 1 stops.
-fn cut_off(t: Tally) -> Tally {
+fn cut_off(rt: &impl Print, t: Tally) -> Tally {
     let f = floors::booked(fresh(5, 1, 17, 14), 2, 5, 30, 0);
     let answer = calls::stop(floors::rounds(f, 2), 1);
     let cut = answer.floor;
@@ -124,6 +128,7 @@ fn cut_off(t: Tally) -> Tally {
         came(cut, 8, 1),
     ];
     trial(
+        rt,
         t,
         b"W 5, hoppers 0 and 4: tile 1 stopped, 5 is delivered at 4",
         gave,
@@ -132,7 +137,7 @@ fn cut_off(t: Tally) -> Tally {
 }
 
 // 5 was delivered to hopper 0, 6 is still on tile 1.
-fn image(t: Tally) -> Tally {
+fn image(rt: &impl Print, t: Tally) -> Tally {
     let one = floors::booked(fresh(3, 1, 5, 2), 1, 5, 10, 0);
     let f = floors::rounds(floors::booked(one, 1, 6, 60, 40), 1);
     let mut bytes = [7u8; 94];
@@ -150,6 +155,7 @@ fn image(t: Tally) -> Tally {
         floors::first(loaded, 1, 1),
     ];
     trial(
+        rt,
         t,
         b"W 3, hoppers 0 and 2: an image of 94 bytes, loaded again",
         gave,
@@ -157,11 +163,11 @@ fn image(t: Tally) -> Tally {
     )
 }
 
-pub fn all(t: Tally) -> Tally {
-    let a = beside(t);
-    let b = between(a);
-    let c = together(b);
-    let d = nothing_else(c);
-    let e = cut_off(d);
-    image(e)
+pub fn all(rt: &impl Print, t: Tally) -> Tally {
+    let a = beside(rt, t);
+    let b = between(rt, a);
+    let c = together(rt, b);
+    let d = nothing_else(rt, c);
+    let e = cut_off(rt, d);
+    image(rt, e)
 }

@@ -57,7 +57,7 @@ fn row() -> Floor {
 }
 
 // Tile 1 stops under B. A recall of A repairs it: it runs, its arrow is none; tile 2 keeps its own.
-fn again(t: Tally) -> Tally {
+fn again(rt: &impl Print, t: Tally) -> Tally {
     let f = stopped(kept(row(), 65), 1);
     let g = recalled(kept(f, 66), 65);
     let gave = [
@@ -69,6 +69,7 @@ fn again(t: Tally) -> Tally {
         floors::distance(g, 1, 1),
     ];
     trial(
+        rt,
         t,
         b"A keeps all, B all but tile 1: each recalled",
         gave,
@@ -77,7 +78,7 @@ fn again(t: Tally) -> Tally {
 }
 
 // Canisters and counters never go back: 5 has moved on and 6 is booked since A was kept.
-fn onward(t: Tally) -> Tally {
+fn onward(rt: &impl Print, t: Tally) -> Tally {
     let f = floors::booked(floors::rounds(kept(row(), 65), 2), 0, 6, 0, 40);
     let g = recalled(stopped(f, 1), 65);
     let counters = g.counters;
@@ -90,6 +91,7 @@ fn onward(t: Tally) -> Tally {
         recalling(g, name(65)),
     ];
     trial(
+        rt,
         t,
         b"a recall leaves canisters and counters",
         gave,
@@ -103,7 +105,7 @@ fn full(f: Floor) -> Floor {
     kept(kept(kept(kept(a, 68), 67), 66), 65)
 }
 
-fn numbers(t: Tally) -> Tally {
+fn numbers(rt: &impl Print, t: Tally) -> Tally {
     let f = full(row());
     let bad = Name {
         letters: [65, 0, 66, 0, 0, 0, 0, 0],
@@ -117,6 +119,7 @@ fn numbers(t: Tally) -> Tally {
         keeping(f, name(72)),
     ];
     trial(
+        rt,
         t,
         b"layouts: bad names 44, not held 45, a ninth 46",
         gave,
@@ -125,7 +128,7 @@ fn numbers(t: Tally) -> Tally {
 }
 
 // B is kept first, then A, which stands before it; A is replaced, then forgotten.
-fn order(t: Tally) -> Tally {
+fn order(rt: &impl Print, t: Tally) -> Tally {
     let f = kept(kept(row(), 66), 65);
     let g = kept(stopped(f, 1), 65);
     let h = forgotten(g, 65);
@@ -138,6 +141,7 @@ fn order(t: Tally) -> Tally {
         second(h),
     ];
     trial(
+        rt,
         t,
         b"layouts by rising name: kept, replaced, forgotten",
         gave,
@@ -146,7 +150,7 @@ fn order(t: Tally) -> Tally {
 }
 
 // A place is free again.
-fn freed(t: Tally) -> Tally {
+fn freed(rt: &impl Print, t: Tally) -> Tally {
     let f = full(row());
     let g = forgotten(f, 68);
     let h = kept(g, 73);
@@ -159,6 +163,7 @@ fn freed(t: Tally) -> Tally {
         second(h),
     ];
     trial(
+        rt,
         t,
         b"layouts: forgetting one of eight frees its place",
         gave,
@@ -167,7 +172,7 @@ fn freed(t: Tally) -> Tally {
 }
 
 // The floor of 94 bytes with two hoppers, and two layouts of 20 bytes each.
-fn image(t: Tally) -> Tally {
+fn image(rt: &impl Print, t: Tally) -> Tally {
     let fresh = floors::several(3, 1, 5, 2);
     let one = floors::booked(fresh.floor, 1, 5, 10, 0);
     let f = floors::rounds(floors::booked(one, 1, 6, 60, 40), 1);
@@ -187,6 +192,7 @@ fn image(t: Tally) -> Tally {
         second(loaded),
     ];
     trial(
+        rt,
         t,
         b"two layouts: an image of 134 bytes, loaded again",
         gave,
@@ -194,11 +200,11 @@ fn image(t: Tally) -> Tally {
     )
 }
 
-pub fn all(t: Tally) -> Tally {
-    let a = again(t);
-    let b = onward(a);
-    let c = numbers(b);
-    let d = order(c);
-    let e = freed(d);
-    image(e)
+pub fn all(rt: &impl Print, t: Tally) -> Tally {
+    let a = again(rt, t);
+    let b = onward(rt, a);
+    let c = numbers(rt, b);
+    let d = order(rt, c);
+    let e = freed(rt, d);
+    image(rt, e)
 }

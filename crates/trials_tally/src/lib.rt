@@ -1,29 +1,29 @@
 // What the programs that try the calls share: one line for each trial, how many went as they should, and floors made through
 // the calls.
+#![tactic(auto)]
+
 pub mod floors;
 
-use libc::STDOUT_FILENO;
-
-#[derive(Drop)]
+#[derive(Clone, Copy)]
 pub struct Tally {
     pub good: u32,
     pub bad: u32,
 }
 
-pub fn text(s: &[u8]) {
-    io::write_all(STDOUT_FILENO, s);
+pub fn text(rt: &impl Print, s: &[u8]) {
+    let _ = rt.write_all(s);
 }
 
-pub fn number(n: u64) {
-    io::print_decimal(STDOUT_FILENO, n);
+pub fn number(rt: &impl Print, n: u64) {
+    let _ = rt.print(n);
 }
 
 // Six numbers on a line.
-fn list(xs: [u64; 6]) {
+fn list(rt: &impl Print, xs: [u64; 6]) {
     let mut k: usize = 0;
     while k < 6 {
-        text(b" ");
-        number(xs[k]);
+        text(rt, b" ");
+        number(rt, xs[k]);
         k += 1;
     }
 }
@@ -63,25 +63,25 @@ pub fn count(t: Tally, ok: bool) -> Tally {
 }
 
 // A trial: its name, what it gave and what was due.
-pub fn trial(t: Tally, name: &[u8], gave: [u64; 6], due: [u64; 6]) -> Tally {
-    text(name);
+pub fn trial(rt: &impl Print, t: Tally, name: &[u8], gave: [u64; 6], due: [u64; 6]) -> Tally {
+    text(rt, name);
     let ok = same(gave, due);
     if ok {
-        text(b": ok\n");
+        text(rt, b": ok\n");
     } else {
-        text(b": gave");
-        list(gave);
-        text(b", due");
-        list(due);
-        text(b"\n");
+        text(rt, b": gave");
+        list(rt, gave);
+        text(rt, b", due");
+        list(rt, due);
+        text(rt, b"\n");
     }
     count(t, ok)
 }
 
-pub fn end(t: Tally) {
-    text(b"trials: ");
-    number(t.good as u64);
-    text(b" ok, ");
-    number(t.bad as u64);
-    text(b" differ\n");
+pub fn end(rt: &impl Print, t: Tally) {
+    text(rt, b"trials: ");
+    number(rt, t.good as u64);
+    text(rt, b" ok, ");
+    number(rt, t.bad as u64);
+    text(rt, b" differ\n");
 }

@@ -1,0 +1,20 @@
+use native.Mathlib.Omega.{arith}
+use Rattle.floor.proofs.Sized.{tiles_length}
+use Rattle.floor.proofs.Pack.{below_64}
+use Rattle.call_parts.proofs.Packed.{repaired_pack}
+use Rattle.call_parts.proofs.Tests.{repair_on_lem}
+use Rattle.call_parts.proofs.repaired_floor.Goals as goal
+
+pub tile_head-idle-requires : goal.tile_head-idle-requires
+tile_head-idle-requires c = let g = c.args in (c.requires.0, repair_on_lem g.floor g.tile c.requires.1)
+
+pub bounds-after-t : goal.bounds-after-t
+bounds-after-t c = let g = c.args in
+    let p = c.requires in
+    omega (arith, below_64 g.floor g.tile p.0 (repair_on_lem g.floor g.tile p.1), tiles_length g.floor _ c.well_formed.0)
+
+pub returns : goal.returns
+returns c = let g = c.args in
+    let p = c.requires in
+    let h = c.tile_head-idle in
+    repaired_pack g.floor g.tile p.0 (repair_on_lem g.floor g.tile p.1) h.result h.ensures
