@@ -21,8 +21,9 @@ impl Terminal {
     fn new(setting: &str) -> Terminal {
         let room = Room::new();
         let program = env!("CARGO_BIN_EXE_ceromby");
+        // exec: a shell that stays would get the Ctrl-C too, and dash then ends with 130
         let command =
-            format!("env --default-signal=INT -u NO_COLOR TERM=xterm {setting} '{program}'");
+            format!("exec env --default-signal=INT -u NO_COLOR TERM=xterm {setting} '{program}'");
         let mut child = Command::new("script")
             .args(["-q", "-e", "-c", &command, "/dev/null"])
             .current_dir(&room.0)
