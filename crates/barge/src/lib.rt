@@ -3,18 +3,12 @@
 
 use floor::{Floor, Report};
 
-// "floor number not 0 to 3, after 30"
-pub const NO_FLOOR: u8 = 49;
-
-// "the total is at or above the allowance, checked last in a booking of either sort"
-pub const OVERLOADED: u8 = 50;
-
 // The greatest allowance.
 pub const MAX_ALLOWANCE: u32 = 4032;
 
 // Four floors, and how many canisters may be aboard. How many are is not stored: the floors have them.
 #[repr(C)]
-#[derive(Clone, Copy)]
+#[derive(Clone, Copy, PartialEq, Eq)]
 pub struct Barge {
     pub floors: [Floor; 4],
     pub allowance: u32,
@@ -22,7 +16,7 @@ pub struct Barge {
 
 // The answer of a booking, a stop and a repair: the refusal number, 0 where the call was accepted.
 #[repr(C)]
-#[derive(Clone, Copy)]
+#[derive(Clone, Copy, PartialEq, Eq)]
 pub struct BargeAnswer {
     pub barge: Barge,
     pub refusal: u8,
@@ -30,7 +24,7 @@ pub struct BargeAnswer {
 
 // The answer of a booking without a place: the place found; refused: zeros.
 #[repr(C)]
-#[derive(Clone, Copy)]
+#[derive(Clone, Copy, PartialEq, Eq)]
 pub struct BargePlaced {
     pub barge: Barge,
     pub a: u16,
@@ -40,7 +34,7 @@ pub struct BargePlaced {
 
 // The answer of a round, with the report of the floor that it named.
 #[repr(C)]
-#[derive(Clone, Copy)]
+#[derive(Clone, Copy, PartialEq, Eq)]
 pub struct BargeRounded {
     pub barge: Barge,
     pub report: Report,

@@ -5,12 +5,15 @@ ghost use Rattle.std.specs.Prelude.{◌≡◌};
 ghost use Rattle.barge.specs.Barges.{barge_book, barge_book_anywhere, barge_stop, barge_repair, barge_round};
 
 use barge::{Barge, BargeAnswer, BargePlaced, BargeRounded};
-use barge_parts::{begin, last_refusal};
+use barge_parts::{begin, test_allowance};
 use book_anywhere::anywhere_checked;
 use book_call::book_checked;
-use call_parts::{repair_refusal, repaired_floor, stop_refusal, stopped_floor};
+use call_parts::{repaired_floor, stopped_floor, test_repair, test_stop};
 use floor::{Canister, Report};
 use round_move::run_round;
+
+// The five calls share how they begin. What follows differs in the call, its definition and the type of the answer: one
+// function over them would take all three as parameters, and be no plainer.
 
 // Books a canister on a fill tile of one floor. The barge is copied once and has one way out: each further way costs another
 // copy of four floors.
@@ -19,23 +22,29 @@ pub fn book(barge: Barge, floor: u32, tile: u32, canister: Canister) -> BargeAns
 {
     let begun = begin(barge, floor);
     let mut changed = barge;
-    let mut number = begun.refusal;
-    if number == 0 {
-        let k = floor as usize;
-        let old = changed.floors[k];
-        let answer = book_checked(old, tile, canister, true);
-        number = answer.refusal;
-        if number == 0 {
-            number = last_refusal(begun.total, changed.allowance);
-            if number == 0 {
-                let booked = answer.floor;
-                changed.floors[k] = booked;
+    let refusal = match begun {
+        Ok(total) => {
+            let k = floor as usize;
+            let old = changed.floors[k];
+            let answer = book_checked(old, tile, canister, true);
+            if answer.refusal == 0 {
+                match test_allowance(total, changed.allowance) {
+                    Ok(()) => {
+                        let booked = answer.floor;
+                        changed.floors[k] = booked;
+                        0
+                    }
+                    Err(why) => u8::from(why),
+                }
+            } else {
+                answer.refusal
             }
         }
-    }
+        Err(why) => u8::from(why),
+    };
     BargeAnswer {
         barge: changed,
-        refusal: number,
+        refusal,
     }
 }
 
@@ -45,29 +54,31 @@ pub fn book_anywhere(barge: Barge, floor: u32, tile: u32, number: u32) -> BargeP
 {
     let begun = begin(barge, floor);
     let mut changed = barge;
-    let mut refused = begun.refusal;
-    let mut a: u16 = 0;
-    let mut b: u16 = 0;
-    if refused == 0 {
-        let k = floor as usize;
-        let old = changed.floors[k];
-        let answer = anywhere_checked(old, tile, number, true);
-        refused = answer.refusal;
-        if refused == 0 {
-            refused = last_refusal(begun.total, changed.allowance);
-            if refused == 0 {
-                let placed = answer.floor;
-                changed.floors[k] = placed;
-                a = answer.a;
-                b = answer.b;
+    let (a, b, refusal) = match begun {
+        Ok(aboard) => {
+            let k = floor as usize;
+            let old = changed.floors[k];
+            let answer = anywhere_checked(old, tile, number, true);
+            if answer.refusal == 0 {
+                match test_allowance(aboard, changed.allowance) {
+                    Ok(()) => {
+                        let placed = answer.floor;
+                        changed.floors[k] = placed;
+                        (answer.a, answer.b, 0)
+                    }
+                    Err(why) => (0, 0, u8::from(why)),
+                }
+            } else {
+                (0, 0, answer.refusal)
             }
         }
-    }
+        Err(why) => (0, 0, u8::from(why)),
+    };
     BargePlaced {
         barge: changed,
-        a: a,
-        b: b,
-        refusal: refused,
+        a,
+        b,
+        refusal,
     }
 }
 
@@ -77,19 +88,24 @@ pub fn stop(barge: Barge, floor: u32, tile: u32) -> BargeAnswer
 {
     let begun = begin(barge, floor);
     let mut changed = barge;
-    let mut number = begun.refusal;
-    if number == 0 {
-        let k = floor as usize;
-        let old = changed.floors[k];
-        number = stop_refusal(old, tile);
-        if number == 0 {
-            let stopped = stopped_floor(old, tile);
-            changed.floors[k] = stopped;
+    let refusal = match begun {
+        Ok(_) => {
+            let k = floor as usize;
+            let old = changed.floors[k];
+            match test_stop(old, tile) {
+                Ok(()) => {
+                    let stopped = stopped_floor(old, tile);
+                    changed.floors[k] = stopped;
+                    0
+                }
+                Err(why) => u8::from(why),
+            }
         }
-    }
+        Err(why) => u8::from(why),
+    };
     BargeAnswer {
         barge: changed,
-        refusal: number,
+        refusal,
     }
 }
 
@@ -99,19 +115,24 @@ pub fn repair(barge: Barge, floor: u32, tile: u32) -> BargeAnswer
 {
     let begun = begin(barge, floor);
     let mut changed = barge;
-    let mut number = begun.refusal;
-    if number == 0 {
-        let k = floor as usize;
-        let old = changed.floors[k];
-        number = repair_refusal(old, tile);
-        if number == 0 {
-            let repaired = repaired_floor(old, tile);
-            changed.floors[k] = repaired;
+    let refusal = match begun {
+        Ok(_) => {
+            let k = floor as usize;
+            let old = changed.floors[k];
+            match test_repair(old, tile) {
+                Ok(()) => {
+                    let repaired = repaired_floor(old, tile);
+                    changed.floors[k] = repaired;
+                    0
+                }
+                Err(why) => u8::from(why),
+            }
         }
-    }
+        Err(why) => u8::from(why),
+    };
     BargeAnswer {
         barge: changed,
-        refusal: number,
+        refusal,
     }
 }
 
@@ -122,18 +143,22 @@ pub fn round(barge: Barge, floor: u32) -> BargeRounded
     let begun = begin(barge, floor);
     let mut changed = barge;
     let mut report = Report::ZERO;
-    if begun.refusal == 0 {
-        let k = floor as usize;
-        let old = changed.floors[k];
-        let answer = run_round(old);
-        let moved = answer.floor;
-        changed.floors[k] = moved;
-        let given = answer.report;
-        report = given;
-    }
+    let refusal = match begun {
+        Ok(_) => {
+            let k = floor as usize;
+            let old = changed.floors[k];
+            let answer = run_round(old);
+            let moved = answer.floor;
+            changed.floors[k] = moved;
+            let given = answer.report;
+            report = given;
+            0
+        }
+        Err(why) => u8::from(why),
+    };
     BargeRounded {
         barge: changed,
-        report: report,
-        refusal: begun.refusal,
+        report,
+        refusal,
     }
 }

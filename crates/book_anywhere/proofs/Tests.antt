@@ -8,6 +8,9 @@ use native.Mathlib.Omega.{arith}
 use lib.Dec.{leb, ltb, eqb}
 use borrow.Author.Tests.{le-leb, leb-false, lt-ltb, le-ltb, not-false}
 use Rattle.laws.specs.Define.{bit, refusal}
+use Rattle.floor.specs.declared.refusal.Refusal.{Refusal}
+use Rattle.floor.specs.declared.refusal.Refusal.TheVariants as R
+use Rattle.floor.specs.Numbers.{refusal_number}
 use Rattle.floor.specs.declared.Canister.{Canister}
 use Rattle.floor.specs.declared.Settings.{Settings}
 use Rattle.floor.specs.Settings.{total, spacing, span}
@@ -15,6 +18,37 @@ use Rattle.floor.specs.Well.{inside, apart}
 use Rattle.floor.specs.Calls.{booking_tests}
 use Rattle.floor.specs.Anywhere.{clear, lowest_b_of, place_a, place_b, placing_tests}
 use Rattle.floor.proofs.Lowest.{at, lowest_is, found}
+
+-- only one refusal has the number 34
+pub not_34 : (r : Refusal) → r ≢ R.TooClose → refusal_number r ≢ 34
+not_34 R.Grid d e = absurd (omega arith)
+not_34 R.Sets d e = absurd (omega arith)
+not_34 R.Measure d e = absurd (omega arith)
+not_34 R.NoTile d e = absurd (omega arith)
+not_34 R.NotASource d e = absurd (omega arith)
+not_34 R.NumberZero d e = absurd (omega arith)
+not_34 R.Outside d e = absurd (omega arith)
+not_34 R.StopOfHopper d e = absurd (omega arith)
+not_34 R.ImageEnds d e = absurd (omega arith)
+not_34 R.OtherKind d e = absurd (omega arith)
+not_34 R.RecordShape d e = absurd (omega arith)
+not_34 R.ImageMalformed d e = absurd (omega arith)
+not_34 R.ShortBuffer d e = absurd (omega arith)
+not_34 R.Malformed d e = absurd (omega arith)
+not_34 R.Stopped d e = absurd (omega arith)
+not_34 R.Running d e = absurd (omega arith)
+not_34 R.NumberUsed d e = absurd (omega arith)
+not_34 R.TooClose d e = absurd (d refl)
+not_34 R.NoPlace d e = absurd (omega arith)
+not_34 R.ListTooLong d e = absurd (omega arith)
+not_34 R.ShortPage d e = absurd (omega arith)
+not_34 R.BadName d e = absurd (omega arith)
+not_34 R.NameNotHeld d e = absurd (omega arith)
+not_34 R.LayoutsFull d e = absurd (omega arith)
+not_34 R.BadLabel d e = absurd (omega arith)
+not_34 R.NotReleased d e = absurd (omega arith)
+not_34 R.NoFloor d e = absurd (omega arith)
+not_34 R.Overloaded d e = absurd (omega arith)
 
 -- ---- the corner's number decides, but for 34
 abbrev after : Bool → Bool → Bool → Bool → Bool → ℕ → ℕ

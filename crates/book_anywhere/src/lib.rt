@@ -2,59 +2,74 @@
 // them.
 #![tactic(auto)]
 
-ghost use Rattle.std.specs.Prelude.{◌≡◌, ◌≤◌, ◌<◌, take};
+ghost use Rattle.std.specs.Prelude.{◌≡◌, ◌≤◌, ◌<◌, IfOk};
 ghost use Rattle.laws.specs.Define.{refusal};
+ghost use Rattle.floor.specs.Numbers.{answered};
 ghost use Rattle.floor.specs.Settings.{total};
+ghost use Rattle.floor.specs.Memory.{view};
 ghost use Rattle.floor.specs.Well.{well_formed};
-ghost use Rattle.floor.specs.Anywhere.{place_a, place_b, placing_tests, anywhere_answer};
+ghost use Rattle.floor.specs.Calls.{refusal_of};
+ghost use Rattle.floor.specs.Anywhere.{place_a, place_b, placing_tests, anywhere_tests, placed_at, anywhere_answer};
 
+use book_call::{own_at, put};
 use book_search::find_place;
-use book_tile::{book_refusal, with_booking, with_count};
+use book_tile::test_booking;
 use check_floor::well_formed;
-use floor::{Canister, Floor, Members, Placed, Settings, refusals};
-use round_members::insert;
+use floor::{Canister, Floor, Placed, Refusal, Settings};
 
-// The canister at the place found, and the number that the booking is refused by.
-#[derive(Clone, Copy)]
-pub struct Found {
-    pub canister: Canister,
-    pub refusal: u8,
+// The canister at the lowest place, or what refuses it. The lowest of all places, 0, 0, is tried as a booking's, with its
+// tests; only where it is too near to a canister is another searched for.
+fn find(
+    s: Settings,
+    last: u32,
+    tile: u32,
+    number: u32,
+    running: u8,
+    own: &[Canister],
+) -> Result<Canister, Refusal>
+    requires { (total s ≤ 64) × (s.length ≤ s.width) × (s.width ≤ 60000) }
+    ensures number { answered result ≡ refusal (placing_tests s last tile number running own.now) }
+    ensures place { IfOk result (λ c. c ≡ record { number = number; a = place_a s own.now; b = place_b s own.now }) }
+{
+    let corner = Canister { number, a: 0, b: 0 };
+    match test_booking(s, last, tile, corner, running, own) {
+        Ok(()) => Ok(corner),
+        Err(why) => match why {
+            Refusal::TooClose => match find_place(s, own) {
+                Some(place) => Ok(Canister {
+                    number,
+                    a: place.a,
+                    b: place.b,
+                }),
+                None => Err(Refusal::NoPlace),
+            },
+            _ => Err(why),
+        },
+    }
 }
 
-// The lowest of all places, 0, 0, is tried as a booking's, with its tests; only where it is too near to a canister is
-// another searched for.
-fn find(s: Settings, last: u32, tile: u32, number: u32, running: u8, own: Members) -> Found
-    requires { (total s ≤ 64) × (s.length ≤ s.width) × (s.width ≤ 60000) × (tile < total s → own.count ≤ 16) }
-    ensures { (result.refusal ≡ refusal (placing_tests s last tile number running (take own.count own.items))) × (result.refusal ≡ 0 → result.canister ≡ record { number = number; a = place_a s (take own.count own.items); b = place_b s (take own.count own.items) }) }
+// Books in place, where it is known whether the floor is well formed; the canister booked.
+fn book_on(floor: &mut Floor, tile: u32, number: u32, well: bool) -> Result<Canister, Refusal>
+    requires { well ≡ well_formed floor.old }
+    ensures number { answered result ≡ refusal_of floor.old (anywhere_tests (view floor.old) tile number) }
+    ensures place { IfOk result (λ c. c ≡ placed_at (view floor.old) tile number) }
+    ensures after { floor.new ≡ (anywhere_answer floor.old tile number).floor }
 {
-    let corner = Canister {
-        number: number,
-        a: 0,
-        b: 0,
-    };
-    let refused = book_refusal(s, last, tile, corner, running, own);
-    if refused != refusals::TOO_CLOSE {
-        return Found {
-            canister: corner,
-            refusal: refused,
-        };
+    if !well {
+        return Err(Refusal::Malformed);
     }
-    let items = own.items;
-    let place = find_place(s, items, own.count as usize);
-    if s.width - s.length < place.b {
-        return Found {
-            canister: corner,
-            refusal: refusals::NO_PLACE,
-        };
-    }
-    Found {
-        canister: Canister {
-            number: number,
-            a: place.a,
-            b: place.b,
-        },
-        refusal: 0,
-    }
+    let own = own_at(floor, tile);
+    let running = floor.tiles[(tile % 64) as usize].running;
+    let canister = find(
+        floor.settings,
+        floor.counters.last,
+        tile,
+        number,
+        running,
+        &own.items[..own.count as usize],
+    )?;
+    put(floor, tile, own, canister);
+    Ok(canister)
 }
 
 // A booking without a place where it is known already whether the floor is well formed. As in `book_checked`, the floor is
@@ -64,44 +79,15 @@ pub fn anywhere_checked(floor: Floor, tile: u32, number: u32, well: bool) -> Pla
     ensures { result ≡ anywhere_answer floor tile number }
 {
     let mut changed = floor;
-    let mut refused: u8 = refusals::MALFORMED;
-    let mut a: u16 = 0;
-    let mut b: u16 = 0;
-    if well {
-        // `% 64` keeps the index within the arrays. A number beyond the floor reads some other tile here; `find` answers 4
-        // for it before it uses what was read.
-        let t = (tile % 64) as usize;
-        let s = changed.settings;
-        let counters = changed.counters;
-        let old = changed.tiles[t];
-        let mut items = [Canister::ZERO; 16];
-        for k in 0usize..16 {
-            items[k] = changed.canisters[16 * t + k];
-        }
-        let own = Members {
-            count: old.count,
-            items: items,
-        };
-        let found = find(s, counters.last, tile, number, old.running, own);
-        refused = found.refusal;
-        if refused == 0 {
-            let canister = found.canister;
-            let more = insert(own, canister);
-            let places = more.items;
-            for j in 0usize..16 {
-                changed.canisters[16 * t + j] = places[j];
-            }
-            changed.tiles[t] = with_count(old, more.count);
-            changed.counters = with_booking(counters, canister.number);
-            a = canister.a;
-            b = canister.b;
-        }
-    }
+    let (a, b, refusal) = match book_on(&mut changed, tile, number, well) {
+        Ok(canister) => (canister.a, canister.b, 0),
+        Err(why) => (0, 0, u8::from(why)),
+    };
     Placed {
         floor: changed,
-        a: a,
-        b: b,
-        refusal: refused,
+        a,
+        b,
+        refusal,
     }
 }
 
@@ -109,6 +95,5 @@ pub fn anywhere_checked(floor: Floor, tile: u32, number: u32, well: bool) -> Pla
 pub fn book_anywhere(floor: Floor, tile: u32, number: u32) -> Placed
     ensures { result ≡ anywhere_answer floor tile number }
 {
-    let well = well_formed(floor);
-    anywhere_checked(floor, tile, number, well)
+    anywhere_checked(floor, tile, number, well_formed(floor))
 }

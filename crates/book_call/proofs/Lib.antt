@@ -1,3 +1,3 @@
 pub mod Tests
-pub mod Loops
+pub mod Places
 pub mod Booking

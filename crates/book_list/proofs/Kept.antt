@@ -11,8 +11,7 @@ use Rattle.floor.specs.Well.{well_formed}
 use Rattle.floor.specs.Calls.{refusal_of, answer, book_answer}
 use Rattle.floor.specs.Demand3.{book, InRange, outcome}
 use Rattle.floor.proofs.Lists.{call_keeps}
-use Rattle.floor.specs.Bookings.{single, too_long_of}
-use Rattle.book_list.specs.Parts.{entries_of, begun_of}
+use Rattle.floor.specs.Bookings.{single}
 
 pub book_malformed : (f : Floor) (t : ℕ) (c : Canister) → well_formed f ≡ false → book_answer f t c ≡ record { refusal = 30; floor = f }
 unfolding book_answer answer refusal_of refusal
@@ -29,11 +28,3 @@ still f t c h = go (well_formed f) refl
 
 pub entry_still : (f : Floor) (b : Booking) → InRange (book b.tile b.canister) → well_formed (single f b).floor ≡ well_formed f
 entry_still f b h = still f b.tile b.canister h
-
--- where there is a turn, the floor was checked
-pub begun_well : (f : Floor) (n i : ℕ) → i < entries_of n → (begun_of f n).well ≡ well_formed f
-begun_well f n i = go (too_long_of n)
-  where
-    go : (b : Bool) → i < cond b 0 n → cond b false (well_formed f) ≡ well_formed f
-    go true h = absurd (omega arith)
-    go false h = refl

@@ -3,4 +3,3 @@ pub mod Kept
 pub mod Widths
 pub mod Singly
 pub mod Instances
-pub mod Loops

@@ -4,14 +4,13 @@ use mathlib.Core.Bool.{Bool, true, false, cond}
 use mathlib.Core.List.{List, [], ◌∷◌, ◌++◌}
 use Prim.Native.Nat.{ℕ, zero, suc, ◌≤◌, ◌<◌}
 use native.Mathlib.Omega.{arith}
-use borrow.Author.Tests.{ltb-false}
+use borrow.Author.Tests.{lt-ltb, le-ltb}
 use lib.ListN.{length, get_or, set, take, drop}
 use Rattle.floor.specs.declared.Booking.{Booking}
 use Rattle.floor.specs.declared.Floor.{Floor}
 use Rattle.floor.specs.declared.Answer.{Answer}
 use Rattle.floor.specs.Memory.{zero_canister}
 use Rattle.floor.specs.Bookings.{answered, single, floor_singly, entries_singly, too_long_of, list_answer, list_after}
-use Rattle.book_list.specs.Parts.{entries_of, answer_of}
 
 -- what is read where no entry is
 abbrev pub zero_booking : Booking
@@ -59,48 +58,15 @@ unfolding entries_singly
 all_list f [] = refl
 all_list f (x ∷ xs) = ap (λ (t : List Booking). booked f x ∷ t) (all_list (single f x).floor xs)
 
--- ---- none of them where there are more than 64
-pub entries_most : (n : ℕ) → entries_of n ≤ n
-entries_most n = go (too_long_of n)
-  where
-    go : (b : Bool) → cond b 0 n ≤ n
-    go true = omega arith
-    go false = omega arith
-
-pub done_list : (f : Floor) (xs : List Booking) → list_upto (entries_of (length xs)) f xs ≡ list_after f xs
+-- ---- the call's answer
+pub done_list : (f : Floor) (xs : List Booking) → length xs ≤ 64 → list_upto (length xs) f xs ≡ list_after f xs
 unfolding list_after
-done_list f xs = go (too_long_of (length xs))
-  where
-    go : (b : Bool) → list_upto (cond b 0 (length xs)) f xs ≡ cond b xs (entries_singly f xs)
-    go true = refl
-    go false = all_list f xs
+done_list f xs h = rw (le-ltb 64 (length xs) h) (all_list f xs)
 
-pub done_answer : (f : Floor) (xs : List Booking) → answer_of (length xs) (floor_upto (entries_of (length xs)) f xs) ≡ list_answer f xs
+pub done_answer : (f : Floor) (xs : List Booking) → length xs ≤ 64 → ◌≡◌ {A = Answer} (record { refusal = 0; floor = floor_upto (length xs) f xs }) (list_answer f xs)
 unfolding list_answer
-done_answer f xs = go (too_long_of (length xs))
-  where
-    go : (b : Bool) → ◌≡◌ {A = Answer} (record { refusal = cond b 42 0; floor = floor_upto (cond b 0 (length xs)) f xs }) (record { refusal = cond b 42 0; floor = cond b f (floor_singly f xs) })
-    go true = refl
-    go false = ap (λ (g : Floor). record { refusal = 0; floor = g }) (all_floor f xs)
+done_answer f xs h = rw (le-ltb 64 (length xs) h) (ap (λ (g : Floor). record { refusal = 0; floor = g }) (all_floor f xs))
 
--- ---- the first k of a longer list
-pub upto_floor : (k : ℕ) (f : Floor) (xs : List Booking) → floor_upto k f xs ≡ floor_singly f (take k xs)
-unfolding floor_singly
-upto_floor zero f [] = refl
-upto_floor zero f (x ∷ xs) = refl
-upto_floor (suc k) f [] = refl
-upto_floor (suc k) f (x ∷ xs) = upto_floor k (single f x).floor xs
-
-pub upto_list : (k : ℕ) (f : Floor) (xs : List Booking) → list_upto k f xs ≡ entries_singly f (take k xs) ++ drop k xs
-unfolding entries_singly
-upto_list zero f [] = refl
-upto_list zero f (x ∷ xs) = refl
-upto_list (suc k) f [] = refl
-upto_list (suc k) f (x ∷ xs) = ap (λ (t : List Booking). booked f x ∷ t) (upto_list k (single f x).floor xs)
-
-pub entries_few : (n : ℕ) → entries_of n ≤ 64
-entries_few n = go (too_long_of n) refl
-  where
-    go : (b : Bool) → too_long_of n ≡ b → cond b 0 n ≤ 64
-    go true e = omega arith
-    go false e = ltb-false 64 n e
+pub long_list : (f : Floor) (xs : List Booking) → 64 < length xs → (◌≡◌ {A = Answer} (record { refusal = 42; floor = f }) (list_answer f xs)) × (xs ≡ list_after f xs)
+unfolding list_answer list_after
+long_list f xs h = (rw (lt-ltb 64 (length xs) h) refl, rw (lt-ltb 64 (length xs) h) refl)

@@ -5,20 +5,11 @@ use Rattle.floor.specs.declared.Floor.{Floor}
 use Rattle.floor.specs.declared.Answer.{Answer}
 use Rattle.floor.specs.Well.{well_formed}
 use Rattle.floor.specs.Bookings.{floor_singly, entries_singly, too_long_of}
-use Rattle.book_list.specs.declared.Begun.{Begun}
 use Rattle.book_list.specs.declared.Listed.{Listed}
 
 -- how many of n entries are booked: all of them, or none
 abbrev pub entries_of : ℕ → ℕ
 entries_of n = cond (too_long_of n) 0 n
-
--- the floor is checked once, and not where the list is too long
-abbrev pub begun_of : Floor → ℕ → Begun
-begun_of f n = record { entries = entries_of n; well = cond (too_long_of n) false (well_formed f) }
-
--- the call's own answer
-abbrev pub answer_of : ℕ → Floor → Answer
-answer_of n f = record { refusal = cond (too_long_of n) 42 0; floor = f }
 
 -- the first n places of l as a list, the others as they are
 unfoldable pub places_answer : Floor → List Booking → ℕ → Listed

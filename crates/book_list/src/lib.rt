@@ -2,40 +2,27 @@
 // of them.
 #![tactic(auto)]
 
-ghost use Rattle.std.specs.Prelude.{◌≡◌};
+ghost use Rattle.std.specs.Prelude.{◌≡◌, ◌<◌, ◌≤◌, length, MatchOption};
 ghost use Rattle.floor.specs.Well.{well_formed};
 ghost use Rattle.floor.specs.Bookings.{single, list_answer, list_after};
-ghost use Rattle.book_list.specs.Parts.{begun_of, answer_of, places_answer};
+ghost use Rattle.book_list.specs.Parts.{places_answer};
 
 use book_call::book_checked;
 use check_floor::well_formed;
-use floor::{Answer, Booking, Floor, refusals};
+use floor::{Answer, Booking, Floor, Refusal};
 
 // The most entries of a list.
 const LONGEST_LIST: usize = 64;
 
-// How a list begins: how many entries are booked, and whether the floor is well formed.
-#[derive(Clone, Copy)]
-pub struct Begun {
-    pub entries: usize,
-    pub well: bool,
-}
-
-// All entries, or none where there are more than 64: then the floor is not looked at.
-fn begin_list(floor: Floor, n: usize) -> Begun
-    ensures { result ≡ begun_of floor n }
+// Whether the floor is well formed; nothing where a list has more than 64 entries: then the floor is not looked at.
+fn begin_list(floor: Floor, n: usize) -> Option<bool>
+    ensures { MatchOption result (64 < n) (λ well. (n ≤ 64) × (well ≡ well_formed floor)) }
 {
     if LONGEST_LIST < n {
-        return Begun {
-            entries: 0,
-            well: false,
-        };
+        return None;
     }
     let well = well_formed(floor);
-    Begun {
-        entries: n,
-        well: well,
-    }
+    Some(well)
 }
 
 // Books one entry where it is known whether the floor is well formed; it is afterwards if it was before.
@@ -46,17 +33,13 @@ fn book_entry(floor: Floor, b: Booking, well: bool) -> Answer
     book_checked(floor, b.tile, b.canister, well)
 }
 
-// The call's own answer.
-fn answer_of(n: usize, floor: Floor) -> Answer
-    ensures { result ≡ answer_of n floor }
+// A list of more than 64 entries leaves the floor as it came.
+fn too_long(floor: Floor) -> Answer
+    ensures { result ≡ record { floor = floor; refusal = 42 } }
 {
-    let mut number: u8 = 0;
-    if LONGEST_LIST < n {
-        number = refusals::LIST_TOO_LONG;
-    }
     Answer {
-        floor: floor,
-        refusal: number,
+        floor,
+        refusal: u8::from(Refusal::ListTooLong),
     }
 }
 
@@ -64,21 +47,24 @@ fn answer_of(n: usize, floor: Floor) -> Answer
 pub fn book_list(floor: Floor, list: &mut [Booking]) -> Answer
     ensures { (result ≡ list_answer floor list.old) × (list.new ≡ list_after floor list.old) }
 {
-    let start = begin_list(floor, list.len());
+    let well = match begin_list(floor, list.len()) {
+        Some(well) => well,
+        None => return too_long(floor),
+    };
     let mut current = floor;
-    let mut i: usize = 0;
-    while i < start.entries {
-        let b = list[i];
-        let r = book_entry(current, b, start.well);
-        list[i].answer = r.refusal;
+    for entry in list.iter_mut() {
+        let r = book_entry(current, *entry, well);
+        entry.answer = r.refusal;
         current = r.floor;
-        i += 1;
     }
-    answer_of(list.len(), current)
+    Answer {
+        floor: current,
+        refusal: 0,
+    }
 }
 
 // A list by value: 64 places, with the answers of those that were used.
-#[derive(Clone, Copy)]
+#[derive(Clone, Copy, PartialEq, Eq)]
 pub struct Listed {
     pub floor: Floor,
     pub list: [Booking; 64],
@@ -89,20 +75,14 @@ pub struct Listed {
 pub fn book_places(floor: Floor, list: [Booking; 64], n: usize) -> Listed
     ensures { result ≡ places_answer floor list n }
 {
-    let start = begin_list(floor, n);
-    let entries = start.entries;
-    let well = start.well;
-    let mut current = floor;
     let mut places = list;
-    for i in 0usize..entries {
-        let b = places[i];
-        let r = book_entry(current, b, well);
-        places[i].answer = r.refusal;
-        current = r.floor;
-    }
-    let own = answer_of(n, current);
+    let own = if n <= LONGEST_LIST {
+        book_list(floor, &mut places[..n])
+    } else {
+        too_long(floor)
+    };
     Listed {
-        floor: current,
+        floor: own.floor,
         list: places,
         refusal: own.refusal,
     }

@@ -1,21 +1,23 @@
 -- The search: what stands between two numbers that it looks at has no place.
-use mathlib.Core.Path.{◌≡◌, sym, ap, ◌∙◌}
+use mathlib.Core.Path.{◌≡◌, refl, sym, ap, ◌∙◌}
 use mathlib.Core.Logic.{◌⊎◌, inl, inr}
-use mathlib.Core.Bool.{Bool, true, false, ◌&&◌}
+use mathlib.Core.Bool.{Bool, true, false, cond, not, ◌&&◌}
 use mathlib.Core.List.{List, [], ◌∷◌}
-use Prim.Native.Nat.{ℕ, suc, ◌+◌, ◌-◌, ◌*◌, ◌≤◌, ◌<◌}
+use Prim.Native.Nat.{ℕ, suc, ◌+◌, ◌≤◌, ◌<◌}
 use native.Mathlib.Omega.{arith}
 use native.Mathlib.Decide.{dec_le}
 use native.Mathlib.Numerals.{add-one}
 use lib.Dec.{ltb}
 use lib.ListN.{length, get_or, take}
-use lib.Seq.{take-suc, get_or-take, length-take-le}
-use borrow.Author.Tests.{le-ltb, lt-ltb, ltb-false}
+use lib.Seq.{take-suc}
+use borrow.Author.Tests.{le-ltb, lt-ltb, ltb-false, not-true}
+use Rattle.std.specs.Prelude.{Option, Some, None}
+use Rattle.std.specs.List.{find}
 use Rattle.laws.specs.Define.{all_of}
 use Rattle.laws.specs.Every.{All}
 use Rattle.laws.proofs.Tests.{by_test, not_both}
 use Rattle.laws.proofs.Lists.{all_imp, all_append}
-use Rattle.laws.proofs.Tables.{all_zero, all_at, all_step}
+use Rattle.laws.proofs.Tables.{all_at}
 use Rattle.floor.specs.declared.Canister.{Canister}
 use Rattle.floor.specs.declared.Settings.{Settings}
 use Rattle.floor.specs.Settings.{spacing, span}
@@ -55,24 +57,55 @@ near_on d a b y c lo hi (inl (inl h)) = inl (inl (omega arith))
 near_on d a b y c lo hi (inl (inr h)) = absurd (omega arith)
 near_on d a b y c lo hi (inr h) = inr h
 
-pub passed_on : (d : ℕ) (l : List Canister) (b a k : ℕ) → k < length l → apart d (at 0 a b) (get_or l k zero_canister) ≡ false → Passed d l b a → Passed d l b ((get_or l k zero_canister).a + d)
-unfolding clear
-passed_on d l b a k h e p y q = go (dec_le (suc y) a)
+-- what `find` gives
+find_at : (p : Canister → Bool) (l : List Canister) (c : Canister) → Some c ≡ find p l → (k : ℕ) × (k < length l) × (c ≡ get_or l k zero_canister) × (p c ≡ true)
+find_at p [] c e = absurd (cc)
+find_at p (x ∷ l) c e = go (λ h. find_at p l c h) (p x) refl e
   where
-    c : Canister
-    c = get_or l k zero_canister
+    one : Option Canister → Canister
+    one None = c
+    one (Some y) = y
 
-    go : Dec (y < a) → clear d l y b ≡ false
-    go (yes r) = p y r
-    go (no r) = refute (λ t. not_both ((apart_fact d (at 0 a b) c).1 (near_on d a b y c (omega arith) q ((apart_fact d (at 0 y b) c).0 (all_at (apart d (at 0 y b)) l zero_canister t k h)))) e)
+    go : (Some c ≡ find p l → (k : ℕ) × (k < length l) × (c ≡ get_or l k zero_canister) × (p c ≡ true)) → (b : Bool) → p x ≡ b → Some c ≡ cond b (Some x) (find p l)
+        → (k : ℕ) × (k < length (x ∷ l)) × (c ≡ get_or (x ∷ l) k zero_canister) × (p c ≡ true)
+    go rest true q h = let s : c ≡ x = ap one h in (0, omega arith, s, ap p s ∙ q)
+    go rest false q h = let r = rest h in (suc r.0, omega (arith, r.1), r.2, r.3)
 
--- the search in a row ends beyond a: every canister is passed
-pub beyond : (d : ℕ) (c : Canister) (a b : ℕ) → apart d (at 0 a b) c ≡ false → a < c.a + d
-beyond d c a b e = go (dec_le (c.a + d) a)
+-- the first canister that is too near, or none
+abbrev pub first_near_of : ℕ → ℕ → ℕ → List Canister → Option Canister
+first_near_of d a b l = find (λ c. not (apart d (at 0 a b) c)) l
+
+pub all_apart : (d a b : ℕ) (l : List Canister) → None ≡ first_near_of d a b l → true ≡ all_of (apart d (at 0 a b)) l
+unfolding all_of
+all_apart d a b [] e = refl
+all_apart d a b (c ∷ l) e = go (λ h. all_apart d a b l h) (apart d (at 0 a b) c) e
   where
-    go : Dec (c.a + d ≤ a) → a < c.a + d
-    go (yes h) = not_both ((apart_fact d (at 0 a b) c).1 (inl (inr h))) e
-    go (no h) = omega arith
+    go : (None ≡ first_near_of d a b l → true ≡ all_of (apart d (at 0 a b)) l) → (r : Bool) → None ≡ cond (not r) (Some c) (first_near_of d a b l) → true ≡ (r && all_of (apart d (at 0 a b)) l)
+    go rest true h = rest h
+    go rest false h = absurd (cc)
+
+module _ (d a b : ℕ) (l : List Canister) (c : Canister) (e : Some c ≡ first_near_of d a b l) where
+  is_near : apart d (at 0 a b) c ≡ false
+  is_near = not-true _ (find_at _ l c e).3
+
+  pub passed_on : Passed d l b a → Passed d l b (c.a + d)
+  unfolding clear
+  passed_on p y q = go (dec_le (suc y) a)
+    where
+      r : (k : ℕ) × (k < length l) × (c ≡ get_or l k zero_canister) × (not (apart d (at 0 a b) c) ≡ true)
+      r = find_at _ l c e
+
+      go : Dec (y < a) → clear d l y b ≡ false
+      go (yes h) = p y h
+      go (no h) = refute (λ t. not_both ((apart_fact d (at 0 a b) c).1 (near_on d a b y c (omega arith) q ((apart_fact d (at 0 y b) c).0 (rw r.2 (all_at (apart d (at 0 y b)) l zero_canister t r.0 r.1))))) is_near)
+
+  -- the search in a row goes on beyond a
+  pub beyond : a < c.a + d
+  beyond = go (dec_le (c.a + d) a)
+    where
+      go : Dec (c.a + d ≤ a) → a < c.a + d
+      go (yes h) = not_both ((apart_fact d (at 0 a b) c).1 (inl (inr h))) is_near
+      go (no h) = omega arith
 
 pub row_found : (d n : ℕ) (l : List Canister) (b a : ℕ) → a ≤ n → Passed d l b a → true ≡ all_of (apart d (at 0 a b)) l → a ≡ lowest_a_of d n l b
 unfolding lowest_a_of clear
@@ -126,25 +159,11 @@ pub place_a_lem : (s : Settings) (l : List Canister) (a b : ℕ) → a ≡ lowes
 unfolding place_a
 place_a_lem s l a b e q = e ∙ ap (lowest_a_of (spacing s) (suc (span s)) l) q
 
-pub place_none : (s : Settings) (l : List Canister) → Bare (spacing s) (suc (span s)) l (suc (span s)) → suc (span s) ≡ place_b s l
+pub place_none : (s : Settings) (l : List Canister) → Bare (spacing s) (suc (span s)) l (suc (span s)) → place_b s l ≡ suc (span s)
 unfolding place_b lowest_b_of
-place_none s l p = least_none (λ y. ltb (lowest_a_of (spacing s) (suc (span s)) l y) (suc (span s))) (suc (span s)) p
+place_none s l p = sym (least_none (λ y. ltb (lowest_a_of (spacing s) (suc (span s)) l y) (suc (span s))) (suc (span s)) p)
 
--- ---- the turns of the loops
-pub row_start : (d a b : ℕ) (items : List Canister) → true ≡ all_of (apart d (at 0 a b)) (take 0 items)
-row_start d a b items = sym (all_zero (apart d (at 0 a b)) items)
-
-pub row_step : (d a b : ℕ) (items : List Canister) (k : ℕ) {r : Bool} → k < length items → true ≡ all_of (apart d (at 0 a b)) (take k items) → r ≡ apart d (at 0 a b) (get_or items k zero_canister) → r ≡ true
-    → true ≡ all_of (apart d (at 0 a b)) (take (k + 1) items)
-row_step d a b items k h p e q = sym (sym (all_step (apart d (at 0 a b)) items k zero_canister h p e) ∙ q)
-
-pub row_jump : (d n : ℕ) (items : List Canister) (b a k : ℕ) {r : Bool} → k < n → n ≤ length items → r ≡ apart d (at 0 a b) (get_or items k zero_canister) → r ≡ false → Passed d (take n items) b a
-    → Passed d (take n items) b ((get_or items k zero_canister).a + d)
-row_jump d n items b a k h len e q p =
-    let g = get_or-take n items k zero_canister h in
-    let o = length-take-le n items len in
-    rw g at (passed_on d (take n items) b a k (omega arith) (ap (apart d (at 0 a b)) g ∙ sym e ∙ q) p)
-
+-- ---- the turns of the loop over the canisters
 ahead_at : (d b r : ℕ) (items : List Canister) (k : ℕ) → k < length items → All (Ahead d b r) (take k items) → Ahead d b r (get_or items k zero_canister) → All (Ahead d b r) (take (k + 1) items)
 ahead_at d b r items k h p q = rw (add-one, take-suc items k zero_canister h) (all_append (Ahead d b r) (take k items) (get_or items k zero_canister ∷ []) p (q, tt))
 
@@ -158,7 +177,3 @@ ahead_lower d b r items k h q p =
 pub ahead_stay : (d b r : ℕ) (items : List Canister) (k : ℕ) → k < length items → (ltb b ((get_or items k zero_canister).b + d) && ltb ((get_or items k zero_canister).b + d) r) ≡ false → All (Ahead d b r) (take k items)
     → All (Ahead d b r) (take (k + 1) items)
 ahead_stay d b r items k h e p = ahead_at d b r items k h p (λ u. ltb-false ((get_or items k zero_canister).b + d) r (rw (lt-ltb b ((get_or items k zero_canister).b + d) u) at e))
-
--- a turn of the search in a row: farther, or one canister more
-pub farther : {far a x n k : ℕ} → a < x → x ≤ far → k < n → n ≤ 16 → (far - x) * 17 + (n - 0) < (far - a) * 17 + (n - k)
-farther p q h m = omega arith

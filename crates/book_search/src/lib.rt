@@ -1,88 +1,80 @@
 // The lowest place on a tile that keeps the spacing: the lowest b with a free a, then the lowest a there.
 #![tactic(auto)]
 
-ghost use Rattle.std.specs.Prelude.{◌≡◌, suc, ◌+◌, ◌≤◌, ◌<◌, take};
+ghost use Rattle.std.specs.Prelude.{◌≡◌, not, suc, ◌+◌, ◌≤◌, ◌<◌, MatchOption};
+ghost use Rattle.std.specs.List.{find};
 ghost use Rattle.laws.specs.Every.{All};
 ghost use Rattle.floor.specs.Settings.{spacing, span};
+ghost use Rattle.floor.specs.Well.{apart};
 ghost use Rattle.floor.specs.Anywhere.{lowest_a_of, place_a, place_b};
 
 use check_places::stands_apart;
 use floor::{Canister, Settings};
 
-// A place on a tile; b is U - l + 1 where there is none.
-#[derive(Clone, Copy)]
+// A place on a tile.
+#[derive(Clone, Copy, PartialEq, Eq)]
 pub struct Place {
     pub a: u16,
     pub b: u16,
 }
 
-// The lowest a at b that keeps the spacing to the first n canisters; U - l + 1 where there is none.
+// The first canister that does not keep the spacing to the place.
+fn first_near(s: Settings, own: &[Canister], place: Canister) -> Option<Canister>
+    ensures { result ≡ find (λ c. not (apart (spacing s) place c)) own.now }
+{
+    own.iter().copied().find(|c| !stands_apart(s, place, *c))
+}
+
+// The lowest a at b that keeps the spacing to all canisters.
 // A canister that is too near to a is too near up to its own a + d, where the search goes on.
-fn lowest_a(s: Settings, items: [Canister; 16], n: usize, b: u16) -> u16
-    requires { (n ≤ 16) × (s.length ≤ s.width) × (s.width ≤ 60000) }
-    ensures { result ≡ lowest_a_of (spacing s) (suc (span s)) (take n items) b }
+fn lowest_a(s: Settings, own: &[Canister], b: u16) -> Option<u16>
+    requires { (s.length ≤ s.width) × (s.width ≤ 60000) }
+    ensures { MatchOption result (lowest_a_of (spacing s) (suc (span s)) own.now b ≡ suc (span s)) (λ a. (a ≤ span s) × (a ≡ lowest_a_of (spacing s) (suc (span s)) own.now b)) }
 {
     let d = s.spacing();
     let span = s.width - s.length;
     let mut a: u16 = 0;
-    let mut k: usize = 0;
-    while k < n {
-        let c = items[k];
-        let place = Canister {
-            number: 0,
-            a: a,
-            b: b,
-        };
-        let apart = stands_apart(s, place, c);
+    // how far a moves depends on the canister that is near
+    while let Some(c) = first_near(s, own, Canister { number: 0, a, b }) {
         let beyond = c.a as u32 + d;
-        if apart {
-            k += 1;
-        } else {
-            if (span as u32) < beyond {
-                return span + 1;
-            }
-            a = beyond as u16;
-            k = 0;
+        if (span as u32) < beyond {
+            return None;
         }
+        a = beyond as u16;
     }
-    a
+    Some(a)
 }
 
 // The next b to look at where b has no place: the lowest at which a canister is left behind, U - l + 1 at most.
-fn next_b(s: Settings, items: [Canister; 16], n: usize, b: u16) -> u16
-    requires { (n ≤ 16) × (s.length ≤ s.width) × (s.width ≤ 60000) × (b ≤ span s) }
-    ensures { (b < result) × (result ≤ suc (span s)) × All (λ c. b < c.b + spacing s → result ≤ c.b + spacing s) (take n items) }
+fn next_b(s: Settings, own: &[Canister], b: u16) -> u16
+    requires { (s.length ≤ s.width) × (s.width ≤ 60000) × (b ≤ span s) }
+    ensures { (b < result) × (result ≤ suc (span s)) × All (λ c. b < c.b + spacing s → result ≤ c.b + spacing s) own.now }
 {
     let d = s.spacing();
     let low = b as u32;
     let mut next = (s.width - s.length) as u32 + 1;
-    let mut k: usize = 0;
-    while k < n {
-        let c = items[k];
+    for c in own {
         let beyond = c.b as u32 + d;
         if (low < beyond) & (beyond < next) {
             next = beyond;
-            k += 1;
-        } else {
-            k += 1;
         }
     }
     next as u16
 }
 
-// The lowest place that keeps the spacing to the first n canisters.
-pub fn find_place(s: Settings, items: [Canister; 16], n: usize) -> Place
-    requires { (n ≤ 16) × (s.length ≤ s.width) × (s.width ≤ 60000) }
-    ensures { (result.b ≡ place_b s (take n items)) × (result.b ≤ span s → result.a ≡ place_a s (take n items)) }
+// The lowest place that keeps the spacing to all canisters.
+pub fn find_place(s: Settings, own: &[Canister]) -> Option<Place>
+    requires { (s.length ≤ s.width) × (s.width ≤ 60000) }
+    ensures { MatchOption result (place_b s own.now ≡ suc (span s)) (λ p. (p.b ≤ span s) × (p.b ≡ place_b s own.now) × (p.a ≡ place_a s own.now)) }
 {
     let span = s.width - s.length;
     let mut b: u16 = 0;
+    // how far b moves depends on the canisters
     while b <= span {
-        let a = lowest_a(s, items, n, b);
-        if a <= span {
-            return Place { a: a, b: b };
+        if let Some(a) = lowest_a(s, own, b) {
+            return Some(Place { a, b });
         }
-        b = next_b(s, items, n, b);
+        b = next_b(s, own, b);
     }
-    Place { a: 0, b: b }
+    None
 }

@@ -3,7 +3,7 @@ use mathlib.Core.Path.{◌≡◌, sym, ◌∙◌}
 use mathlib.Core.Logic.{◌≢◌}
 use mathlib.Core.Bool.{Bool, true, false, not, ◌&&◌}
 use mathlib.Core.List.{List}
-use Prim.Native.Nat.{ℕ, ◌%◌, ◌≤◌, ◌<◌}
+use Prim.Native.Nat.{ℕ, ◌%◌, ◌≤◌}
 use native.Mathlib.Omega.{arith}
 use lib.Dec.{leb, eqb}
 use borrow.Author.Tests.{eq-eqb, ne_eqb, leb-false, not-true, not-false}
@@ -19,9 +19,6 @@ source : (s : Settings) (t all : ℕ) (fill : Bool) → all ≡ total s → tota
 source s t all fill e few on f =
     let m : t % 64 ≡ t = omega (arith, e, few, leb-false all t on) in
     rw m at (sym f)
-
-pub count_few : (s : Settings) (t all n : ℕ) → (t < total s → n ≤ 16) → all ≡ total s → leb all t ≡ false → n ≤ 16
-count_few s t all n bounded e on = bounded (omega (arith, e, leb-false all t on))
 
 within_no : (s : Settings) (c : Canister) → not (leb c.a (span s) && leb c.b (span s)) ≡ true → inside s c ≡ false
 unfolding inside

@@ -4,7 +4,8 @@ use mathlib.Core.Bool.{Bool, true, false, cond, not, ◌&&◌}
 use mathlib.Core.List.{List, []}
 use Prim.Native.Nat.{ℕ, suc, ◌+◌, ◌-◌, ◌^◌, ◌≤◌, ◌<◌}
 use native.Mathlib.Omega.{arith}
-use lib.ListN.{length, get_or, length-map}
+use lib.ListN.{length, get_or, take, length-map}
+use Rattle.std.proofs.lemmas.List.{get_or-take}
 use Rattle.laws.specs.Define.{tab, all_below, sum, bit}
 use Rattle.laws.proofs.Tests.{and_yes}
 use Rattle.laws.proofs.Tables.{tab_same, below_at}
@@ -39,6 +40,13 @@ unfolding canisters_in
 count_turn ts set t e q =
     let z : suc t ≡ t + 1 = omega arith in
     (λ i. e i + q i) ∙ sym (sum_last t (λ t. cond (bit set t) (get_or ts t zero_tile).count 0)) ∙ ap (λ (m : ℕ). canisters_in m ts set) z
+
+-- tile t, of the first n
+pub count_in : (ts : List Tile) (set n t : ℕ) {m k : ℕ} {b : Bool} → t < n → b ≡ bit set t → b ≡ true → k ≡ (get_or (take n ts) t zero_tile).count → m ≡ canisters_in t ts set → m + k ≡ canisters_in (t + 1) ts set
+count_in ts set n t l e h q z = count_turn ts set t z (rw (sym e ∙ h) (q ∙ ap (λ (x : Tile). x.count) (get_or-take n ts t zero_tile l)))
+
+pub count_out : (ts : List Tile) (set t : ℕ) {m : ℕ} {b : Bool} → b ≡ bit set t → b ≡ false → m ≡ canisters_in t ts set → m ≡ canisters_in (t + 1) ts set
+count_out ts set t {m} e h z = let same : m ≡ m + 0 = omega arith in same ∙ count_turn ts set t z (rw (sym e ∙ h))
 
 -- ---- the set of all tiles
 all_in : all_below (bit (2 ^ 64 - 1)) 64 ≡ true
@@ -100,6 +108,6 @@ module _ (f : Floor) (w : well_formed f ≡ true) where
       bound_found n q =
           (λ i. record { rounds = (q ∙ ap (bound f.settings) k_is) i; connected = k_is i; unconnected = others_are i; refusal = 0 }) ∙ sym (bound_accepted f w)
 
-pub bound_refused : (f : Floor) → well_formed f ≡ false → ◌≡◌ {A = Bounded} (record { rounds = 0; connected = 0; unconnected = 0; refusal = 30 }) (bound_answer f)
+pub bound_refused : (f : Floor) → false ≡ well_formed f → ◌≡◌ {A = Bounded} (record { rounds = 0; connected = 0; unconnected = 0; refusal = 30 }) (bound_answer f)
 unfolding bound_answer
-bound_refused f w = rw (malformed f [] w)
+bound_refused f w = rw (malformed f [] (sym w))

@@ -2,7 +2,6 @@
 use mathlib.Core.Path.{◌≡◌}
 use mathlib.Core.List.{List}
 use Prim.Native.Nat.{ℕ, ◌*◌, ◌-◌, ◌^◌, ◌≤◌, ◌<◌}
-use lib.ListN.{length}
 use Rattle.floor.specs.declared.Settings.{Settings}
 use Rattle.floor.specs.declared.Tile.{Tile}
 use Rattle.floor.specs.Settings.{total, Ranged}
@@ -10,15 +9,8 @@ use Rattle.floor.specs.Layouts.{set_below}
 use Rattle.bound_call.specs.Sets.{above_first, canisters_in}
 use Rattle.bound_call.proofs.Passes.{Reaches}
 
-pub record AboveFound (all rows set t : ℕ) : Type 0 where
-  pub below : t ≤ all
-  pub few : all ≤ 64
-  pub some : 1 ≤ rows
-  pub found : set ≡ set_below (above_first rows) t
-
 -- n passes are made
 pub record PathsFound (s : Settings) (running above passes found n : ℕ) : Type 0 where
-  pub below : n ≤ passes
   pub ranged : Ranged s
   pub all : passes ≡ total s - 1
   pub running_fits : running < 2 ^ total s
@@ -26,9 +18,6 @@ pub record PathsFound (s : Settings) (running above passes found n : ℕ) : Type
   pub found_fits : found < 2 ^ total s
   pub reaches : Reaches s running n found
 
-pub record CanistersCounted (tiles : List Tile) (set all sum t : ℕ) : Type 0 where
-  pub below : t ≤ all
-  pub few : all ≤ 64
-  pub tiles_length : length tiles ≡ 64
+pub record CanistersCounted (tiles : List Tile) (set sum t : ℕ) : Type 0 where
   pub small : sum ≤ 255 * t
   pub counted : sum ≡ canisters_in t tiles set

@@ -3,7 +3,7 @@
 // in passes over all tiles together.
 #![tactic(auto)]
 
-ghost use Rattle.std.specs.Prelude.{◌≡◌, true, ◌&&◌, ◌||◌, cond, ℕ, ◌+◌, ◌≤◌, ◌<◌, ◌^◌};
+ghost use Rattle.std.specs.Prelude.{◌≡◌, true, ◌&&◌, ◌||◌, ℕ, ◌≤◌, ◌<◌, ◌^◌};
 ghost use Rattle.laws.specs.Define.{any_of, bit};
 ghost use Rattle.floor.specs.Sides.{sides};
 ghost use Rattle.floor.specs.Settings.{total, is_hopper, settings_pass, Ranged};
@@ -17,31 +17,20 @@ ghost use Rattle.bound_call.specs.Sets.{above_first, canisters_in};
 
 use bound::Bounded;
 use check_floor::well_formed;
-use floor::{Floor, Settings, Tile, refusals};
+use floor::{Floor, Refusal, Settings, Tile};
 use layout_parts::running_set;
 use sets::{full, holds, minus, with};
-
-// The set with tile t in it where the tile is above row 0, else as it is.
-fn with_above(set: u64, rows: usize, t: usize) -> u64
-    requires { (t < 64) × (set < 2 ^ t) × (1 ≤ rows) }
-    ensures { result ≡ cond (above_first rows t) (2 ^ t) 0 + set }
-{
-    if 0 < t % rows {
-        return with(set, t as u8);
-    }
-    set
-}
 
 // The set of the tiles above row 0: those with a neighbour to the south.
 fn above_first(s: Settings) -> u64
     requires { Ranged s }
     ensures { result ≡ set_below (above_first s.rows) (total s) }
 {
-    let all = s.tile_count();
-    let rows = s.rows as usize;
-    let mut set: u64 = 0;
-    for t in 0usize..all {
-        set = with_above(set, rows, t);
+    let mut set = 0;
+    for t in 0..s.tile_count() {
+        if 0 < t % usize::from(s.rows) {
+            set = with(set, t as u8);
+        }
     }
     set
 }
@@ -70,27 +59,14 @@ fn connected_set(s: Settings, tiles: [Tile; 64]) -> u64
     let above = above_first(s);
     let passes = s.tile_count() - 1;
     let mut found = s.hoppers & running;
-    let mut n: usize = 0;
-    while n < passes {
+    for _ in 0..passes {
         let next = spread(s, running, above, found);
         if next == found {
             return found;
         }
         found = next;
-        n += 1;
     }
     found
-}
-
-// A tile's canisters where it is in the set, else none.
-fn counted(set: u64, tile: Tile, t: usize) -> u32
-    ensures { (result ≡ cond (bit set t) tile.count 0) × (result ≤ 255) }
-{
-    let inside = holds(set, t);
-    if inside {
-        return tile.count as u32;
-    }
-    0
 }
 
 // How many canisters stand on the tiles of the set.
@@ -98,11 +74,11 @@ fn canisters_on(s: Settings, tiles: [Tile; 64], set: u64) -> u32
     requires { total s ≤ 64 }
     ensures { result ≡ canisters_in (total s) tiles set }
 {
-    let all = s.tile_count();
-    let mut sum: u32 = 0;
-    for t in 0usize..all {
-        let tile = tiles[t];
-        sum = sum + counted(set, tile, t);
+    let mut sum = 0;
+    for (t, tile) in tiles[..s.tile_count()].iter().enumerate() {
+        if holds(set, t) {
+            sum += u32::from(tile.count);
+        }
     }
     sum
 }
@@ -113,7 +89,7 @@ fn rounds_for(s: Settings, k: u32) -> u32
     ensures { result ≡ B.bound s k }
 {
     let span = s.width - s.length;
-    let crossing = span as u32 / s.travel as u32 + 1;
+    let crossing = u32::from(span) / u32::from(s.travel) + 1;
     let others = s.tile_count() as u32 - 1;
     others * (1 + k * crossing)
 }
@@ -122,25 +98,27 @@ fn rounds_for(s: Settings, k: u32) -> u32
 pub fn bound(floor: Floor) -> Bounded
     ensures { result ≡ bound_answer floor }
 {
-    let well = well_formed(floor);
-    if !well {
+    if !well_formed(floor) {
         return Bounded {
             rounds: 0,
             connected: 0,
             unconnected: 0,
-            refusal: refusals::MALFORMED,
+            refusal: u8::from(Refusal::Malformed),
         };
     }
-    let s = floor.settings;
-    let tiles = floor.tiles;
-    let live = connected_set(s, tiles);
+    let Floor {
+        settings,
+        tiles,
+        ..
+    } = floor;
+    let live = connected_set(settings, tiles);
     let rest = minus(full(64), live);
-    let k = canisters_on(s, tiles, live);
-    let others = canisters_on(s, tiles, rest);
+    let connected = canisters_on(settings, tiles, live);
+    let unconnected = canisters_on(settings, tiles, rest);
     Bounded {
-        rounds: rounds_for(s, k),
-        connected: k,
-        unconnected: others,
+        rounds: rounds_for(settings, connected),
+        connected,
+        unconnected,
         refusal: 0,
     }
 }

@@ -5,13 +5,12 @@ use mathlib.Core.List.{List, []}
 use Prim.Native.Nat.{ℕ, ◌≤◌, ◌<◌}
 use native.Mathlib.Omega.{arith}
 use lib.ListN.{get_or, set, replicate, length-replicate, get_or-replicate}
-use Rattle.laws.proofs.Tables.{zeros_at}
 use Rattle.floor.specs.declared.Settings.{Settings}
 use Rattle.floor.specs.declared.Tile.{Tile}
 use Rattle.floor.specs.declared.Floor.{Floor}
 use Rattle.floor.specs.Settings.{total, is_hopper, settings_pass}
 use Rattle.floor.specs.Model.{TileState, no_tile_of, tile_of, with_tile}
-use Rattle.floor.specs.Memory.{zero_counters, zero_tile, zero_canister, zero_floor, view, head, layout_places, pack, stopped_head, repaired_head, retiled, refitted}
+use Rattle.floor.specs.Memory.{zero_counters, zero_canister, zero_floor, view, head, layout_places, pack, stopped_head, repaired_head, retiled, refitted}
 use Rattle.floor.specs.Well.{well_formed}
 use Rattle.floor.specs.Calls.{fresh_tile, fresh_floor, stopped, repaired}
 use Rattle.floor.proofs.Well.{settings_fact}
@@ -53,10 +52,6 @@ pub fresh_other : (s : Settings) (t : ℕ) → is_hopper s t ≡ false
     → ◌≡◌ {A = Tile} (record { running = 1; distance = 255; next = record { code = 0 }; token = record { code = 0 }; count = 0 }) (head (fresh_tile s t))
 unfolding head fresh_tile
 fresh_other s t e = rw e
-
-pub zero_tiles : (z : Floor) → z ≡ zero_floor → (i : ℕ) → get_or z.tiles i zero_tile ≡ zero_tile
-unfolding zero_floor
-zero_tiles z e i = ap (λ (x : Floor). get_or x.tiles i zero_tile) e ∙ zeros_at zero_tile 64 i
 
 pub fresh_few : (s : Settings) → settings_pass s ≡ true → total s ≤ 64
 fresh_few s p = ((settings_fact s).0 p).few

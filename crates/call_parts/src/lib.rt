@@ -4,28 +4,29 @@
 
 ghost use Rattle.std.specs.Prelude.{◌≡◌, true, ◌<◌, get_or};
 ghost use Rattle.laws.specs.Define.{tab, refusal};
+ghost use Rattle.floor.specs.Numbers.{answered};
 ghost use Rattle.floor.specs.Settings.{total, settings_pass};
 ghost use Rattle.floor.specs.Model.{tile_of, members_of, with_tile};
 ghost use Rattle.floor.specs.Memory.{zero_canister, view, head, pack};
 ghost use Rattle.floor.specs.Well.{well_formed};
 ghost use Rattle.floor.specs.Calls.{fresh_tile, fresh_floor, stop_tests, stopped, repair_tests, repaired, read_tests};
 
-use floor::{Canister, DISTANCE_NONE, Floor, Settings, Side, Tile, refusals, zero_floor};
+use floor::{Canister, DISTANCE_NONE, Floor, Refusal, Settings, Side, Tile, zero_floor};
 use sets::holds;
 
 // A tile of a fresh floor.
 fn fresh_tile(s: Settings, t: usize) -> Tile
     ensures { result ≡ head (fresh_tile s t) }
 {
-    let none = Side::NONE;
-    let hopper = holds(s.hoppers, t);
-    let distance: u8 = if hopper { 0 } else { DISTANCE_NONE };
+    let distance = if holds(s.hoppers, t) {
+        0
+    } else {
+        DISTANCE_NONE
+    };
     Tile {
         running: 1,
-        distance: distance,
-        next: none,
-        token: none,
-        count: 0,
+        distance,
+        ..Tile::ZERO
     }
 }
 
@@ -35,14 +36,16 @@ pub fn fresh_floor(s: Settings) -> Floor
     ensures { result ≡ pack (fresh_floor s) }
 {
     let all = s.tile_count();
-    let mut next = zero_floor();
-    let mut tiles = next.tiles;
-    for t in 0usize..all {
+    let mut tiles = [Tile::ZERO; 64];
+    // t is passed on as the tile's number
+    for t in 0..all {
         tiles[t] = fresh_tile(s, t);
     }
-    next.settings = s;
-    next.tiles = tiles;
-    next
+    Floor {
+        settings: s,
+        tiles,
+        ..zero_floor()
+    }
 }
 
 // A tile without its canisters.
@@ -50,9 +53,7 @@ pub fn tile_head(floor: Floor, tile: u32) -> Tile
     requires { (well_formed floor ≡ true) × (tile < total floor.settings) }
     ensures { result ≡ head (tile_of (view floor) tile) }
 {
-    let t = tile as usize;
-    let tiles = floor.tiles;
-    tiles[t]
+    floor.tiles[tile as usize]
 }
 
 // The sixteen places of a tile: its canisters, then zeros.
@@ -60,32 +61,25 @@ pub fn tile_members(floor: Floor, tile: u32) -> [Canister; 16]
     requires { (well_formed floor ≡ true) × (tile < total floor.settings) }
     ensures { result ≡ tab 16 (λ k. get_or (members_of (view floor) tile) k zero_canister) }
 {
-    let t = tile as usize;
-    let mut items = [Canister::ZERO; 16];
-    for k in 0usize..16 {
-        items[k] = floor.canisters[16 * t + k];
-    }
-    items
+    let first = 16 * tile as usize;
+    let mut places = [Canister::ZERO; 16];
+    places.copy_from_slice(&floor.canisters[first..first + 16]);
+    places
 }
 
-// The number that a stop is refused by.
-pub fn stop_refusal(floor: Floor, tile: u32) -> u8
+// Refuses a stop.
+pub fn test_stop(floor: Floor, tile: u32) -> Result<(), Refusal>
     requires { well_formed floor ≡ true }
-    ensures { result ≡ refusal (stop_tests (view floor) tile) }
+    ensures { answered result ≡ refusal (stop_tests (view floor) tile) }
 {
-    let s = floor.settings;
-    let all = s.tile_count();
-    if all <= tile as usize {
-        return refusals::NO_TILE;
+    test_read(floor, tile)?;
+    if holds(floor.settings.hoppers, tile as usize) {
+        return Err(Refusal::StopOfHopper);
     }
-    if holds(s.hoppers, tile as usize) {
-        return refusals::STOP_OF_HOPPER;
+    if tile_head(floor, tile).running != 1 {
+        return Err(Refusal::Stopped);
     }
-    let old = tile_head(floor, tile);
-    if old.running != 1 {
-        return refusals::STOPPED;
-    }
-    0
+    Ok(())
 }
 
 // The floor after an accepted stop.
@@ -93,35 +87,26 @@ pub fn stopped_floor(floor: Floor, tile: u32) -> Floor
     requires { (well_formed floor ≡ true) × (refusal (stop_tests (view floor) tile) ≡ 0) }
     ensures { result ≡ pack (with_tile (view floor) tile (stopped (tile_of (view floor) tile))) }
 {
-    let t = tile as usize;
     let was = tile_head(floor, tile);
-    let none = Side::NONE;
     let mut after = floor;
-    after.tiles[t] = Tile {
-        running: 0,
+    after.tiles[tile as usize] = Tile {
         distance: DISTANCE_NONE,
-        next: none,
-        token: none,
         count: was.count,
+        ..Tile::ZERO
     };
     after
 }
 
-// The number that a repair is refused by.
-pub fn repair_refusal(floor: Floor, tile: u32) -> u8
+// Refuses a repair.
+pub fn test_repair(floor: Floor, tile: u32) -> Result<(), Refusal>
     requires { well_formed floor ≡ true }
-    ensures { result ≡ refusal (repair_tests (view floor) tile) }
+    ensures { answered result ≡ refusal (repair_tests (view floor) tile) }
 {
-    let s = floor.settings;
-    let all = s.tile_count();
-    if all <= tile as usize {
-        return refusals::NO_TILE;
+    test_read(floor, tile)?;
+    if tile_head(floor, tile).running == 1 {
+        return Err(Refusal::Running);
     }
-    let old = tile_head(floor, tile);
-    if old.running == 1 {
-        return refusals::RUNNING;
-    }
-    0
+    Ok(())
 }
 
 // The floor after an accepted repair.
@@ -129,30 +114,19 @@ pub fn repaired_floor(floor: Floor, tile: u32) -> Floor
     requires { (well_formed floor ≡ true) × (refusal (repair_tests (view floor) tile) ≡ 0) }
     ensures { result ≡ pack (with_tile (view floor) tile (repaired (tile_of (view floor) tile))) }
 {
-    let t = tile as usize;
     let idle = tile_head(floor, tile);
-    let next = idle.next;
-    let token = idle.token;
     let mut after = floor;
-    after.tiles[t] = Tile {
-        running: 1,
-        distance: idle.distance,
-        next: next,
-        token: token,
-        count: idle.count,
-    };
+    after.tiles[tile as usize] = Tile { running: 1, ..idle };
     after
 }
 
-// The number that reading a tile is refused by.
-pub fn read_refusal(floor: Floor, tile: u32) -> u8
+// Refuses the reading of a tile.
+pub fn test_read(floor: Floor, tile: u32) -> Result<(), Refusal>
     requires { well_formed floor ≡ true }
-    ensures { result ≡ refusal (read_tests (view floor) tile) }
+    ensures { answered result ≡ refusal (read_tests (view floor) tile) }
 {
-    let s = floor.settings;
-    let count = s.tile_count();
-    if count <= tile as usize {
-        return refusals::NO_TILE;
+    if floor.settings.tile_count() <= tile as usize {
+        return Err(Refusal::NoTile);
     }
-    0
+    Ok(())
 }

@@ -3,6 +3,7 @@
 #![tactic(auto)]
 
 ghost use Rattle.std.specs.Prelude.{◌≡◌};
+ghost use Rattle.floor.specs.Numbers.{refusal_number};
 ghost use Rattle.floor.specs.Calls.{fresh_answer, stop_answer, repair_answer, read_answer, round_answer};
 ghost use Rattle.calls.specs.InternalRefused.{unread_with};
 
@@ -11,13 +12,13 @@ pub use book_call::book;
 pub use book_list::{book_list, book_places};
 pub use bound_call::bound;
 use call_parts::{
-    fresh_floor, read_refusal, repair_refusal, repaired_floor, stop_refusal, stopped_floor,
-    tile_head, tile_members,
+    fresh_floor, repaired_floor, stopped_floor, test_read, test_repair, test_stop, tile_head,
+    tile_members,
 };
 use check_floor::well_formed;
-use check_settings::settings_refusal;
+use check_settings::test_settings;
 use floor::{
-    Answer, Canister, Floor, Reading, Report, Rounded, Settings, Tile, refusals, zero_floor,
+    Answer, Canister, Floor, Reading, Refusal, Report, Rounded, Settings, Tile, zero_floor,
 };
 pub use layout_calls::{forget, keep, recall};
 use round_move::run_round;
@@ -26,43 +27,43 @@ use round_move::run_round;
 pub fn fresh(settings: Settings) -> Answer
     ensures { result ≡ fresh_answer settings }
 {
-    let n = settings_refusal(settings);
-    if n != 0 {
-        let none = zero_floor();
+    if let Err(why) = test_settings(settings) {
         return Answer {
-            refusal: n,
-            floor: none,
+            floor: zero_floor(),
+            refusal: u8::from(why),
         };
     }
-    let made = fresh_floor(settings);
     Answer {
+        floor: fresh_floor(settings),
         refusal: 0,
-        floor: made,
     }
 }
 
-// Stops a running tile. Its canisters stay on it.
+// A refused call leaves the floor as it came.
+fn refused(floor: Floor, why: Refusal) -> Answer
+    ensures { result ≡ record { floor = floor; refusal = refusal_number why } }
+{
+    Answer {
+        floor,
+        refusal: u8::from(why),
+    }
+}
+
+// Stops a running tile. Its canisters stay on it. One function for stop and repair would take the test, the floor after and
+// the definition as parameters, and be no plainer.
 pub fn stop(floor: Floor, tile: u32) -> Answer
     ensures { result ≡ stop_answer floor tile }
 {
-    let well = well_formed(floor);
-    if !well {
-        return Answer {
-            refusal: refusals::MALFORMED,
-            floor: floor,
-        };
+    if !well_formed(floor) {
+        return refused(floor, Refusal::Malformed);
     }
-    let n = stop_refusal(floor, tile);
-    if n != 0 {
-        return Answer {
-            refusal: n,
-            floor: floor,
-        };
+    if let Err(why) = test_stop(floor, tile) {
+        return refused(floor, why);
     }
     let stopped = stopped_floor(floor, tile);
     Answer {
-        refusal: 0,
         floor: stopped,
+        refusal: 0,
     }
 }
 
@@ -70,33 +71,25 @@ pub fn stop(floor: Floor, tile: u32) -> Answer
 pub fn repair(floor: Floor, tile: u32) -> Answer
     ensures { result ≡ repair_answer floor tile }
 {
-    let well = well_formed(floor);
-    if !well {
-        return Answer {
-            refusal: refusals::MALFORMED,
-            floor: floor,
-        };
+    if !well_formed(floor) {
+        return refused(floor, Refusal::Malformed);
     }
-    let n = repair_refusal(floor, tile);
-    if n != 0 {
-        return Answer {
-            refusal: n,
-            floor: floor,
-        };
+    if let Err(why) = test_repair(floor, tile) {
+        return refused(floor, why);
     }
     let repaired = repaired_floor(floor, tile);
     Answer {
-        refusal: 0,
         floor: repaired,
+        refusal: 0,
     }
 }
 
 // A refused reading: zeros.
-fn unread(n: u8) -> Reading
-    ensures { result ≡ unread_with n }
+fn unread(why: Refusal) -> Reading
+    ensures { result ≡ unread_with (refusal_number why) }
 {
     Reading {
-        refusal: n,
+        refusal: u8::from(why),
         tile: Tile::ZERO,
         members: [Canister::ZERO; 16],
     }
@@ -106,20 +99,16 @@ fn unread(n: u8) -> Reading
 pub fn read(floor: Floor, tile: u32) -> Reading
     ensures { result ≡ read_answer floor tile }
 {
-    let well = well_formed(floor);
-    if !well {
-        return unread(refusals::MALFORMED);
+    if !well_formed(floor) {
+        return unread(Refusal::Malformed);
     }
-    let n = read_refusal(floor, tile);
-    if n != 0 {
-        return unread(n);
+    if let Err(why) = test_read(floor, tile) {
+        return unread(why);
     }
-    let head = tile_head(floor, tile);
-    let members = tile_members(floor, tile);
     Reading {
         refusal: 0,
-        tile: head,
-        members: members,
+        tile: tile_head(floor, tile),
+        members: tile_members(floor, tile),
     }
 }
 
@@ -127,12 +116,11 @@ pub fn read(floor: Floor, tile: u32) -> Reading
 pub fn round(floor: Floor) -> Rounded
     ensures { result ≡ round_answer floor }
 {
-    let well = well_formed(floor);
-    if !well {
+    if !well_formed(floor) {
         return Rounded {
-            refusal: refusals::MALFORMED,
-            floor: floor,
+            floor,
             report: Report::ZERO,
+            refusal: u8::from(Refusal::Malformed),
         };
     }
     run_round(floor)

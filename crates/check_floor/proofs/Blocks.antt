@@ -49,9 +49,6 @@ few_of f t p = count_fits f.settings t (head_of f t) (head_fit f t p)
 pub block_length : (cs : List Canister) (t : ℕ) → length cs ≡ 1024 → t < 64 → length (block cs t) ≡ 16
 block_length cs t lc h = length-take-le 16 (drop (16 * t) cs) (rw (length-drop, lc) (omega arith))
 
-pub block_at : (cs : List Canister) (t k : ℕ) → k < 16 → get_or (block cs t) k zero_canister ≡ get_or cs (16 * t + k) zero_canister
-block_at cs t k h = get_or-take 16 (drop (16 * t) cs) k zero_canister h ∙ get_or-drop (16 * t) cs k zero_canister
-
 pub used_length : (f : Floor) (t : ℕ) → length f.canisters ≡ 1024 → t < 64 → Fit f t → length (used_of f t) ≡ (head_of f t).count
 used_length f t lc h p = length-take-le (head_of f t).count (block f.canisters t) (omega (arith, block_length f.canisters t lc h, few_of f t p))
 

@@ -1,15 +1,14 @@
 -- The test of one tile branch by branch.
-use mathlib.Core.Path.{◌≡◌, refl, sym, ap, ◌∙◌}
-use mathlib.Core.Bool.{Bool, true, false, not, ◌&&◌, ◌||◌}
-use mathlib.Core.List.{List, [], ◌∷◌}
-use Prim.Native.Nat.{ℕ, zero, suc, ◌≤◌, ◌<◌}
+use mathlib.Core.Path.{◌≡◌, refl, sym, ap}
+use mathlib.Core.Bool.{Bool, true, false, ◌&&◌}
+use mathlib.Core.List.{List}
+use Prim.Native.Nat.{ℕ, ◌≤◌, ◌<◌}
 use native.Mathlib.Omega.{arith}
 use native.Mathlib.Decide.{dec_le}
 use lib.ListN.{take, drop}
-use lib.Dec.{ltb}
-use borrow.Author.Tests.{leb-true, le-leb, lt-leb, lt-ltb, le-ltb}
+use borrow.Author.Tests.{leb-true, le-leb, lt-ltb, le-ltb}
 use Rattle.laws.specs.Define.{all_of, pairs_of}
-use Rattle.laws.proofs.Tests.{and_yes, and_no}
+use Rattle.laws.proofs.Tests.{and_left, and_yes}
 use Rattle.floor.specs.declared.Canister.{Canister}
 use Rattle.floor.specs.declared.Settings.{Settings}
 use Rattle.floor.specs.declared.Tile.{Tile}
@@ -18,8 +17,7 @@ use Rattle.floor.specs.Memory.{zero_tile, is_zero_canister, head_fits, tile_fits
 use Rattle.floor.specs.Well.{head_sound, in_order}
 use Rattle.floor.proofs.Rows.{zero_tile_lem}
 use Rattle.check_places.specs.InternalPlace.{member_sound}
-use Rattle.check_floor.specs.InternalTile.{used_sound, head_test, places_test}
-use Rattle.check_floor.proofs.Tiles.{tile_test}
+use Rattle.check_floor.specs.InternalTile.{used_sound, head_test, places_test, tile_test}
 
 pub count_on : (s : Settings) (t : ℕ) (h : Tile) → head_fits s t h ≡ true → t < total s → h.count ≤ 16
 unfolding head_fits
@@ -54,19 +52,6 @@ pub places_few : (s : Settings) (last n : ℕ) (l : List Canister) (free each pa
 unfolding places_test used_sound
 places_few s last n l free each pairs h a b c = rw (a, b, c, le-leb n 16 h)
 
--- no two of one or none
-pub few_pairs : {A : Type 0} (r : A → A → Bool) (n : ℕ) (l : List A) → n ≤ 1 → pairs_of r (take n l) ≡ true
-unfolding pairs_of all_of
-few_pairs r zero l h = refl
-few_pairs r (suc zero) [] h = refl
-few_pairs r (suc zero) (x ∷ l) h = refl
-few_pairs r (suc (suc n)) l h = absurd (omega arith)
-
-pub four : (a m z p : Bool) → (((a && m) && z) && p) ≡ (a && (z && (m && p)))
-four true m true p = rw (and_yes m)
-four true m false p = rw (and_no m)
-four false m z p = refl
-
 -- ---- a tile is tested by its parts
 and_moved : (a b c : Bool) → (a && (b && c)) ≡ (b && (a && c))
 and_moved true b c = refl
@@ -77,27 +62,20 @@ none_used : (s : Settings) (last : ℕ) (l : List Canister) → used_sound s las
 unfolding used_sound all_of pairs_of
 none_used s last l = refl
 
-pub test_empty : (s : Settings) (last t : ℕ) (h : Tile) (l : List Canister) → h.count ≡ 0 → (head_test s t h && all_of is_zero_canister l) ≡ tile_test s last t h l
-unfolding tile_test tile_fits head_test
-test_empty s last t h l e =
-    let d : drop h.count l ≡ l = ap (λ (n : ℕ). drop n l) e in
-    let u : used_sound s last h.count l ≡ true = ap (λ (n : ℕ). used_sound s last n l) e ∙ none_used s last l in
-    rw (d, u) (go (head_fits s t h) (all_of is_zero_canister l) (not (ltb t (total s))) (head_sound s t h))
-  where
-    go : (a b c d : Bool) → ((a && (c || d)) && b) ≡ ((a && b) && (c || (d && true)))
-    go true true c d = rw (and_yes d, and_yes (c || d))
-    go true false true d = refl
-    go true false false true = refl
-    go true false false false = refl
-    go false b c d = refl
-
-pub test_used : (s : Settings) (last t : ℕ) (h : Tile) (l : List Canister) → (h.count ≡ 0 → ⊥) → (head_test s t h && places_test s last h.count l) ≡ tile_test s last t h l
+-- a head that passes, and the places with as many used as it says
+pub tile_parts : (s : Settings) (last t : ℕ) (h : Tile) (l : List Canister) → (head_test s t h && places_test s last h.count l) ≡ tile_test s last t h l
 unfolding tile_test tile_fits head_test places_test
-test_used s last t h l ne = go (head_fits s t h) refl (dec_le (total s) t)
+tile_parts s last t h l = go (head_fits s t h) refl (dec_le (total s) t)
   where
     go : (a : Bool) → head_fits s t h ≡ a → Dec (total s ≤ t) → (head_test s t h && places_test s last h.count l) ≡ tile_test s last t h l
     go false p w = rw p
-    go true p (yes off) = absurd (ne (ap (λ (x : Tile). x.count) (zero_off s t h p off)))
+    go true p (yes off) =
+        let none : h.count ≡ 0 = ap (λ (x : Tile). x.count) (zero_off s t h p off) in
+        rw (p, le-ltb t (total s) off, none, none_used s last l)
     go true p (no on) =
         let k : t < total s = omega arith in
         rw (p, lt-ltb t (total s) k, le-leb h.count 16 (count_on s t h p k)) (and_moved (head_sound s t h) (all_of is_zero_canister (drop h.count l)) (used_sound s last h.count l))
+
+pub head_few : (s : Settings) (t : ℕ) (h : Tile) → head_test s t h ≡ true → h.count ≤ 16
+unfolding head_test
+head_few s t h e = count_fits s t h (and_left (head_fits s t h) _ e)

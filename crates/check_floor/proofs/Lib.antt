@@ -1,8 +1,6 @@
-pub mod Tiles
 pub mod Branches
 pub mod Counts
 pub mod Joins
 pub mod Blocks
 pub mod WellCode
-pub mod Keys
 pub mod Loops

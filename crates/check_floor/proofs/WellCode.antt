@@ -14,23 +14,26 @@ use Rattle.laws.specs.Every.{All, Pairs}
 use Rattle.laws.proofs.Tests.{same_test, and_left, and_right, and_true, and_no, and_yes, r_id, r_and, r_lt, r_pairs}
 use Rattle.laws.proofs.Tables.{below_at, below_of}
 use Rattle.laws.proofs.Lists.{all_imp, all_both, all_map, all_unmap, all_true, true_all, cat_all, no_length}
+use Rattle.std.proofs.Common.{Result, Ok, Err, lit<}
+use Rattle.std.specs.Result.{is_ok}
+use Rattle.floor.specs.Numbers.{refusal_number, answered}
+use Rattle.floor.specs.declared.refusal.Refusal.{Refusal}
+use Rattle.floor.specs.declared.refusal.Refusal.TheVariants.{Grid, Sets, Measure, NoTile, NotASource, NumberZero, Outside, StopOfHopper, ImageEnds, OtherKind, RecordShape, ImageMalformed, ShortBuffer, Malformed, Stopped, Running, NumberUsed, TooClose, NoPlace, ListTooLong, ShortPage, BadName, NameNotHeld, LayoutsFull, BadLabel, NotReleased, NoFloor, Overloaded}
 use Rattle.floor.specs.declared.Canister.{Canister}
 use Rattle.floor.specs.declared.Settings.{Settings}
 use Rattle.floor.specs.declared.Floor.{Floor}
-use Rattle.floor.specs.Settings.{total, spacing, hoppers_of, settings_pass, Ranged}
+use Rattle.floor.specs.Settings.{total, spacing, hoppers_of, settings_refusal, settings_pass, Ranged}
 use Rattle.floor.specs.Model.{tile_of, numbers, numbers_on}
-use Rattle.floor.specs.Memory.{is_zero_canister, head_of, view, block, tile_fits}
+use Rattle.floor.specs.Memory.{head_of, view, block, tile_fits}
 use Rattle.floor.specs.Well.{head_sound, inside, apart, in_order, members_sound, tile_sound, numbers_sound, counters_sound, state_sound, state_well, well_formed}
-use Rattle.floor.proofs.Well.{settings_fact, ranged, pairs_imp}
+use Rattle.floor.proofs.Well.{settings_fact, ranged, pairs_imp, pass_of, pass_not}
 use Rattle.floor.proofs.Rows.{state_fits_of, state_fit_at, view_length}
 use Rattle.floor.proofs.Pack.{well_parts}
 use Rattle.floor.proofs.LayoutPlaces.{place_test, layouts_code}
 use Rattle.check_unique.specs.InternalDiffer.{differ, Runs}
 use Rattle.check_places.specs.InternalPlace.{member_sound}
-use Rattle.check_floor.specs.InternalTile.{used_sound, head_test, places_test}
-use Rattle.check_floor.proofs.Tiles.{tile_test, tiles_test}
+use Rattle.check_floor.specs.InternalTile.{used_sound, tile_test, tiles_test}
 use Rattle.check_floor.specs.InternalCode.{counted}
-use Rattle.check_floor.proofs.Branches.{test_empty, test_used}
 use Rattle.check_floor.proofs.Joins.{all_cat}
 use Rattle.check_floor.proofs.Blocks.{used_of, Fit, used_off, tile_view, numbers_view, count_view, differ_view, runs_view}
 
@@ -71,15 +74,6 @@ Tests f t =
 
 abbrev pub test_of : Floor → ℕ → Bool
 test_of f = tiles_test f.settings f.counters.last f.tiles f.canisters
-
--- tile t by the parts that the code tests
-pub tested_empty : (f : Floor) (t : ℕ) → (head_of f t).count ≡ 0 → (head_test f.settings t (head_of f t) && all_of is_zero_canister (block f.canisters t)) ≡ test_of f t
-unfolding tiles_test
-tested_empty f t e = test_empty f.settings f.counters.last t (head_of f t) (block f.canisters t) e
-
-pub tested_used : (f : Floor) (t : ℕ) → ((head_of f t).count ≡ 0 → ⊥) → (head_test f.settings t (head_of f t) && places_test f.settings f.counters.last (head_of f t).count (block f.canisters t)) ≡ test_of f t
-unfolding tiles_test
-tested_used f t e = test_used f.settings f.counters.last t (head_of f t) (block f.canisters t) e
 
 pub test_fit : (f : Floor) (t : ℕ) → test_of f t ≡ true → Fit f t
 unfolding tiles_test tile_test
@@ -217,6 +211,41 @@ module _ (f : Floor) (lt : length f.tiles ≡ 64) (lc : length f.canisters ≡ 1
 -- ---- the settings
 pub pass_sized : (s : Settings) → settings_pass s ≡ true → Ranged s × (s.length ≤ s.width)
 pass_sized s h = let m = (settings_fact s).0 h in (ranged s h, omega (arith, m.short))
+
+positive : (r : Refusal) → 0 < refusal_number r
+positive Grid = lit< tt
+positive Sets = lit< tt
+positive Measure = lit< tt
+positive NoTile = lit< tt
+positive NotASource = lit< tt
+positive NumberZero = lit< tt
+positive Outside = lit< tt
+positive StopOfHopper = lit< tt
+positive ImageEnds = lit< tt
+positive OtherKind = lit< tt
+positive RecordShape = lit< tt
+positive ImageMalformed = lit< tt
+positive ShortBuffer = lit< tt
+positive Malformed = lit< tt
+positive Stopped = lit< tt
+positive Running = lit< tt
+positive NumberUsed = lit< tt
+positive TooClose = lit< tt
+positive NoPlace = lit< tt
+positive ListTooLong = lit< tt
+positive ShortPage = lit< tt
+positive BadName = lit< tt
+positive NameNotHeld = lit< tt
+positive LayoutsFull = lit< tt
+positive BadLabel = lit< tt
+positive NotReleased = lit< tt
+positive NoFloor = lit< tt
+positive Overloaded = lit< tt
+
+-- whether nothing refuses the settings
+pub settings_tested : (s : Settings) (o : Result (Unit {0}) Refusal) → answered o ≡ settings_refusal s → is_ok o ≡ settings_pass s
+settings_tested s (Ok x) e = sym (pass_of s 0 e refl)
+settings_tested s (Err r) e = let p = positive r in sym (pass_not s (refusal_number r) e (λ z. absurd (omega arith)))
 
 -- ---- with the layouts
 pub state_off : (f : Floor) → false ≡ state_well f → false ≡ well_formed f

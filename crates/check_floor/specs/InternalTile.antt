@@ -1,11 +1,11 @@
--- The tests of one tile in the words of the code: of its head, and of its sixteen places.
-use Rattle.std.specs.Prelude.{Bool, not, ◌&&◌, ◌||◌, List, ℕ, leb, ltb, take, drop}
+-- The tests of one tile in the words of the code: of its head, of its sixteen places, and of both.
+use Rattle.std.specs.Prelude.{Bool, not, ◌&&◌, ◌||◌, List, ℕ, leb, ltb, take, drop, get_or}
 use Rattle.laws.specs.Define.{all_of, pairs_of}
 use Rattle.floor.specs.declared.Canister.{Canister}
 use Rattle.floor.specs.declared.Settings.{Settings}
 use Rattle.floor.specs.declared.Tile.{Tile}
 use Rattle.floor.specs.Settings.{total}
-use Rattle.floor.specs.Memory.{is_zero_canister, head_fits}
+use Rattle.floor.specs.Memory.{zero_tile, is_zero_canister, block, head_fits, tile_fits}
 use Rattle.floor.specs.Well.{head_sound, in_order}
 use Rattle.check_places.specs.InternalPlace.{member_sound}
 
@@ -20,3 +20,11 @@ head_test s t h = head_fits s t h && (not (ltb t (total s)) || head_sound s t h)
 -- its sixteen places, n of them used
 unfoldable pub places_test : Settings → ℕ → ℕ → List Canister → Bool
 places_test s last n l = leb n 16 && (all_of is_zero_canister (drop n l) && used_sound s last n l)
+
+-- one tile, from its head and its sixteen places
+unfoldable pub tile_test : Settings → ℕ → ℕ → Tile → List Canister → Bool
+tile_test s last t h l = tile_fits s t h l && (not (ltb t (total s)) || (head_sound s t h && used_sound s last h.count l))
+
+-- tile t of the arrays
+unfoldable pub tiles_test : Settings → ℕ → List Tile → List Canister → ℕ → Bool
+tiles_test s last ts cs t = tile_test s last t (get_or ts t zero_tile) (block cs t)

@@ -1,16 +1,19 @@
 // Whether a floor in memory is well formed, on any bytes.
 #![tactic(auto)]
 
-ghost use Rattle.std.specs.Prelude.{◌≡◌, true, ◌≤◌, ◌<◌, ◌^◌, length};
+ghost use Rattle.std.specs.Prelude.{◌≡◌, true, ◌≤◌, length};
+ghost use Rattle.laws.specs.Define.{all_of};
+ghost use Rattle.floor.specs.Memory.{is_zero_canister};
+ghost use Rattle.floor.specs.Model.{numbers};
 ghost use Rattle.floor.specs.Settings.{hoppers_of, settings_pass, Ranged};
 ghost use Rattle.floor.specs.Well.{counters_sound, state_well, well_formed};
-ghost use Rattle.check_floor.specs.InternalTile.{head_test};
+ghost use Rattle.check_floor.specs.InternalTile.{head_test, places_test, tile_test};
 
 use check_heads::{head_fits, head_ok};
 use check_layouts::layouts_ok;
 use check_numbers::numbers_differ;
 use check_places::{is_zero_canister, member_ok, pairs_ok};
-use check_settings::settings_refusal;
+use check_settings::test_settings;
 use floor::{Canister, Counters, Floor, Settings, Tile};
 use sets::size;
 
@@ -20,19 +23,54 @@ fn head_test(s: Settings, t: usize, h: Tile) -> bool
     ensures { result ≡ head_test s t h }
 {
     let fits = head_fits(s, t, h);
-    let all = s.tile_count();
-    if all <= t {
-        return fits;
+    if s.tile_count() <= t {
+        fits
+    } else {
+        fits & head_ok(s, t, h)
     }
-    let own = head_ok(s, t, h);
-    fits & own
 }
 
-// A number as a wider one.
-fn wide(x: u32) -> u64
-    ensures { (result ≡ x) × (result < 2 ^ 32) }
+// Whether none of the places is used.
+fn unused(places: &[Canister]) -> bool
+    ensures { result ≡ all_of is_zero_canister places.now }
 {
-    x as u64
+    let mut ok = true;
+    for c in places {
+        ok &= is_zero_canister(*c);
+    }
+    ok
+}
+
+// The sixteen places of a tile, the first n of them used.
+fn places_ok(s: Settings, last: u32, n: usize, places: &[Canister]) -> bool
+    requires { (s.length ≤ s.width) × (n ≤ 16) × (length places.now ≡ 16) }
+    ensures { result ≡ places_test s last n places.now }
+{
+    let members = &places[..n];
+    let mut ok = true;
+    for c in members {
+        ok &= member_ok(s, last, *c);
+    }
+    unused(&places[n..]) & (ok & pairs_ok(s, members))
+}
+
+// A tile with its sixteen places. Where its head passes, at most sixteen are used.
+fn tile_ok(s: Settings, last: u32, t: usize, h: Tile, places: &[Canister]) -> bool
+    requires { Ranged s × (s.length ≤ s.width) × (length places.now ≡ 16) }
+    ensures { result ≡ tile_test s last t h places.now }
+{
+    head_test(s, t, h) && places_ok(s, last, usize::from(h.count), places)
+}
+
+// The numbers that stand in the places.
+fn numbers_in(canisters: &[Canister; 1024]) -> [u32; 1024]
+    ensures { result ≡ numbers canisters.now }
+{
+    let mut keys = [0; 1024];
+    for (k, c) in canisters.iter().enumerate() {
+        keys[k] = c.number;
+    }
+    keys
 }
 
 // The counters, with n canisters on the floor. The sum may exceed 32 bits.
@@ -40,94 +78,40 @@ fn counters_ok(s: Settings, c: Counters, n: u32) -> bool
     requires { settings_pass s ≡ true }
     ensures { result ≡ counters_sound (length (hoppers_of s)) c n }
 {
-    let h = size(s.hoppers);
-    let d = c.delivered;
-    let d0 = d[0];
-    let d1 = d[1];
-    let d2 = d[2];
-    let d3 = d[3];
-    let spare = ((0 < h) | (d0 == 0))
-        & (((1 < h) | (d1 == 0)) & (((2 < h) | (d2 == 0)) & ((3 < h) | (d3 == 0))));
-    let sum = wide(d0) + wide(d1) + wide(d2) + wide(d3) + wide(n);
-    let booked = c.booked as u64;
-    spare & ((booked == sum) & (c.booked <= c.last))
+    let h = usize::from(size(s.hoppers));
+    let mut spare = true;
+    let mut sum = u64::from(n);
+    for (k, d) in c.delivered.iter().enumerate() {
+        spare &= (k < h) | (*d == 0);
+        sum += u64::from(*d);
+    }
+    spare & ((u64::from(c.booked) == sum) & (c.booked <= c.last))
 }
 
-// Well formed but for the layouts, once the settings have passed. First the tiles without their canisters, and the places of
-// the tiles that have none; a floor without canisters is done then. After that the places of the others, tested where they
-// are and copied only where a tile has two canisters or more, with their numbers.
+// Well formed but for the layouts, once the settings have passed: the tiles with their places, the counters, and on a floor
+// with canisters the numbers.
 fn scan(f: Floor) -> bool
     requires { settings_pass f.settings ≡ true }
     ensures { result ≡ state_well f }
 {
-    let s = f.settings;
-    let counters = f.counters;
-    let mut n: u32 = 0;
-    for t in 0usize..64 {
-        let h = f.tiles[t];
-        let mut ok = head_test(s, t, h);
-        if h.count == 0 {
-            for k in 0usize..16 {
-                let one = is_zero_canister(f.canisters[16 * t + k]);
-                ok = ok & one;
-            }
-        }
-        if !ok {
+    let mut n = 0u32;
+    for (t, h) in f.tiles.iter().enumerate() {
+        let places = &f.canisters[16 * t..16 * t + 16];
+        if !tile_ok(f.settings, f.counters.last, t, *h, places) {
             return false;
         }
-        n = n + h.count as u32;
+        n += u32::from(h.count);
     }
-    let added = counters_ok(s, counters, n);
+    let added = counters_ok(f.settings, f.counters, n);
     if n == 0 {
         return added;
     }
-    let mut keys = [0u32; 1024];
-    for u in 0usize..64 {
-        let g = f.tiles[u];
-        let held = g.count as usize;
-        if 0 < held {
-            let mut good = true;
-            for m in 0usize..held {
-                let c = f.canisters[16 * u + m];
-                let one = member_ok(s, counters.last, c);
-                good = good & one;
-                keys[16 * u + m] = c.number;
-            }
-            for r in held..16 {
-                let one = is_zero_canister(f.canisters[16 * u + r]);
-                good = good & one;
-            }
-            if 1 < held {
-                let mut items = [Canister::ZERO; 16];
-                for i in 0usize..16 {
-                    items[i] = f.canisters[16 * u + i];
-                }
-                let pairs = pairs_ok(s, items, held);
-                good = good & pairs;
-            }
-            if !good {
-                return false;
-            }
-        }
-    }
-    let differing = numbers_differ(keys);
-    added & differing
+    added & numbers_differ(numbers_in(&f.canisters))
 }
 
-// Well formed. Where the settings don't pass, nothing else is read. The layouts are copied out: they are few, and the floor
-// is read in one place.
+// Well formed. Where the settings don't pass, nothing else is read.
 pub fn well_formed(f: Floor) -> bool
     ensures { result ≡ well_formed f }
 {
-    let s = f.settings;
-    let refusal = settings_refusal(s);
-    if refusal != 0 {
-        return false;
-    }
-    let layouts = f.layouts;
-    let layouts_sound = layouts_ok(s, layouts);
-    if !layouts_sound {
-        return false;
-    }
-    scan(f)
+    test_settings(f.settings).is_ok() && (layouts_ok(f.settings, f.layouts) && scan(f))
 }

@@ -2,7 +2,9 @@
 use mathlib.Core.Path.{◌≡◌, refl, sym, ap, ◌∙◌, subst}
 use mathlib.Core.Bool.{Bool, true, false, not, ◌&&◌, ◌||◌}
 use mathlib.Core.List.{List, [], ◌∷◌}
-use Prim.Native.Nat.{ℕ, suc, ◌/◌, ◌%◌, ◌^◌, ◌≤◌, ◌<◌}
+use mir.Syntax.{w64}
+use Rattle.std.specs.Int.{to_le_bytes}
+use Prim.Native.Nat.{ℕ, zero, suc, ◌+◌, ◌*◌, ◌/◌, ◌%◌, ◌^◌, ◌≤◌, ◌<◌}
 use native.Mathlib.Omega.{arith}
 use native.Mathlib.Decide.{dec_le}
 use lib.Dec.{leb, ltb, eqb}
@@ -11,7 +13,7 @@ use borrow.Author.Tests.{lt-ltb}
 use Rattle.laws.specs.Define.{all_of, any_of, all_below, bit, bits_below}
 use Rattle.laws.specs.Every.{All}
 use Rattle.laws.proofs.Lists.{all_imp}
-use Rattle.laws.proofs.Tests.{and_yes, not_both}
+use Rattle.laws.proofs.Tests.{and_yes, and_no, not_both}
 use Rattle.laws.proofs.Tables.{below_at, below_of}
 use Rattle.laws.proofs.SetBits.{bits_all, bits_within}
 use Rattle.floor.specs.declared.Settings.{Settings}
@@ -22,32 +24,43 @@ use Rattle.floor.specs.Memory.{zero_layout}
 use Rattle.floor.proofs.Well.{settings_fact}
 use Rattle.floor.specs.Well.{place_ok, name_at, place_test}
 
--- ---- a name
-abbrev zero : ℕ → Bool
-zero x = eqb x 0
+-- ---- a name, its bytes from the last to the first
+byte : (n i : ℕ) → i < 8 → get_or (to_le_bytes w64 n) i 0 ≡ n / 2 ^ (8 * i) % 256
+byte n zero h = let e : n / 1 ≡ n = omega arith in rw e
+byte n (suc zero) h = refl
+byte n (suc (suc zero)) h = refl
+byte n (suc (suc (suc zero))) h = refl
+byte n (suc (suc (suc (suc zero)))) h = refl
+byte n (suc (suc (suc (suc (suc zero))))) h = refl
+byte n (suc (suc (suc (suc (suc (suc zero)))))) h = refl
+byte n (suc (suc (suc (suc (suc (suc (suc zero))))))) h = refl
+byte n (suc (suc (suc (suc (suc (suc (suc (suc i)))))))) h = absurd (omega arith)
 
-abbrev letter : ℕ → Bool
-letter x = leb 65 x && leb x 90
+and_back : (a b : Bool) → (a && b) ≡ (b && a)
+and_back true b = sym (and_yes b)
+and_back false b = sym (and_no b)
 
--- the bytes from the last to the first
-pub eight_bytes : (a b c d e f g h : ℕ)
-    → ((letter a && ((letter b && ((letter c && ((letter d && ((letter e && ((letter f && ((letter g && (letter h || zero h)) || (zero g && zero h)))
-    || (zero f && (zero g && zero h)))) || (zero e && (zero f && (zero g && zero h))))) || (zero d && (zero e && (zero f && (zero g && zero h))))))
-    || (zero c && (zero d && (zero e && (zero f && (zero g && zero h))))))) || (zero b && (zero c && (zero d && (zero e && (zero f && (zero g && zero h))))))))
-    || (zero a && (zero b && (zero c && (zero d && (zero e && (zero f && (zero g && zero h))))))))
-    ≡ spelled (a ∷ b ∷ c ∷ d ∷ e ∷ f ∷ g ∷ h ∷ [])
-unfolding spelled all_of is_letter
-eight_bytes a b c d e f g h = rw (and_yes (zero h), and_yes (letter h))
+pub spelled_none : (n : ℕ) → true ≡ spelled (letters 0 n)
+unfolding spelled letters
+spelled_none n = refl
 
-name_letters : (n : ℕ)
-    → letters 8 n ≡ n / 2 ^ 56 % 256 ∷ n / 2 ^ 48 % 256 ∷ n / 2 ^ 40 % 256 ∷ n / 2 ^ 32 % 256 ∷ n / 2 ^ 24 % 256 ∷ n / 2 ^ 16 % 256 ∷ n / 2 ^ 8 % 256 ∷ n % 256 ∷ []
-unfolding letters
-name_letters n = let e : n / 1 ≡ n = omega arith in rw e
+pub zeros_none : (n : ℕ) → true ≡ all_of (λ y. eqb y 0) (letters 0 n)
+unfolding all_of letters
+zeros_none n = refl
 
-pub name_code : (n : ℕ) → n < 2 ^ 64 → (b : Bool)
-    → b ≡ spelled (n / 2 ^ 56 % 256 ∷ n / 2 ^ 48 % 256 ∷ n / 2 ^ 40 % 256 ∷ n / 2 ^ 32 % 256 ∷ n / 2 ^ 24 % 256 ∷ n / 2 ^ 16 % 256 ∷ n / 2 ^ 8 % 256 ∷ n % 256 ∷ []) → (ltb 0 n && b) ≡ name_ok n
+pub zeros_more : (n i : ℕ) {zeros : Bool} → i < 8 → zeros ≡ all_of (λ y. eqb y 0) (letters i n) → (zeros && eqb (get_or (to_le_bytes w64 n) i 0) 0) ≡ all_of (λ y. eqb y 0) (letters (i + 1) n)
+unfolding all_of letters
+zeros_more n i {zeros} h e = let q = byte n i h in let k : i + 1 ≡ suc i = omega arith in rw (k, q, e) (and_back (all_of (λ y. eqb y 0) (letters i n)) (eqb (n / 2 ^ (8 * i) % 256) 0))
+
+pub spelled_more : (n i : ℕ) {letter ok zeros : Bool} → i < 8 → letter ≡ (leb 65 (get_or (to_le_bytes w64 n) i 0) && leb (get_or (to_le_bytes w64 n) i 0) 90)
+    → ok ≡ spelled (letters i n) → zeros ≡ all_of (λ y. eqb y 0) (letters i n)
+    → ((letter && ok) || (eqb (get_or (to_le_bytes w64 n) i 0) 0 && zeros)) ≡ spelled (letters (i + 1) n)
+unfolding spelled letters is_letter
+spelled_more n i h l e f = let q = byte n i h in let k : i + 1 ≡ suc i = omega arith in rw (k, l, q, e, f)
+
+pub name_code : (n : ℕ) → n < 2 ^ 64 → (b : Bool) → b ≡ spelled (letters 8 n) → (ltb 0 n && b) ≡ name_ok n
 unfolding name_ok
-name_code n h b e = rw (lt-ltb n (2 ^ 64) h, name_letters n, e)
+name_code n h b e = rw (lt-ltb n (2 ^ 64) h, e)
 
 -- ---- a set
 none_fails : (p q : ℕ → Bool) (l : List ℕ) → All (λ t. p t ≡ not (q t)) l → not (any_of p l) ≡ all_of q l

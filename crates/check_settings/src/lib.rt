@@ -2,10 +2,11 @@
 #![tactic(auto)]
 
 ghost use Rattle.std.specs.Prelude.{◌≡◌, false};
+ghost use Rattle.floor.specs.Numbers.{answered};
 ghost use Rattle.floor.specs.Settings.{settings_refusal};
 ghost use Rattle.check_settings.specs.InternalGroups.{sizes_wrong, sets_wrong, rules_wrong, measures_wrong};
 
-use floor::{Settings, refusals};
+use floor::{Refusal, Settings};
 use sets::{meets, size, within};
 
 // Refusal 1.
@@ -54,18 +55,18 @@ fn measures_wrong(s: Settings) -> bool
     3 < span / d
 }
 
-// The number that settings are refused by, 0 where they pass.
-pub fn settings_refusal(s: Settings) -> u8
-    ensures { result ≡ settings_refusal s }
+// Refuses settings by 1 to 3.
+pub fn test_settings(s: Settings) -> Result<(), Refusal>
+    ensures { answered result ≡ settings_refusal s }
 {
     if sizes_wrong(s) {
-        return refusals::GRID;
+        return Err(Refusal::Grid);
     }
     if sets_wrong(s) {
-        return refusals::SETS;
+        return Err(Refusal::Sets);
     }
     if measures_wrong(s) {
-        return refusals::MEASURE;
+        return Err(Refusal::Measure);
     }
-    0
+    Ok(())
 }

@@ -4,6 +4,7 @@
 ghost use Rattle.std.specs.Prelude.{◌<◌, ◌≤◌, length};
 
 use console_barge::WithBarge;
+use console_session::Session;
 use std::io::Read;
 use std::rt::Files;
 
@@ -16,14 +17,17 @@ struct Place {
 
 // One line: a remark is passed over.
 fn line_done(rt: &(impl Files + Print), before: WithBarge, line: &[u8]) -> WithBarge {
-    let mut s = before.session;
-    s.lines = std::num::wrapping_add_u64(s.lines, 1);
+    let lines = before.session.lines.wrapping_add(1);
+    let s = Session {
+        lines,
+        ..before.session
+    };
     let a = console_barge::with_session(before, s);
     if console_parse::is_remark(line) {
         return a;
     }
     if 400 < line.len() {
-        console_say::too_long(rt, s.lines);
+        console_say::too_long(rt, lines);
         return a;
     }
     console_obey::obey(rt, a, line)
@@ -35,6 +39,7 @@ fn obey_lines(rt: &(impl Files + Print), before: WithBarge, text: &[u8]) -> Plac
 {
     let mut a = before;
     let mut at = 0;
+    // the step depends on the bytes: where the next line ends
     while a.session.going && at < text.len() {
         let to = console_words::find(text, at, b'\n');
         if to == text.len() {
@@ -43,7 +48,7 @@ fn obey_lines(rt: &(impl Files + Print), before: WithBarge, text: &[u8]) -> Plac
         a = line_done(rt, a, &text[at..to]);
         at = to + 1;
     }
-    Place { all: a, at: at }
+    Place { all: a, at }
 }
 
 // Reads once into the buffer from `end` on. Gives the new end, the same one where the input has ended.
@@ -52,14 +57,14 @@ fn read_more(rt: &impl Print, input: &mut impl Read, buf: &mut [u8], end: usize)
     ensures { (end ≤ result) × (result ≤ length buf.new) }
 {
     let Ok(more) = input.read(&mut buf[end..]) else {
-        console_say::text(rt, b"console: standard input can't be read any further\n");
+        let _ = println!(rt; "console: standard input can't be read any further");
         return end;
     };
     end + more
 }
 
 // After a read: what the console keeps, how many bytes of an unfinished line stand at the front of the buffer, whether to
-// read again.
+// read again. No Option: what is kept is looked at after the last read too.
 #[derive(Clone, Copy)]
 struct After {
     all: WithBarge,
@@ -82,7 +87,7 @@ fn turn(
     if end == kept {
         return After {
             all: before,
-            kept: kept,
+            kept,
             more: false,
         };
     }
@@ -96,49 +101,39 @@ fn turn(
     }
 }
 
-// The end of the input: a last line without its end is obeyed; a list that has no `end` is not sent. `more`: there may be
-// input, and no reads are left.
-fn finish(rt: &(impl Files + Print), a: WithBarge, rest: &[u8], more: bool) {
-    if more {
-        console_say::text(rt, b"console: no reads are left; the lines after line ");
-        console_say::number(rt, a.session.lines);
-        console_say::text(rt, b" are not read\n");
-        return;
-    }
+// The end of the input: a last line without its end is obeyed; a list that has no `end` is not sent.
+fn finish(rt: &(impl Files + Print), a: WithBarge, rest: &[u8]) {
     let mut last = a;
     if a.session.going && 0 < rest.len() {
         last = line_done(rt, a, rest);
     }
     if last.session.entries.begun {
-        console_say::text(rt, b"list: not sent, there is no end\n");
+        let _ = println!(rt; "list: not sent, there is no end");
     }
 }
 
 // Obeys lines as they come, until `quit` or the end of the input. A proved loop has to end, and nothing says that the input
-// does: so the reads are counted down, from a number that no run uses up.
+// does: so the reads are counted, to a number that no run reaches.
 fn converse(rt: &(impl Files + Print), input: &mut impl Read, buf: &mut [u8])
     requires { 401 < length buf.old }
 {
     let mut a = console_barge::begin();
-    let mut kept: usize = 0;
-    let mut more = true;
-    let mut reads = u64::MAX;
-    while 0 < reads && more {
+    let mut kept = 0;
+    for _ in 0..u64::MAX {
         let done = turn(rt, input, a, buf, kept);
-        let after = done.all;
-        a = after;
+        a = done.all;
         kept = done.kept;
-        more = done.more;
-        reads -= 1;
+        if !done.more {
+            finish(rt, a, &buf[..kept]);
+            return;
+        }
     }
-    finish(rt, a, &buf[..kept], more);
+    let lines = a.session.lines;
+    let _ = println!(rt; "console: no reads are left; the lines after line {lines} are not read");
 }
 
 fn main(rt: HostRuntime) {
-    console_say::text(
-        &rt,
-        b"console: begin with fresh or load; help lists the calls, quit ends\n",
-    );
+    let _ = println!(rt; "console: begin with fresh or load; help lists the calls, quit ends");
     let mut input = rt.stdin();
     let mut buf = [0u8; 4096];
     converse(&rt, &mut input, &mut buf);

@@ -5,9 +5,8 @@ ghost use Rattle.std.specs.Prelude.{◌≡◌, ◌<◌};
 ghost use Rattle.console_barge.specs.Aboard.{start_barge, session_set, barge_set, place_of, floor_set};
 
 use barge::Barge;
-use console_say::{number, small, text};
 use console_session::Session;
-use floor::Floor;
+use floor::{Floor, Refusal};
 
 // The session, the barge beside it, and how many rounds each floor of the barge went.
 #[derive(Clone, Copy)]
@@ -21,15 +20,12 @@ pub struct WithBarge {
 pub fn begin() -> WithBarge
     ensures { result ≡ start_barge }
 {
-    let session = console_session::begin();
-    let none = floor::zero_floor();
-    let barge = Barge {
-        floors: [none; 4],
-        allowance: 0,
-    };
     WithBarge {
-        session: session,
-        barge: barge,
+        session: console_session::begin(),
+        barge: Barge {
+            floors: [floor::zero_floor(); 4],
+            allowance: 0,
+        },
         rounds: [0; 4],
     }
 }
@@ -38,18 +34,14 @@ pub fn begin() -> WithBarge
 pub fn with_session(a: WithBarge, session: Session) -> WithBarge
     ensures { result ≡ session_set a session }
 {
-    let mut next = a;
-    next.session = session;
-    next
+    WithBarge { session, ..a }
 }
 
 // With the barge changed.
 pub fn with_barge(a: WithBarge, barge: Barge) -> WithBarge
     ensures { result ≡ barge_set a barge }
 {
-    let mut next = a;
-    next.barge = barge;
-    next
+    WithBarge { barge, ..a }
 }
 
 pub fn cannot(rt: &impl Print, a: WithBarge, line: &[u8]) -> WithBarge
@@ -61,15 +53,15 @@ pub fn cannot(rt: &impl Print, a: WithBarge, line: &[u8]) -> WithBarge
 
 // Sets the allowance. The calls refuse one that isn't 1 to 4,032.
 pub fn allowance(rt: &impl Print, a: WithBarge, line: &[u8]) -> WithBarge {
-    let n = console_parse::arguments(line, 1);
-    if !n.good {
+    let Some(n) = console_parse::arguments(line, 1) else {
         return cannot(rt, a, line);
-    }
-    text(rt, b"allowance: ");
-    small(rt, n.at[0]);
-    text(rt, b"\n");
-    let mut barge = a.barge;
-    barge.allowance = n.at[0];
+    };
+    let allowance = n[0];
+    let _ = println!(rt; "allowance: {allowance}");
+    let barge = Barge {
+        allowance,
+        ..a.barge
+    };
     with_barge(a, barge)
 }
 
@@ -99,110 +91,96 @@ fn floor_at(barge: Barge, number: u32) -> Floor {
 }
 
 // A floor number that isn't 0 to 3, or a floor that isn't there.
-fn no_floor(rt: &impl Print, call: &[u8], floor: u32) {
+fn no_floor(rt: &impl Print, call: &str, floor: u32) {
     if 3 < floor {
-        console_say::refused_as(rt, call, barge::NO_FLOOR, b"floor number not 0 to 3");
+        console_say::refused_as(rt, call, u8::from(Refusal::NoFloor), &[NO_FLOOR]);
     } else {
-        text(rt, call);
-        text(rt, b": the barge hasn't that floor\n");
+        let _ = println!(rt; "{call}: the barge hasn't that floor");
     }
 }
 
+// What refusal 49 says.
+pub const NO_FLOOR: (Refusal, &str) = (Refusal::NoFloor, "floor number not 0 to 3");
+
 // Whether a floor is there.
 fn is_there(f: Floor) -> bool {
-    let s = f.settings;
-    s.columns != 0
+    f.settings.columns != 0
 }
 
 // The canisters on a floor.
 fn held(f: Floor) -> u64 {
-    let c = f.counters;
-    console_session::held(c)
+    console_session::held(f.counters)
 }
 
 // A floor of the barge that `put` doesn't give up.
 fn holds(rt: &impl Print, floor: u32, n: u64) {
-    text(rt, b"put: floor ");
-    small(rt, floor);
-    text(rt, b" of the barge holds ");
-    console_say::amount(rt, n);
-    text(rt, b"; put! gives it up\n");
+    let what = console_say::canisters(n);
+    let _ = println!(rt; "put: floor {floor} of the barge holds {n} {what}; put! gives it up");
 }
 
 // Moves the console's floor to the barge. A floor there that holds canisters is given up by `put!` alone.
 pub fn put(rt: &impl Print, a: WithBarge, line: &[u8], give_up: bool) -> WithBarge {
-    let n = console_parse::arguments(line, 1);
-    if !n.good {
+    let Some(n) = console_parse::arguments(line, 1) else {
         return cannot(rt, a, line);
-    }
-    let s = a.session;
-    if !s.made {
-        console_say::no_floor(rt, b"put");
+    };
+    let number = n[0];
+    if !a.session.made {
+        console_say::no_floor(rt, "put");
         return a;
     }
-    if 3 < n.at[0] {
-        no_floor(rt, b"put", n.at[0]);
+    if 3 < number {
+        no_floor(rt, "put", number);
         return a;
     }
-    let barge = a.barge;
-    let there = held(floor_at(barge, n.at[0]));
+    let there = held(floor_at(a.barge, number));
     if 0 < there && !give_up {
-        holds(rt, n.at[0], there);
+        holds(rt, number, there);
         return a;
     }
-    text(rt, b"put: now floor ");
-    small(rt, n.at[0]);
-    text(rt, b" of the barge\n");
-    let floor = s.floor;
-    let without = console_session::without_floor(rt, s);
-    let next = with_floor(a, n.at[0], floor);
+    let _ = println!(rt; "put: now floor {number} of the barge");
+    let without = console_session::without_floor(rt, a.session);
+    let next = with_floor(a, number, a.session.floor);
     with_session(next, without)
 }
 
 // Moves a floor of the barge to the console. The console's own, if it holds canisters, is given up by `take!` alone.
 pub fn take(rt: &impl Print, a: WithBarge, line: &[u8], give_up: bool) -> WithBarge {
-    let n = console_parse::arguments(line, 1);
-    if !n.good {
+    let Some(n) = console_parse::arguments(line, 1) else {
         return cannot(rt, a, line);
-    }
-    let barge = a.barge;
-    let floor = floor_at(barge, n.at[0]);
-    if 3 < n.at[0] || !is_there(floor) {
-        no_floor(rt, b"take", n.at[0]);
+    };
+    let number = n[0];
+    let floor = floor_at(a.barge, number);
+    if 3 < number || !is_there(floor) {
+        no_floor(rt, "take", number);
         return a;
     }
-    let s = a.session;
-    let here = held(s.floor);
+    let here = held(a.session.floor);
     if 0 < here && !give_up {
-        console_say::holds(rt, b"take", here);
+        console_say::holds(rt, "take", here);
         return a;
     }
-    let settings = floor.settings;
-    console_show::made(rt, b"take", settings);
-    let with = console_session::begun(rt, s, floor);
-    let none = floor::zero_floor();
-    let next = with_floor(a, n.at[0], none);
+    console_show::made(rt, "take", floor.settings);
+    let with = console_session::begun(rt, a.session, floor);
+    let next = with_floor(a, number, floor::zero_floor());
     with_session(next, with)
 }
 
 // The canisters on all four floors.
-fn total(floors: [Floor; 4]) -> u64 {
-    let two = std::num::wrapping_add_u64(held(floors[0]), held(floors[1]));
-    let three = std::num::wrapping_add_u64(two, held(floors[2]));
-    std::num::wrapping_add_u64(three, held(floors[3]))
+fn total(floors: &[Floor; 4]) -> u64 {
+    let mut all: u64 = 0;
+    for f in floors {
+        all = all.wrapping_add(held(*f));
+    }
+    all
 }
 
 // A floor of the barge, in a line.
 fn tell(rt: &impl Print, k: usize, f: Floor, rounds: u64) {
-    text(rt, b"barge: floor ");
-    number(rt, k as u64);
+    let _ = print!(rt; "barge: floor {k}: ");
     if is_there(f) {
-        text(rt, b": ");
-        let c = f.counters;
-        let s = f.settings;
-        console_show::counters(rt, c, s.hoppers, rounds);
+        console_show::counters(rt, f.counters, f.settings.hoppers, rounds);
     } else {
-        text(rt, b": none\n");
+        let _ = println!(rt; "none");
     }
 }
 
@@ -213,17 +191,11 @@ pub fn barge(rt: &impl Print, a: WithBarge, line: &[u8]) -> WithBarge
     if !console_parse::ended(line, 1) {
         return cannot(rt, a, line);
     }
-    let barge = a.barge;
-    let floors = barge.floors;
-    let rounds = a.rounds;
-    text(rt, b"barge: allowance ");
-    small(rt, barge.allowance);
-    text(rt, b", aboard ");
-    number(rt, total(floors));
-    text(rt, b"\n");
-    tell(rt, 0, floors[0], rounds[0]);
-    tell(rt, 1, floors[1], rounds[1]);
-    tell(rt, 2, floors[2], rounds[2]);
-    tell(rt, 3, floors[3], rounds[3]);
+    let allowance = a.barge.allowance;
+    let aboard = total(&a.barge.floors);
+    let _ = println!(rt; "barge: allowance {allowance}, aboard {aboard}");
+    for (k, (f, rounds)) in a.barge.floors.iter().zip(&a.rounds).enumerate() {
+        tell(rt, k, *f, *rounds);
+    }
     a
 }

@@ -1,5 +1,5 @@
 -- Typed bookings: refused, accepted, and lines that can't be read.
-use mathlib.Core.Path.{◌≡◌, sym}
+use mathlib.Core.Path.{◌≡◌, sym, ◌∙◌}
 use mathlib.Core.Logic.{◌≢◌}
 use mathlib.Core.Bool.{Bool, true, false, not, ◌&&◌, ◌||◌}
 use mathlib.Core.List.{List}
@@ -14,8 +14,8 @@ use Rattle.floor.specs.Calls.{book_answer}
 use Rattle.floor.specs.Anywhere.{anywhere_answer}
 use Rattle.book_list.specs.declared.Listed.{Listed}
 use Rattle.book_list.specs.Parts.{places_answer}
-use Rattle.console_parse.specs.declared.Numbers.{Numbers}
-use Rattle.console_parse.specs.Line.{ends_by, numbers_of, arguments_of}
+use Rattle.std.proofs.Common.{Option, None, Some}
+use Rattle.console_parse.specs.Line.{only_numbers, arguments_of}
 use Rattle.console_list.specs.declared.Entries.{Entries}
 use Rattle.console_list.specs.Entries.{no_entries, with_entry}
 use Rattle.console_session.specs.declared.Session.{Session}
@@ -32,25 +32,31 @@ anywhere_accepted s r a b e n p = rw (sym e) (call_accepted s r a.refusal a.floo
 pub book_answer_lem : (s r : Session) (a b : Answer) → a ≡ b → r ≡ after_booked s a → r ≡ after_booked s b
 book_answer_lem s r a b e p = rw (sym e) p
 
-pub book_two : (s r : Session) (line : List ℕ) (n : Numbers) → n ≡ arguments_of line 2 → n.good ≡ true → r ≡ after_placed s (anywhere_answer s.floor (get_or n.at 0 0) (get_or n.at 1 0)) → r ≡ book_typed s line
+pub book_two : (s r : Session) (line n : List ℕ) → Some n ≡ arguments_of line 2 → r ≡ after_placed s (anywhere_answer s.floor (get_or n 0 0) (get_or n 1 0)) → r ≡ book_typed s line
 unfolding book_typed
-book_two s r line n e g p = rw (sym e, g) p
+book_two s r line n e p = rw (sym e) p
 
-pub book_unread : (s r : Session) (line : List ℕ) (n m : Numbers) → n ≡ arguments_of line 2 → n.good ≡ false → m ≡ arguments_of line 4 → not m.good ≡ true → r ≡ s → r ≡ book_typed s line
+pub book_unread : (s r : Session) (line : List ℕ) → None ≡ arguments_of line 2 → None ≡ arguments_of line 4 → r ≡ s → r ≡ book_typed s line
 unfolding book_typed
-book_unread s r line n m e g f h p = rw (sym e, g, sym f, not-true m.good h) p
+book_unread s r line e f p = rw (sym e, sym f) p
 
-pub book_four : (s r : Session) (line : List ℕ) (n m : Numbers) (c : Canister) → n ≡ arguments_of line 2 → n.good ≡ false → m ≡ arguments_of line 4 → not m.good ≡ false → c ≡ canister_typed m → r ≡ after_booked s (book_answer s.floor (get_or m.at 0 0) c) → r ≡ book_typed s line
+pub book_four : (s r : Session) (line m : List ℕ) (c : Canister) → None ≡ arguments_of line 2 → Some m ≡ arguments_of line 4 → c ≡ canister_typed m → r ≡ after_booked s (book_answer s.floor (get_or m 0 0) c) → r ≡ book_typed s line
 unfolding book_typed
-book_four s r line n m c e g f h k p = rw (sym e, g, sym f, not-false m.good h, sym k) p
+book_four s r line m c e f k p = rw (sym e, sym f, sym k) p
 
-pub entry_unread : (s r : Session) (line : List ℕ) (n : Numbers) (b : Bool) → n ≡ numbers_of line 0 4 → b ≡ ends_by 4 line → not (n.good && b) ≡ true → r ≡ s → r ≡ line_typed s line
+pub book_unread_is : (s r : Session) (line : List ℕ) (x : Option (List ℕ)) → x ≡ arguments_of line 2 → x ≡ None → None ≡ arguments_of line 4 → r ≡ s → r ≡ book_typed s line
+book_unread_is s r line x e q f p = book_unread s r line (sym q ∙ e) f p
+
+pub book_four_is : (s r : Session) (line m : List ℕ) (c : Canister) (x : Option (List ℕ)) → x ≡ arguments_of line 2 → x ≡ None → Some m ≡ arguments_of line 4 → c ≡ canister_typed m → r ≡ after_booked s (book_answer s.floor (get_or m 0 0) c) → r ≡ book_typed s line
+book_four_is s r line m c x e q f k p = book_four s r line m c (sym q ∙ e) f k p
+
+pub entry_unread : (s r : Session) (line : List ℕ) → None ≡ only_numbers line 0 4 → r ≡ s → r ≡ line_typed s line
 unfolding line_typed
-entry_unread s r line n b e f g p = rw (sym e, sym f, not-true (n.good && b) g) p
+entry_unread s r line e p = rw (sym e) p
 
-pub entry_read : (s : Session) (line : List ℕ) (n : Numbers) (b : Bool) (c : Canister) (l : Entries) → n ≡ numbers_of line 0 4 → b ≡ ends_by 4 line → not (n.good && b) ≡ false → c ≡ canister_typed n → l ≡ with_entry s.entries (record { tile = get_or n.at 0 0; canister = c; answer = 0 }) → with_entries s l ≡ line_typed s line
+pub entry_read : (s : Session) (line n : List ℕ) (c : Canister) (l : Entries) → Some n ≡ only_numbers line 0 4 → c ≡ canister_typed n → l ≡ with_entry s.entries (record { tile = get_or n 0 0; canister = c; answer = 0 }) → with_entries s l ≡ line_typed s line
 unfolding line_typed
-entry_read s line n b c l e f g k q = rw (sym e, sym f, not-false (n.good && b) g, sym k, sym q)
+entry_read s line n c l e k q = rw (sym e, sym k, sym q)
 
 pub sent_refused : (s r : Session) (a : Listed) (l : Entries) → a ≡ places_answer s.floor s.entries.list s.entries.count → l ≡ no_entries false → (not (eqb a.refusal 0) || not s.made) ≡ true → r ≡ with_entries s l → r ≡ sent s
 unfolding sent

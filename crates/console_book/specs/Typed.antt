@@ -6,15 +6,14 @@ use Rattle.floor.specs.declared.Placed.{Placed}
 use Rattle.floor.specs.Calls.{book_answer}
 use Rattle.floor.specs.Anywhere.{anywhere_answer}
 use Rattle.book_list.specs.Parts.{places_answer}
-use Rattle.console_parse.specs.declared.Numbers.{Numbers}
-use Rattle.console_parse.specs.Line.{ends_by, numbers_of, arguments_of}
+use Rattle.console_parse.specs.Line.{only_numbers, arguments_of, read}
 use Rattle.console_list.specs.Entries.{no_entries, with_entry}
 use Rattle.console_session.specs.declared.Session.{Session}
 use Rattle.console_session.specs.Sessions.{with_floor, with_entries, after_call}
 
 -- the canister that four numbers name after its tile; an a or b above 65,535 is 65,535, which 7 refuses too
-abbrev pub canister_typed : Numbers → Canister
-canister_typed n = record { number = get_or n.at 1 0; a = min (get_or n.at 2 0) 65535; b = min (get_or n.at 3 0) 65535 }
+abbrev pub canister_typed : List ℕ → Canister
+canister_typed n = record { number = get_or n 1 0; a = min (get_or n 2 0) 65535; b = min (get_or n 3 0) 65535 }
 
 -- after a booking without a place, and after one with its place
 abbrev pub after_placed : Session → Placed → Session
@@ -26,10 +25,8 @@ after_booked s a = after_call s a.refusal a.floor
 -- `book` with two numbers, or with four
 unfoldable pub book_typed : Session → List ℕ → Session
 book_typed s line =
-    let two = arguments_of line 2 in
-    let four = arguments_of line 4 in
-    cond two.good (after_placed s (anywhere_answer s.floor (get_or two.at 0 0) (get_or two.at 1 0)))
-    (cond four.good (after_booked s (book_answer s.floor (get_or four.at 0 0) (canister_typed four))) s)
+    read (arguments_of line 2) (λ two. after_placed s (anywhere_answer s.floor (get_or two 0 0) (get_or two 1 0)))
+    (read (arguments_of line 4) (λ four. after_booked s (book_answer s.floor (get_or four 0 0) (canister_typed four))) s)
 
 -- the list that was typed, sent: no list is begun any more; where there is a floor and no 42, the floor is the answer's
 unfoldable pub sent : Session → Session
@@ -41,5 +38,4 @@ sent s =
 -- a line of the list that is no word alone
 unfoldable pub line_typed : Session → List ℕ → Session
 line_typed s line =
-    let n = numbers_of line 0 4 in
-    cond (n.good && ends_by 4 line) (with_entries s (with_entry s.entries (record { tile = get_or n.at 0 0; canister = canister_typed n; answer = 0 }))) s
+    read (only_numbers line 0 4) (λ n. with_entries s (with_entry s.entries (record { tile = get_or n 0 0; canister = canister_typed n; answer = 0 }))) s

@@ -8,18 +8,17 @@ ghost use Rattle.console_list.specs.Entries.{no_entries};
 ghost use Rattle.console_session.specs.Sessions.{with_entries};
 ghost use Rattle.console_book.specs.Typed.{canister_typed, after_placed, after_booked, book_typed, sent, line_typed};
 
-use console_parse::Numbers;
 use console_session::Session;
 use floor::{Booking, Canister};
 
 // The canister that four numbers name after its tile.
-pub fn canister(n: Numbers) -> Canister
+pub fn canister(n: [u32; 4]) -> Canister
     ensures { result ≡ canister_typed n }
 {
     Canister {
-        number: n.at[1],
-        a: console_parse::short(n.at[2]),
-        b: console_parse::short(n.at[3]),
+        number: n[1],
+        a: console_parse::short(n[2]),
+        b: console_parse::short(n[3]),
     }
 }
 
@@ -27,56 +26,50 @@ pub fn canister(n: Numbers) -> Canister
 fn anywhere(rt: &impl Print, s: Session, tile: u32, number: u32) -> Session
     ensures { result ≡ after_placed s (anywhere_answer s.floor tile number) }
 {
-    let floor = s.floor;
-    let answer = calls::book_anywhere(floor, tile, number);
+    let answer = calls::book_anywhere(s.floor, tile, number);
     if answer.refusal != 0 {
-        return console_session::refused(rt, s, b"book", answer.refusal);
+        return console_session::refused(rt, s, "book", answer.refusal);
     }
     let c = Canister {
-        number: number,
+        number,
         a: answer.a,
         b: answer.b,
     };
     console_say::booked(rt, c, tile);
-    let booked = answer.floor;
-    console_session::with_floor(s, booked)
+    console_session::with_floor(s, answer.floor)
 }
 
 // A booking.
 fn placed(rt: &impl Print, s: Session, tile: u32, c: Canister) -> Session
     ensures { result ≡ after_booked s (book_answer s.floor tile c) }
 {
-    let floor = s.floor;
-    let answer = calls::book(floor, tile, c);
+    let answer = calls::book(s.floor, tile, c);
     if answer.refusal == 0 {
         console_say::booked(rt, c, tile);
     }
-    console_session::answered(rt, s, b"book", answer)
+    console_session::answered(rt, s, "book", answer)
 }
 
 pub fn book(rt: &impl Print, s: Session, line: &[u8]) -> Session
     ensures { result ≡ book_typed s line.now }
 {
-    let two = console_parse::arguments(line, 2);
-    if two.good {
-        return anywhere(rt, s, two.at[0], two.at[1]);
+    if let Some(n) = console_parse::arguments(line, 2) {
+        return anywhere(rt, s, n[0], n[1]);
     }
-    let n = console_parse::arguments(line, 4);
-    if !n.good {
-        return console_session::cannot(rt, s, line);
+    match console_parse::arguments(line, 4) {
+        Some(n) => placed(rt, s, n[0], canister(n)),
+        None => console_session::cannot(rt, s, line),
     }
-    let c = canister(n);
-    placed(rt, s, n.at[0], c)
 }
 
 // Begins a list, or begins it again.
 pub fn list(s: Session) -> Session
     ensures { result ≡ with_entries s (no_entries true) }
 {
-    let mut next = s;
-    let entries = console_list::none(true);
-    next.entries = entries;
-    next
+    Session {
+        entries: console_list::none(true),
+        ..s
+    }
 }
 
 // Sends the list that was typed, and tells each answer.
@@ -84,40 +77,36 @@ fn send(rt: &impl Print, s: Session) -> Session
     ensures { result ≡ sent s }
 {
     let typed = s.entries;
-    let list = typed.list;
-    let mut next = s;
-    let closed = console_list::none(false);
-    next.entries = closed;
-    let floor = s.floor;
-    let answer = calls::book_places(floor, list, typed.count);
+    let next = Session {
+        entries: console_list::none(false),
+        ..s
+    };
+    let answer = calls::book_places(s.floor, typed.list, typed.count);
     if (answer.refusal != 0) | !s.made {
-        return console_session::refused(rt, next, b"list", answer.refusal);
+        return console_session::refused(rt, next, "list", answer.refusal);
     }
-    let places = answer.list;
-    console_list::tell(rt, places, typed.count);
-    let booked = answer.floor;
-    console_session::with_floor(next, booked)
+    console_list::tell(rt, &answer.list, typed.count);
+    console_session::with_floor(next, answer.floor)
 }
 
 // One more booking of the list.
 fn entry(rt: &impl Print, s: Session, line: &[u8]) -> Session
     ensures { result ≡ line_typed s line.now }
 {
-    let n = console_parse::numbers_at(line, 0, 4);
-    if !(n.good & console_parse::ended(line, 4)) {
-        return console_session::cannot(rt, s, line);
+    match console_parse::last_numbers(line, 0, 4) {
+        Some(n) => {
+            let b = Booking {
+                tile: n[0],
+                canister: canister(n),
+                answer: 0,
+            };
+            Session {
+                entries: console_list::with_entry(s.entries, b),
+                ..s
+            }
+        }
+        None => console_session::cannot(rt, s, line),
     }
-    let c = canister(n);
-    let b = Booking {
-        tile: n.at[0],
-        canister: c,
-        answer: 0,
-    };
-    let mut next = s;
-    let typed = s.entries;
-    let more = console_list::with_entry(typed, b);
-    next.entries = more;
-    next
 }
 
 // A line of a list: its end, its beginning once more, or an entry. A list in which `quit` stands is not sent.

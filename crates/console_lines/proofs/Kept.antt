@@ -5,9 +5,10 @@ use mathlib.Core.List.{List, [], ◌∷◌, ◌++◌}
 use Prim.Native.Nat.{ℕ, zero, suc, ◌+◌, ◌-◌, ◌≤◌, ◌<◌}
 use native.Mathlib.Omega.{arith}
 use lib.Dec.{leb}
-use native.Mathlib.Numerals.{add-one}
-use lib.ListN.{length, take, drop, get_or, set, length-take, length-drop, length-set}
-use lib.Seq.{take_all, take-take, drop-drop, get_or-drop, take-suc, take-suc-set, drop-set-lt}
+use lib.ListN.{length, take, drop, length-take, length-drop}
+use lib.Seq.{take_all, take-take, drop-drop}
+use Rattle.std.specs.List.{copy_within}
+use Rattle.std.proofs.lemmas.List.{take-append-le}
 use Rattle.console_words.specs.Text.{after_blanks, word, nth_word}
 use Rattle.console_parse.specs.Line.{remark}
 use Rattle.console_lines.specs.Kept.{Kept}
@@ -87,36 +88,10 @@ part_of_part s at m from n h = front m from n h (drop at s) ∙ ap (take n) (dro
     front (suc m) (suc f) n h [] = refl
     front (suc m) (suc f) n h (b ∷ t) = front m f n (omega arith) t
 
--- two texts that agree from i on
-same_from : (s t : List ℕ) (i : ℕ) → drop i s ≡ drop i t → (k : ℕ) → i ≤ k → get_or s k 0 ≡ get_or t k 0
-same_from s t i e k h =
-    let q : i + (k - i) ≡ k = omega arith in
-    let a : get_or s (i + (k - i)) 0 ≡ get_or t (i + (k - i)) 0 = sym (get_or-drop i s (k - i) 0) ∙ ap (λ (x : List ℕ). get_or x (k - i) 0) e ∙ get_or-drop i t (k - i) 0 in
-    rw q at a
-
-tails : (s t : List ℕ) (i : ℕ) → drop i s ≡ drop i t → drop (suc i) s ≡ drop (suc i) t
-tails s t i e =
-    let q : i + 1 ≡ suc i = add-one i in
-    rw (← q, ← drop-drop 1 i s, ← drop-drop 1 i t, e)
-
--- ---- bytes moved to the front one by one: i of them are moved, and those from i on are as they were
-module _ (before : List ℕ) (from : ℕ) where
-  pub record Moved (now : List ℕ) (i : ℕ) : Type 0 where
-    pub long : length now ≡ length before
-    pub front : take i now ≡ take i (drop from before)
-    pub rest : drop i now ≡ drop i before
-
-  pub moved_none : Moved before 0
-  moved_none = record { long = refl; front = refl; rest = refl }
-
-  pub moved_one : (now : List ℕ) (i : ℕ) → from + i < length before → Moved now i → Moved (set now i (get_or now (from + i) 0)) (i + 1)
-  moved_one now i h m =
-      let l : i < length now = omega (arith, m.long) in
-      let k : i < length (drop from before) = omega (arith, length-drop from before) in
-      let v : get_or now (from + i) 0 ≡ get_or before (from + i) 0 = same_from now before i m.rest (from + i) (omega arith) in
-      let w : get_or (drop from before) i 0 ≡ get_or before (from + i) 0 = get_or-drop from before i 0 in
-      record {
-        long = length-set now i (get_or now (from + i) 0) ∙ m.long;
-        front = rw (add-one, take-suc-set now i (get_or now (from + i) 0) l, take-suc (drop from before) i 0 k, v, w, m.front);
-        rest = rw (add-one, drop-set-lt (suc i) now i (get_or now (from + i) 0) (omega arith)) (tails now before i m.rest);
-      }
+-- n bytes from i on moved to the front
+pub front_moved : (s now : List ℕ) (i n : ℕ) → i + n ≤ length s → now ≡ copy_within s i (i + n) 0 → take n now ≡ take n (drop i s)
+front_moved s now i n h e =
+    let a : i + n - i ≡ n = omega arith in
+    let z : 0 + n ≡ n = omega arith in
+    let b : length (take n (drop i s)) ≡ n = simp (length-take, length-drop) (omega arith) in
+    ap (take n) e ∙ rw (a, z) (take-append-le n (take n (drop i s)) (drop n s) (omega (arith, b)) ∙ take-take n n (drop i s) (omega arith))

@@ -6,7 +6,7 @@ ghost use Rattle.console_list.specs.Entries.{with_entry, no_entries};
 
 use floor::{Booking, Canister};
 
-// The first 64 entries typed, how many were typed (65: more than 64), and whether a list is begun.
+// The first 64 entries typed (fixed memory: no heap), how many were typed (65: more than 64), and whether a list is begun.
 #[derive(Clone, Copy)]
 pub struct Entries {
     pub list: [Booking; 64],
@@ -26,7 +26,7 @@ pub fn none(begun: bool) -> Entries
     Entries {
         list: [nothing; 64],
         count: 0,
-        begun: begun,
+        begun,
     }
 }
 
@@ -45,30 +45,22 @@ pub fn with_entry(e: Entries, b: Booking) -> Entries
     next
 }
 
-// An entry with its answer; `at` entries stand before it.
-fn tell_one(rt: &impl Print, at: usize, b: Booking) {
-    console_say::text(rt, b"list ");
-    console_say::number(rt, std::num::wrapping_add_u64(at as u64, 1));
-    console_say::text(rt, b": ");
+// An entry with its answer: the `at`th of the list.
+fn tell_one(rt: &impl Print, at: u8, b: Booking) {
+    let _ = print!(rt; "list {at}: ");
     if b.answer != 0 {
-        console_say::refused(rt, b"book", b.answer);
+        console_say::refused(rt, "book", b.answer);
     } else {
-        let c = b.canister;
-        console_say::booked(rt, c, b.tile);
+        console_say::booked(rt, b.canister, b.tile);
     }
 }
 
 // The answers of the first n.
-pub fn tell(rt: &impl Print, list: [Booking; 64], n: usize) {
+pub fn tell(rt: &impl Print, list: &[Booking; 64], n: usize) {
     if n == 0 {
-        console_say::text(rt, b"list: no entries\n");
+        let _ = println!(rt; "list: no entries");
     }
-    let mut k: usize = 0;
-    while k < 64 {
-        if k < n {
-            let b = list[k];
-            tell_one(rt, k, b);
-        }
-        k += 1;
+    for (at, b) in (1..=64).zip(list).take(n) {
+        tell_one(rt, at, *b);
     }
 }

@@ -7,132 +7,133 @@ ghost use Rattle.console_on.specs.Typed.{arguments_on, answered_on, placed_on, s
 
 use barge::BargeAnswer;
 use console_barge::WithBarge;
-use console_parse::Numbers;
-use floor::{Canister, refusals};
+use console_show::On;
+use floor::{Canister, Refusal};
 
-// A refused call on a floor of the barge.
-fn refused(rt: &impl Print, floor: u32, call: &[u8], n: u8) {
-    console_show::on(rt, floor);
-    match n {
-        refusals::MALFORMED => console_say::refused_as(
-            rt,
-            call,
-            n,
-            b"the allowance isn't 1 to 4032, or a floor isn't there",
-        ),
-        barge::NO_FLOOR => console_say::refused_as(rt, call, n, b"floor number not 0 to 3"),
-        barge::OVERLOADED => console_say::refused_as(rt, call, n, b"the allowance is used up"),
-        _ => console_say::refused(rt, call, n),
-    }
+// What the refusals of a call on a floor of the barge say there.
+const MEANINGS: [(Refusal, &str); 3] = [
+    (
+        Refusal::Malformed,
+        "the allowance isn't 1 to 4032, or a floor isn't there",
+    ),
+    console_barge::NO_FLOOR,
+    (Refusal::Overloaded, "the allowance is used up"),
+];
+
+// The beginning of a line about a floor of the barge.
+fn on_floor(rt: &impl Print, floor: u32) {
+    let on = On(Some(floor));
+    let _ = print!(rt; "{on}");
+}
+
+fn refused(rt: &impl Print, floor: u32, call: &str, n: u8) {
+    on_floor(rt, floor);
+    console_say::refused_as(rt, call, n, &MEANINGS);
 }
 
 // After a call's answer: the barge that it gives, or the refusal told.
-fn answered(
-    rt: &impl Print,
-    a: WithBarge,
-    floor: u32,
-    call: &[u8],
-    answer: BargeAnswer,
-) -> WithBarge
+fn answered(rt: &impl Print, a: WithBarge, floor: u32, call: &str, answer: BargeAnswer) -> WithBarge
     ensures { result ≡ answered_on a answer }
 {
     if answer.refusal != 0 {
         refused(rt, floor, call, answer.refusal);
         return a;
     }
-    let after = answer.barge;
-    console_barge::with_barge(a, after)
+    console_barge::with_barge(a, answer.barge)
 }
 
 // The numbers after the call's name, and nothing after them.
-fn arguments(line: &[u8], count: usize) -> Numbers
+fn arguments(line: &[u8], count: usize) -> Option<[u32; 4]>
     requires { count ≤ 4 }
     ensures { result ≡ arguments_on line.now count }
 {
-    let mut n = console_parse::numbers_at(line, 3, count);
-    n.good = n.good & console_parse::ended(line, count + 3);
-    n
+    console_parse::last_numbers(line, 3, count)
 }
 
 // A booking without a place; the place found is told.
 fn anywhere(rt: &impl Print, a: WithBarge, floor: u32, tile: u32, number: u32) -> WithBarge
     ensures { result ≡ placed_on a (barge_book_anywhere a.barge floor tile number) }
 {
-    let before = a.barge;
-    let answer = barge_calls::book_anywhere(before, floor, tile, number);
+    let answer = barge_calls::book_anywhere(a.barge, floor, tile, number);
     if answer.refusal != 0 {
-        refused(rt, floor, b"book", answer.refusal);
+        refused(rt, floor, "book", answer.refusal);
         return a;
     }
     let c = Canister {
-        number: number,
+        number,
         a: answer.a,
         b: answer.b,
     };
-    console_show::on(rt, floor);
+    on_floor(rt, floor);
     console_say::booked(rt, c, tile);
-    let after = answer.barge;
-    console_barge::with_barge(a, after)
+    console_barge::with_barge(a, answer.barge)
 }
 
 // A booking.
 fn placed(rt: &impl Print, a: WithBarge, floor: u32, tile: u32, c: Canister) -> WithBarge
     ensures { result ≡ answered_on a (barge_book a.barge floor tile c) }
 {
-    let before = a.barge;
-    let answer = barge_calls::book(before, floor, tile, c);
+    let answer = barge_calls::book(a.barge, floor, tile, c);
     if answer.refusal == 0 {
-        console_show::on(rt, floor);
+        on_floor(rt, floor);
         console_say::booked(rt, c, tile);
     }
-    answered(rt, a, floor, b"book", answer)
+    answered(rt, a, floor, "book", answer)
 }
 
 fn book(rt: &impl Print, a: WithBarge, line: &[u8], floor: u32) -> WithBarge
     ensures { result ≡ book_on a line.now floor }
 {
-    let two = arguments(line, 2);
-    if two.good {
-        return anywhere(rt, a, floor, two.at[0], two.at[1]);
+    if let Some(n) = arguments(line, 2) {
+        return anywhere(rt, a, floor, n[0], n[1]);
     }
-    let n = arguments(line, 4);
-    if !n.good {
-        return console_barge::cannot(rt, a, line);
+    match arguments(line, 4) {
+        Some(n) => placed(rt, a, floor, n[0], console_book::canister(n)),
+        None => console_barge::cannot(rt, a, line),
     }
-    let c = console_book::canister(n);
-    placed(rt, a, floor, n.at[0], c)
+}
+
+// What a call about a tile answered, and how the tile is now.
+fn pressed(
+    rt: &impl Print,
+    a: WithBarge,
+    floor: u32,
+    call: &str,
+    tile: u32,
+    answer: BargeAnswer,
+    now: &str,
+) -> WithBarge
+    ensures { result ≡ answered_on a answer }
+{
+    if answer.refusal == 0 {
+        on_floor(rt, floor);
+        console_say::pressed(rt, call, tile, now);
+    }
+    answered(rt, a, floor, call, answer)
 }
 
 fn stop(rt: &impl Print, a: WithBarge, line: &[u8], floor: u32) -> WithBarge
     ensures { result ≡ stop_on a line.now floor }
 {
-    let n = arguments(line, 1);
-    if !n.good {
-        return console_barge::cannot(rt, a, line);
+    match arguments(line, 1) {
+        Some(n) => {
+            let answer = barge_calls::stop(a.barge, floor, n[0]);
+            pressed(rt, a, floor, "stop", n[0], answer, "stopped")
+        }
+        None => console_barge::cannot(rt, a, line),
     }
-    let before = a.barge;
-    let answer = barge_calls::stop(before, floor, n.at[0]);
-    if answer.refusal == 0 {
-        console_show::on(rt, floor);
-        console_say::pressed(rt, b"stop", n.at[0], b" stopped\n");
-    }
-    answered(rt, a, floor, b"stop", answer)
 }
 
 fn repair(rt: &impl Print, a: WithBarge, line: &[u8], floor: u32) -> WithBarge
     ensures { result ≡ repair_on a line.now floor }
 {
-    let n = arguments(line, 1);
-    if !n.good {
-        return console_barge::cannot(rt, a, line);
+    match arguments(line, 1) {
+        Some(n) => {
+            let answer = barge_calls::repair(a.barge, floor, n[0]);
+            pressed(rt, a, floor, "repair", n[0], answer, "running")
+        }
+        None => console_barge::cannot(rt, a, line),
     }
-    let before = a.barge;
-    let answer = barge_calls::repair(before, floor, n.at[0]);
-    if answer.refusal == 0 {
-        console_show::on(rt, floor);
-        console_say::pressed(rt, b"repair", n.at[0], b" running\n");
-    }
-    answered(rt, a, floor, b"repair", answer)
 }
 
 // A round of one floor, told with its number.
@@ -140,20 +141,18 @@ fn round(rt: &impl Print, a: WithBarge, line: &[u8], floor: u32) -> WithBarge {
     if !console_parse::ended(line, 3) {
         return console_barge::cannot(rt, a, line);
     }
-    let before = a.barge;
-    let answer = barge_calls::round(before, floor);
+    let answer = barge_calls::round(a.barge, floor);
     if answer.refusal != 0 {
-        refused(rt, floor, b"round", answer.refusal);
+        refused(rt, floor, "round", answer.refusal);
         return a;
     }
     let after = answer.barge;
     let k = console_barge::place(floor);
-    let moved = after.floors[k];
     let mut rounds = a.rounds;
-    rounds[k] = std::num::wrapping_add_u64(rounds[k], 1);
-    let report = answer.report;
-    let deliveries = report.deliveries;
-    console_show::delivered(rt, floor, rounds[k], moved.settings.hoppers, deliveries);
+    rounds[k] = rounds[k].wrapping_add(1);
+    let hoppers = after.floors[k].settings.hoppers;
+    let on = On(Some(floor));
+    console_show::delivered(rt, on, rounds[k], hoppers, &answer.report.deliveries);
     let mut next = console_barge::with_barge(a, after);
     next.rounds = rounds;
     next
@@ -161,21 +160,14 @@ fn round(rt: &impl Print, a: WithBarge, line: &[u8], floor: u32) -> WithBarge {
 
 // Obeys a line about one floor.
 pub fn on(rt: &impl Print, a: WithBarge, line: &[u8]) -> WithBarge {
-    let n = console_parse::numbers_at(line, 1, 1);
-    if !n.good {
+    let Some(n) = console_parse::numbers_at(line, 1, 1) else {
         return console_barge::cannot(rt, a, line);
+    };
+    match console_words::nth(line, 2) {
+        b"book" => book(rt, a, line, n[0]),
+        b"stop" => stop(rt, a, line, n[0]),
+        b"repair" => repair(rt, a, line, n[0]),
+        b"round" => round(rt, a, line, n[0]),
+        _ => console_barge::cannot(rt, a, line),
     }
-    if console_parse::is(line, 2, b"book") {
-        return book(rt, a, line, n.at[0]);
-    }
-    if console_parse::is(line, 2, b"stop") {
-        return stop(rt, a, line, n.at[0]);
-    }
-    if console_parse::is(line, 2, b"repair") {
-        return repair(rt, a, line, n.at[0]);
-    }
-    if console_parse::is(line, 2, b"round") {
-        return round(rt, a, line, n.at[0]);
-    }
-    console_barge::cannot(rt, a, line)
 }

@@ -15,7 +15,7 @@ use Rattle.plan.specs.declared.Offered.{Offered}
 use Rattle.plan.specs.declared.Planned.{Planned}
 use Rattle.plan.specs.declared.Released.{Released}
 use Rattle.plan.specs.Plans.{offer_answer, release_answer}
-use Rattle.console_parse.specs.declared.Numbers.{Numbers}
+use Rattle.std.proofs.Common.{Option, None, Some}
 use Rattle.console_parse.specs.Line.{ends_by, arguments_of}
 use Rattle.console_session.specs.declared.Session.{Session}
 use Rattle.console_session.specs.Sessions.{no_plan, with_floor, with_plan}
@@ -47,36 +47,36 @@ pub add_accepted : (s r : Session) (e : Entry) (q : Plan) (a : Offered) → s.pl
 unfolding added
 add_accepted s r e q a h f g n p = rw (lt-ltb s.plan.count 64 (omega (arith, h)), sym f, sym g, n) p
 
-pub entry_unread : (s r : Session) (line : List ℕ) (k : ℕ) (n : Numbers) → k ≡ entry_numbers line → n ≡ arguments_of line k → n.good ≡ false → r ≡ s → r ≡ entry_typed s line
+pub entry_unread : (s r : Session) (line : List ℕ) (k : ℕ) → k ≡ entry_numbers line → None ≡ arguments_of line k → r ≡ s → r ≡ entry_typed s line
 unfolding entry_typed
-entry_unread s r line k n e f g p = rw (sym e, sym f, g) p
+entry_unread s r line k e f p = rw (sym e, sym f) p
 
-pub entry_read : (s r : Session) (line : List ℕ) (k : ℕ) (n : Numbers) (x y z : ℕ) → k ≡ entry_numbers line → n ≡ arguments_of line k → n.good ≡ true → x ≡ min (get_or n.at 0 0) 255 → y ≡ min (get_or n.at 2 0) 255 → z ≡ min (get_or n.at 3 0) 255 → r ≡ added s (record { tile = get_or n.at 1 0; number = 0; label = x; first = y; second = z; stage = 0 }) → r ≡ entry_typed s line
+pub entry_read : (s r : Session) (line : List ℕ) (k : ℕ) (n : List ℕ) (x y z : ℕ) → k ≡ entry_numbers line → Some n ≡ arguments_of line k → x ≡ min (get_or n 0 0) 255 → y ≡ min (get_or n 2 0) 255 → z ≡ min (get_or n 3 0) 255 → r ≡ added s (record { tile = get_or n 1 0; number = 0; label = x; first = y; second = z; stage = 0 }) → r ≡ entry_typed s line
 unfolding entry_typed
-entry_read s r line k n x y z e f g u v w p = rw (sym e, sym f, g, sym u, sym v, sym w) p
+entry_read s r line k n x y z e f u v w p = rw (sym e, sym f, sym u, sym v, sym w) p
 
-pub release_unread : (s r : Session) (line : List ℕ) (n : Numbers) → n ≡ arguments_of line 1 → n.good ≡ false → r ≡ s → r ≡ release_typed s line
+pub release_unread : (s r : Session) (line : List ℕ) → None ≡ arguments_of line 1 → r ≡ s → r ≡ release_typed s line
 unfolding release_typed
-release_unread s r line n e g p = rw (sym e, g) p
+release_unread s r line e p = rw (sym e) p
 
-pub release_floorless : (s r : Session) (line : List ℕ) (n : Numbers) → n ≡ arguments_of line 1 → n.good ≡ true → s.made ≡ false → r ≡ s → r ≡ release_typed s line
+pub release_floorless : (s r : Session) (line n : List ℕ) → Some n ≡ arguments_of line 1 → s.made ≡ false → r ≡ s → r ≡ release_typed s line
 unfolding release_typed after_release
-release_floorless s r line n e g h p =
-    let a = release_answer s.plan s.floor (get_or n.at 0 0) in
+release_floorless s r line n e h p =
+    let a = release_answer s.plan s.floor (get_or n 0 0) in
     let off : (s.made && eqb a.refusal 0) ≡ false = rw h in
-    rw (sym e, g) (p ∙ pick_no (with_plan (with_floor s a.floor) a.plan) s off)
+    rw (sym e) (p ∙ pick_no (with_plan (with_floor s a.floor) a.plan) s off)
 
-pub release_refused : (s r : Session) (line : List ℕ) (n : Numbers) (a : Released) → n ≡ arguments_of line 1 → n.good ≡ true → s.made ≡ true → a ≡ release_answer s.plan s.floor (get_or n.at 0 0) → a.refusal ≢ 0 → r ≡ s → r ≡ release_typed s line
+pub release_refused : (s r : Session) (line n : List ℕ) (a : Released) → Some n ≡ arguments_of line 1 → s.made ≡ true → a ≡ release_answer s.plan s.floor (get_or n 0 0) → a.refusal ≢ 0 → r ≡ s → r ≡ release_typed s line
 unfolding release_typed after_release
-release_refused s r line n a e g h f z p =
+release_refused s r line n a e h f z p =
     let off : (s.made && eqb a.refusal 0) ≡ false = rw (h, ne_eqb a.refusal 0 z) in
-    rw (sym e, g, sym f) (p ∙ pick_no (with_plan (with_floor s a.floor) a.plan) s off)
+    rw (sym e, sym f) (p ∙ pick_no (with_plan (with_floor s a.floor) a.plan) s off)
 
-pub release_accepted : (s t r : Session) (line : List ℕ) (n : Numbers) (a : Released) → n ≡ arguments_of line 1 → n.good ≡ true → s.made ≡ true → a ≡ release_answer s.plan s.floor (get_or n.at 0 0) → a.refusal ≡ 0 → t ≡ with_floor s a.floor → r ≡ with_plan t a.plan → r ≡ release_typed s line
+pub release_accepted : (s t r : Session) (line n : List ℕ) (a : Released) → Some n ≡ arguments_of line 1 → s.made ≡ true → a ≡ release_answer s.plan s.floor (get_or n 0 0) → a.refusal ≡ 0 → t ≡ with_floor s a.floor → r ≡ with_plan t a.plan → r ≡ release_typed s line
 unfolding release_typed after_release
-release_accepted s t r line n a e g h f z q p =
+release_accepted s t r line n a e h f z q p =
     let both : (s.made && eqb a.refusal 0) ≡ true = rw (h, z) in
-    rw (sym e, g, sym f) (p ∙ ap (λ (x : Session). with_plan x a.plan) q ∙ pick_yes (with_plan (with_floor s a.floor) a.plan) s both)
+    rw (sym e, sym f) (p ∙ ap (λ (x : Session). with_plan x a.plan) q ∙ pick_yes (with_plan (with_floor s a.floor) a.plan) s both)
 
 pub numbers_two : (line : List ℕ) (b : Bool) → b ≡ ends_by 3 line → b ≡ true → 2 ≡ entry_numbers line
 unfolding entry_numbers

@@ -6,81 +6,66 @@ ghost use Rattle.plan.specs.Plans.{report_answer};
 ghost use Rattle.console_session.specs.Sessions.{no_plan, with_plan};
 ghost use Rattle.console_plan.specs.Typed.{plan_with, added, entry_numbers, entry_typed, release_typed};
 
-use console_say::{number, small, text};
+use console_say::Placed;
 use console_session::Session;
-use floor::{Canister, Report, refusals};
+use floor::{Canister, Refusal, Report};
 use plan::{Entry, Plan};
 
 // The session with the plan changed.
 fn with_plan(s: Session, plan: Plan) -> Session
     ensures { result ≡ with_plan s plan }
 {
-    let mut next = s;
-    next.plan = plan;
-    next
+    Session { plan, ..s }
 }
 
 // Begins an empty plan.
 pub fn plan(rt: &impl Print, s: Session) -> Session
     ensures { result ≡ with_plan s no_plan }
 {
-    text(rt, b"plan: no entries\n");
-    let none = console_session::no_plan();
-    with_plan(s, none)
+    let _ = println!(rt; "plan: no entries");
+    with_plan(s, console_session::no_plan())
 }
 
-// A refused call about the plan. The floor is well formed, so 30 is the plan's.
-fn refused(rt: &impl Print, call: &[u8], n: u8) {
-    match n {
-        refusals::MALFORMED => console_say::refused_as(rt, call, n, b"the plan isn't sound"),
-        plan::BAD_LABEL => console_say::refused_as(
-            rt,
-            call,
-            n,
-            b"the label is there already or not 1 to 64, or one to come before it is absent or not lower",
-        ),
-        plan::NOT_RELEASED => console_say::refused_as(
-            rt,
-            call,
-            n,
-            b"no such label waits, or one before it isn't delivered",
-        ),
-        _ => console_say::refused(rt, call, n),
-    }
+// What the refusals of a call about the plan say there. The floor is well formed, so 30 is the plan's.
+const MEANINGS: [(Refusal, &str); 3] = [
+    (Refusal::Malformed, "the plan isn't sound"),
+    (
+        Refusal::BadLabel,
+        "the label is there already or not 1 to 64, or one to come before it is absent or not lower",
+    ),
+    (
+        Refusal::NotReleased,
+        "no such label waits, or one before it isn't delivered",
+    ),
+];
+
+fn refused(rt: &impl Print, call: &str, n: u8) {
+    console_say::refused_as(rt, call, n, &MEANINGS);
 }
 
 // A label that comes before an entry's; 0 is none.
 fn after(rt: &impl Print, label: u8) {
     if label != 0 {
-        text(rt, b" after ");
-        number(rt, label as u64);
+        let _ = print!(rt; " after {label}");
     }
 }
 
-// An entry's state: it waits, or what number it was booked under.
-fn state(rt: &impl Print, e: Entry) {
-    let stage = e.stage;
-    match stage {
-        plan::WAITING => text(rt, b": waits"),
-        plan::DELIVERED => text(rt, b": delivered, number "),
-        _ => text(rt, b": booked, number "),
-    }
-    if stage != plan::WAITING {
-        small(rt, e.number);
-    }
-    text(rt, b"\n");
-}
-
-// An entry, by the call named.
-fn tell(rt: &impl Print, call: &[u8], e: Entry) {
-    text(rt, call);
-    text(rt, b": label ");
-    number(rt, e.label as u64);
-    text(rt, b" on tile ");
-    small(rt, e.tile);
+// An entry, by the call named: it waits, or what number it was booked under.
+fn tell(rt: &impl Print, call: &str, e: Entry) {
+    let Entry {
+        tile,
+        number,
+        label,
+        ..
+    } = e;
+    let _ = print!(rt; "{call}: label {label} on tile {tile}");
     after(rt, e.first);
     after(rt, e.second);
-    state(rt, e);
+    let _ = match e.stage {
+        plan::WAITING => println!(rt; ": waits"),
+        plan::DELIVERED => println!(rt; ": delivered, number {number}"),
+        _ => println!(rt; ": booked, number {number}"),
+    };
 }
 
 // How many numbers an entry is typed with: two to four.
@@ -115,52 +100,48 @@ fn add(rt: &impl Print, s: Session, e: Entry) -> Session
 {
     let before = s.plan;
     if 63 < before.count {
-        text(rt, b"entry: the plan has 64 entries\n");
+        let _ = println!(rt; "entry: the plan has 64 entries");
         return s;
     }
     let more = with_entry(before, e);
     let answer = plan_calls::offer(more);
     if answer.refusal != 0 {
-        refused(rt, b"entry", answer.refusal);
+        refused(rt, "entry", answer.refusal);
         return s;
     }
-    tell(rt, b"entry", e);
+    tell(rt, "entry", e);
     with_plan(s, more)
 }
 
 pub fn entry(rt: &impl Print, s: Session, line: &[u8]) -> Session
     ensures { result ≡ entry_typed s line.now }
 {
-    let n = console_parse::arguments(line, typed(line));
-    if !n.good {
-        return console_session::cannot(rt, s, line);
+    match console_parse::arguments(line, typed(line)) {
+        Some(n) => add(
+            rt,
+            s,
+            Entry {
+                tile: n[1],
+                number: 0,
+                label: console_parse::byte(n[0]),
+                first: console_parse::byte(n[2]),
+                second: console_parse::byte(n[3]),
+                stage: plan::WAITING,
+            },
+        ),
+        None => console_session::cannot(rt, s, line),
     }
-    let e = Entry {
-        tile: n.at[1],
-        number: 0,
-        label: console_parse::byte(n.at[0]),
-        first: console_parse::byte(n.at[2]),
-        second: console_parse::byte(n.at[3]),
-        stage: plan::WAITING,
-    };
-    add(rt, s, e)
 }
 
 // Every entry of the plan.
 pub fn entries(rt: &impl Print, s: Session) -> Session
     ensures { result ≡ s }
 {
-    let p = s.plan;
-    let all = p.entries;
-    if p.count == 0 {
-        text(rt, b"entries: none\n");
+    if s.plan.count == 0 {
+        let _ = println!(rt; "entries: none");
     }
-    let mut k: usize = 0;
-    while k < 64 {
-        if (k as u32) < p.count {
-            tell(rt, b"entries", all[k]);
-        }
-        k += 1;
+    for e in s.plan.entries.iter().take(s.plan.count as usize) {
+        tell(rt, "entries", *e);
     }
     s
 }
@@ -169,62 +150,43 @@ pub fn entries(rt: &impl Print, s: Session) -> Session
 pub fn offer(rt: &impl Print, s: Session) -> Session
     ensures { result ≡ s }
 {
-    let p = s.plan;
-    let answer = plan_calls::offer(p);
+    let answer = plan_calls::offer(s.plan);
     if answer.refusal != 0 {
-        refused(rt, b"offer", answer.refusal);
+        refused(rt, "offer", answer.refusal);
         return s;
     }
-    if answer.label == 0 {
-        text(rt, b"offer: none\n");
-        return s;
-    }
-    text(rt, b"offer: label ");
-    number(rt, answer.label as u64);
-    text(rt, b"\n");
+    let label = answer.label;
+    let _ = match label {
+        0 => println!(rt; "offer: none"),
+        _ => println!(rt; "offer: label {label}"),
+    };
     s
 }
 
-// The tile of a label; 0 where the plan hasn't it.
-fn tile_of(entries: [Entry; 64], label: u32) -> u32 {
-    let mut tile: u32 = 0;
-    let mut k: usize = 0;
-    while k < 64 {
-        let e = entries[k];
-        if (e.label as u32) == label {
+// A label that was released: its canister, and its tile, 0 where the plan hasn't the label.
+fn released(rt: &impl Print, label: u32, c: Canister, entries: &[Entry; 64]) {
+    let mut tile = 0;
+    for e in entries {
+        if u32::from(e.label) == label {
             tile = e.tile;
         }
-        k += 1;
     }
-    tile
-}
-
-// A label that was released: its canister, and its tile.
-fn released(rt: &impl Print, label: u32, c: Canister, tile: u32) {
-    text(rt, b"release: label ");
-    small(rt, label);
-    text(rt, b" is ");
-    console_say::canister(rt, c);
-    text(rt, b" on tile ");
-    small(rt, tile);
-    text(rt, b"\n");
+    let placed = Placed(c);
+    let _ = println!(rt; "release: label {label} is {placed} on tile {tile}");
 }
 
 pub fn release(rt: &impl Print, s: Session, line: &[u8]) -> Session
     ensures { result ≡ release_typed s line.now }
 {
-    let n = console_parse::arguments(line, 1);
-    if !n.good {
+    let Some(n) = console_parse::arguments(line, 1) else {
         return console_session::cannot(rt, s, line);
-    }
-    let p = s.plan;
-    let floor = s.floor;
-    let answer = plan_calls::release(p, floor, n.at[0]);
+    };
+    let answer = plan_calls::release(s.plan, s.floor, n[0]);
     if !s.made {
-        return console_session::refused(rt, s, b"release", answer.refusal);
+        return console_session::refused(rt, s, "release", answer.refusal);
     }
     if answer.refusal != 0 {
-        refused(rt, b"release", answer.refusal);
+        refused(rt, "release", answer.refusal);
         return s;
     }
     let c = Canister {
@@ -232,26 +194,18 @@ pub fn release(rt: &impl Print, s: Session, line: &[u8]) -> Session
         a: answer.a,
         b: answer.b,
     };
-    let all = p.entries;
-    released(rt, n.at[0], c, tile_of(all, n.at[0]));
-    let booked = answer.floor;
-    let after = answer.plan;
-    let next = console_session::with_floor(s, booked);
-    with_plan(next, after)
+    released(rt, n[0], c, &s.plan.entries);
+    let next = console_session::with_floor(s, answer.floor);
+    with_plan(next, answer.plan)
 }
 
 // The labels that a report marked delivered.
-fn marked(rt: &impl Print, before: [Entry; 64], after: [Entry; 64]) {
-    let mut k: usize = 0;
-    while k < 64 {
-        let old = before[k];
-        let new = after[k];
+fn marked(rt: &impl Print, before: &[Entry; 64], after: &[Entry; 64]) {
+    for (old, new) in before.iter().zip(after) {
         if old.stage != new.stage {
-            text(rt, b"plan: label ");
-            number(rt, new.label as u64);
-            text(rt, b" delivered\n");
+            let label = new.label;
+            let _ = println!(rt; "plan: label {label} delivered");
         }
-        k += 1;
     }
 }
 
@@ -259,11 +213,7 @@ fn marked(rt: &impl Print, before: [Entry; 64], after: [Entry; 64]) {
 pub fn follow(rt: &impl Print, s: Session, report: Report) -> Session
     ensures { result ≡ with_plan s (report_answer s.plan report).plan }
 {
-    let p = s.plan;
-    let answer = plan_calls::report(p, report);
-    let q = answer.plan;
-    let before = p.entries;
-    let after = q.entries;
-    marked(rt, before, after);
-    with_plan(s, q)
+    let answer = plan_calls::report(s.plan, report);
+    marked(rt, &s.plan.entries, &answer.plan.entries);
+    with_plan(s, answer.plan)
 }

@@ -12,7 +12,7 @@ use throughput::Throughput;
 
 // The floor, the plan for it, the throughput of each hopper, what the last round's report says of each tile, the entries of
 // a list that is being typed, how many lines were read, how many rounds the floor went, whether there is a floor, whether to
-// go on.
+// go on. Without a floor a floor of zeros stands there, which the calls refuse: `start_session`, and what the calls promise.
 #[derive(Clone, Copy)]
 pub struct Session {
     pub floor: Floor,
@@ -31,9 +31,8 @@ pub struct Session {
 pub fn no_plan() -> Plan
     ensures { result ≡ no_plan }
 {
-    let none = Entry::ZERO;
     Plan {
-        entries: [none; 64],
+        entries: [Entry::ZERO; 64],
         count: 0,
     }
 }
@@ -41,17 +40,13 @@ pub fn no_plan() -> Plan
 pub fn begin() -> Session
     ensures { result ≡ start_session }
 {
-    let floor = floor::zero_floor();
-    let plan = no_plan();
-    let entries = console_list::none(false);
-    let records = console_throughput::begin();
     Session {
-        floor: floor,
-        plan: plan,
-        records: records,
+        floor: floor::zero_floor(),
+        plan: no_plan(),
+        records: console_throughput::begin(),
         reasons: [0; 64],
         missing: [0; 64],
-        entries: entries,
+        entries: console_list::none(false),
         lines: 0,
         rounds: 0,
         made: false,
@@ -68,7 +63,7 @@ pub fn cannot(rt: &impl Print, s: Session, line: &[u8]) -> Session
 
 // A refused call changes nothing. Where no floor was made yet, the library refuses every call, because a floor of zeros
 // isn't well formed.
-pub fn refused(rt: &impl Print, s: Session, name: &[u8], n: u8) -> Session
+pub fn refused(rt: &impl Print, s: Session, name: &str, n: u8) -> Session
     ensures { result ≡ s }
 {
     if s.made {
@@ -83,36 +78,24 @@ pub fn refused(rt: &impl Print, s: Session, name: &[u8], n: u8) -> Session
 pub fn ended(s: Session) -> Session
     ensures { result ≡ ended_with s }
 {
-    let mut last = s;
-    last.going = false;
-    last
+    Session { going: false, ..s }
 }
 
 // The session with the floor changed.
 pub fn with_floor(s: Session, floor: Floor) -> Session
     ensures { result ≡ with_floor s floor }
 {
-    let mut next = s;
-    next.floor = floor;
-    next
+    Session { floor, ..s }
 }
 
 // After a call's answer: the floor that it gives, or the refusal told.
-pub fn answered(rt: &impl Print, s: Session, name: &[u8], answer: Answer) -> Session
+pub fn answered(rt: &impl Print, s: Session, name: &str, answer: Answer) -> Session
     ensures { result ≡ after_call s answer.refusal answer.floor }
 {
     if answer.refusal != 0 {
         return refused(rt, s, name, answer.refusal);
     }
-    let floor = answer.floor;
-    with_floor(s, floor)
-}
-
-// A number as a wider one.
-fn wide(x: u32) -> u64
-    ensures { (result ≡ x) × (result < 2 ^ 32) }
-{
-    x as u64
+    with_floor(s, answer.floor)
 }
 
 // The canisters on a floor.
@@ -120,9 +103,8 @@ pub fn held(c: Counters) -> u64
     ensures { result ≡ c.booked - sum c.delivered }
 {
     let d = c.delivered;
-    let all = wide(d[0]) + wide(d[1]) + wide(d[2]) + wide(d[3]);
-    let booked = wide(c.booked);
-    if all < booked { booked - all } else { 0 }
+    let all = u64::from(d[0]) + u64::from(d[1]) + u64::from(d[2]) + u64::from(d[3]);
+    u64::from(c.booked).saturating_sub(all)
 }
 
 // The session with another floor, whose throughput and plan begin anew: the numbers of a plan are those of its floor.
@@ -130,24 +112,25 @@ pub fn begun(rt: &impl Print, s: Session, floor: Floor) -> Session
     ensures { result ≡ begun_with s floor }
 {
     if 0 < s.plan.count {
-        console_say::text(rt, b"plan: no entries, its floor is gone\n");
+        let _ = println!(rt; "plan: no entries, its floor is gone");
     }
-    let mut next = with_floor(s, floor);
-    let plan = no_plan();
-    next.plan = plan;
-    let records = console_throughput::begin();
-    next.records = records;
-    next.rounds = 0;
-    next.made = true;
-    next
+    Session {
+        floor,
+        plan: no_plan(),
+        records: console_throughput::begin(),
+        rounds: 0,
+        made: true,
+        ..s
+    }
 }
 
 // The session without a floor.
 pub fn without_floor(rt: &impl Print, s: Session) -> Session
     ensures { result ≡ floorless s }
 {
-    let none = floor::zero_floor();
-    let mut next = begun(rt, s, none);
-    next.made = false;
-    next
+    let next = begun(rt, s, floor::zero_floor());
+    Session {
+        made: false,
+        ..next
+    }
 }

@@ -1,302 +1,241 @@
 // What a floor, a tile, a round and layouts look like in the console's words.
 #![tactic(auto)]
 
-use console_say::{amount, at_most, canister, number, others, small, text};
-use floor::{
-    Canister, Counters, DISTANCE_NONE, Delivery, EAST, Layout, NORTH, SOUTH, Settings, Side, Tile,
-    WEST, reason,
-};
+use console_say::{Placed, canisters};
+use floor::{Canister, Counters, DISTANCE_NONE, Delivery, Layout, Reason, Settings, Side, Tile};
+use std::fmt;
 
-fn side(rt: &impl Print, k: Side) {
-    let code = k.code;
-    match code {
-        WEST => text(rt, b"W"),
-        SOUTH => text(rt, b"S"),
-        NORTH => text(rt, b"N"),
-        EAST => text(rt, b"E"),
-        _ => text(rt, b"-"),
+fn letter(side: Side) -> char {
+    match side {
+        Side::WEST => 'W',
+        Side::SOUTH => 'S',
+        Side::NORTH => 'N',
+        Side::EAST => 'E',
+        _ => '-',
     }
 }
 
-// The floor that is no barge's.
-pub const ALONE: u32 = 4;
+// The beginning of a line about a floor of the barge; nothing for the floor that is no barge's.
+#[derive(Clone, Copy)]
+pub struct On(pub Option<u32>);
 
-// The beginning of a line about a floor of the barge.
-pub fn on(rt: &impl Print, floor: u32) {
-    text(rt, b"on ");
-    small(rt, floor);
-    text(rt, b": ");
+impl fmt::Display for On {
+    fn fmt<W: fmt::Write>(&self, f: &mut fmt::Formatter<W>) -> fmt::Result {
+        match self.0 {
+            Some(floor) => write!(f, "on {floor}: "),
+            None => Ok(()),
+        }
+    }
 }
 
-// The beginning of what round `at` of a floor delivered.
-fn round(rt: &impl Print, floor: u32, at: u64) {
-    if floor < ALONE {
-        on(rt, floor);
-    }
-    text(rt, b"round ");
-    number(rt, at);
-    text(rt, b": delivered");
-}
+// The numbers that one hopper took.
+#[derive(Clone, Copy)]
+struct Taken(Delivery);
 
-// The numbers that one hopper took, and the line's end.
-fn taken(rt: &impl Print, d: Delivery) {
-    let numbers = d.numbers;
-    let n = at_most(d.count as usize, 4);
-    let mut k: usize = 0;
-    while k < n {
-        text(rt, b" ");
-        small(rt, numbers[k]);
-        k += 1;
+impl fmt::Display for Taken {
+    fn fmt<W: fmt::Write>(&self, f: &mut fmt::Formatter<W>) -> fmt::Result {
+        for number in self.0.numbers.iter().take(usize::from(self.0.count)) {
+            write!(f, " {number}")?;
+        }
+        Ok(())
     }
-    text(rt, b"\n");
 }
 
 // Whether some hopper took something.
-pub fn some(all: [Delivery; 4]) -> bool {
-    let first = all[0];
-    let second = all[1];
-    let third = all[2];
-    let fourth = all[3];
-    (first.count != 0) | (second.count != 0) | (third.count != 0) | (fourth.count != 0)
+pub fn some(all: &[Delivery; 4]) -> bool {
+    all.iter().any(|d| d.count != 0)
 }
 
-// For each of several hoppers, in tile order, what it took.
-fn by_hopper(rt: &impl Print, floor: u32, at: u64, hoppers: u64, all: [Delivery; 4]) {
-    let mut rest = hoppers;
-    let mut k: usize = 0;
-    while k < 4 {
-        let d = all[k];
-        if d.count != 0 {
-            round(rt, floor, at);
-            text(rt, b" at ");
-            number(rt, sets::lowest(rest) as u64);
-            text(rt, b":");
-            taken(rt, d);
-        }
-        rest = others(rest);
-        k += 1;
-    }
-}
-
-// What a round delivered: one line for the only hopper, or for each of several that took something.
-pub fn delivered(rt: &impl Print, floor: u32, at: u64, hoppers: u64, all: [Delivery; 4]) {
+// What a round delivered: one line for the only hopper, or for each of several that took something, in tile order.
+pub fn delivered(rt: &impl Print, on: On, at: u64, hoppers: u64, all: &[Delivery; 4]) {
     if !some(all) {
-        round(rt, floor, at);
-        text(rt, b" none\n");
+        let _ = println!(rt; "{on}round {at}: delivered none");
         return;
     }
-    if 1 < sets::size(hoppers) {
-        by_hopper(rt, floor, at, hoppers, all);
+    if sets::size(hoppers) <= 1 {
+        let taken = Taken(all[0]);
+        let _ = println!(rt; "{on}round {at}: delivered{taken}");
         return;
     }
-    round(rt, floor, at);
-    taken(rt, all[0]);
-}
-
-fn distance(rt: &impl Print, n: u8) {
-    if n == DISTANCE_NONE {
-        text(rt, b"--");
-    } else {
-        number(rt, n as u64);
+    for (t, d) in (0..64).filter(|t| sets::holds(hoppers, *t)).zip(all) {
+        if d.count != 0 {
+            let taken = Taken(*d);
+            let _ = println!(rt; "{on}round {at}: delivered at {t}:{taken}");
+        }
     }
 }
 
-// The canisters of a tile.
-fn canisters(rt: &impl Print, count: u8, members: [Canister; 16]) {
-    let n = at_most(count as usize, 16);
-    let mut k: usize = 0;
-    while k < n {
-        text(rt, b", ");
-        canister(rt, members[k]);
-        k += 1;
-    }
-}
+// A distance, or that there is none.
+#[derive(Clone, Copy)]
+struct Distance(u8);
 
-// A tile as `read` tells it, without its canisters.
-fn tile(rt: &impl Print, t: Tile) {
-    if t.running == 0 {
-        text(rt, b"stopped, ");
-    } else {
-        text(rt, b"running, distance ");
-        distance(rt, t.distance);
-        text(rt, b", arrow ");
-        side(rt, t.next);
-        text(rt, b", turn ");
-        side(rt, t.token);
-        text(rt, b", ");
+impl fmt::Display for Distance {
+    fn fmt<W: fmt::Write>(&self, f: &mut fmt::Formatter<W>) -> fmt::Result {
+        match self.0 {
+            DISTANCE_NONE => write!(f, "--"),
+            n => write!(f, "{n}"),
+        }
     }
-    amount(rt, t.count as u64);
 }
 
 // A tile with its canisters.
-pub fn reading(rt: &impl Print, at: u32, t: Tile, members: [Canister; 16]) {
-    text(rt, b"read: tile ");
-    small(rt, at);
-    text(rt, b" ");
-    tile(rt, t);
-    canisters(rt, t.count, members);
-    text(rt, b"\n");
+pub fn reading(rt: &impl Print, at: u32, tile: Tile, members: &[Canister; 16]) {
+    let _ = print!(rt; "read: tile {at} ");
+    if tile.running == 0 {
+        let _ = print!(rt; "stopped, ");
+    } else {
+        let distance = Distance(tile.distance);
+        let arrow = letter(tile.next);
+        let turn = letter(tile.token);
+        let _ = print!(rt; "running, distance {distance}, arrow {arrow}, turn {turn}, ");
+    }
+    let n = tile.count;
+    let what = canisters(u64::from(n));
+    let _ = print!(rt; "{n} {what}");
+    for c in members.iter().take(usize::from(n)) {
+        let placed = Placed(*c);
+        let _ = print!(rt; ", {placed}");
+    }
+    let _ = println!(rt; "");
 }
 
 // The tiles of a set.
-fn tiles(rt: &impl Print, set: u64) {
-    let n = at_most(sets::size(set) as usize, 64);
-    let mut rest = set;
-    let mut k: usize = 0;
-    while k < n {
-        if 0 < k {
-            text(rt, b", ");
+#[derive(Clone, Copy)]
+struct Tiles(u64);
+
+impl fmt::Display for Tiles {
+    fn fmt<W: fmt::Write>(&self, f: &mut fmt::Formatter<W>) -> fmt::Result {
+        let set = self.0;
+        for (k, t) in (0..64).filter(|t| sets::holds(set, *t)).enumerate() {
+            if 0 < k {
+                write!(f, ", ")?;
+            }
+            write!(f, "{t}")?;
         }
-        number(rt, sets::lowest(rest) as u64);
-        rest = others(rest);
-        k += 1;
+        Ok(())
     }
 }
 
 // Another floor, by the call named.
-pub fn made(rt: &impl Print, call: &[u8], s: Settings) {
-    text(rt, call);
-    text(rt, b": ");
-    number(rt, s.columns as u64);
-    text(rt, b" x ");
-    number(rt, s.rows as u64);
-    if 1 < sets::size(s.hoppers) {
-        text(rt, b" tiles, hoppers ");
-    } else {
-        text(rt, b" tiles, hopper ");
-    }
-    tiles(rt, s.hoppers);
-    text(rt, b"\n");
+pub fn made(rt: &impl Print, call: &str, s: Settings) {
+    let Settings {
+        columns,
+        rows,
+        hoppers,
+        ..
+    } = s;
+    let tiles = Tiles(hoppers);
+    let s = if 1 < sets::size(hoppers) { "s" } else { "" };
+    let _ = println!(rt; "{call}: {columns} x {rows} tiles, hopper{s} {tiles}");
 }
 
 // A name: its bytes before the first zero.
-fn name(rt: &impl Print, letters: [u8; 8]) {
-    let mut n: usize = 0;
-    while n < 8 && letters[n] != 0 {
-        n += 1;
+#[derive(Clone, Copy)]
+struct Letters([u8; 8]);
+
+impl fmt::Display for Letters {
+    fn fmt<W: fmt::Write>(&self, f: &mut fmt::Formatter<W>) -> fmt::Result {
+        for b in self.0.iter().take_while(|b| **b != 0) {
+            f.write_char(char::from(*b))?;
+        }
+        Ok(())
     }
-    text(rt, &letters[..n]);
 }
 
 // A call about a name that was accepted.
-pub fn named(rt: &impl Print, call: &[u8], letters: [u8; 8]) {
-    text(rt, call);
-    text(rt, b": ");
-    name(rt, letters);
-    text(rt, b" done\n");
+pub fn named(rt: &impl Print, call: &str, letters: [u8; 8]) {
+    let name = Letters(letters);
+    let _ = println!(rt; "{call}: {name} done");
 }
 
-// A layout: its name from its number, and its tiles.
-fn layout(rt: &impl Print, number: u64, set: u64) {
-    let mut letters = [0u8; 8];
-    let mut rest = number;
-    for j in 0usize..8 {
-        letters[7 - j] = (rest % 256) as u8;
-        rest = rest / 256;
+// The layouts that are held: the name of each, from its number, and its tiles.
+pub fn layouts(rt: &impl Print, all: &[Layout; 8]) {
+    if all[0].name == 0 {
+        let _ = println!(rt; "layouts: none");
     }
-    text(rt, b"layouts: ");
-    name(rt, letters);
-    text(rt, b" runs ");
-    tiles(rt, set);
-    text(rt, b"\n");
-}
-
-// The layouts that are held.
-pub fn layouts(rt: &impl Print, all: [Layout; 8]) {
-    let first = all[0];
-    if first.name == 0 {
-        text(rt, b"layouts: none\n");
-    }
-    for k in 0usize..8 {
-        let x = all[k];
-        if x.name != 0 {
-            layout(rt, x.name, x.set);
+    for layout in all {
+        if layout.name != 0 {
+            let name = Letters(layout.name.to_be_bytes());
+            let tiles = Tiles(layout.set);
+            let _ = println!(rt; "layouts: {name} runs {tiles}");
         }
     }
 }
 
 // n rounds gone; `at` counts all since the floor was fresh.
 pub fn rounds(rt: &impl Print, n: u32, at: u64) {
-    text(rt, b"rounds: ");
-    small(rt, n);
-    text(rt, b" done, now at round ");
-    number(rt, at);
-    text(rt, b"\n");
+    let _ = println!(rt; "rounds: {n} done, now at round {at}");
 }
 
 // How many each hopper took; of several, each with its tile.
-fn counted(rt: &impl Print, hoppers: u64, delivered: [u32; 4]) {
-    let n = at_most(sets::size(hoppers) as usize, 4);
-    let mut rest = hoppers;
-    let mut k: usize = 0;
-    while k < n {
-        if 0 < k {
-            text(rt, b", ");
+#[derive(Clone, Copy)]
+struct Counted {
+    hoppers: u64,
+    delivered: [u32; 4],
+}
+
+impl fmt::Display for Counted {
+    fn fmt<W: fmt::Write>(&self, f: &mut fmt::Formatter<W>) -> fmt::Result {
+        let Counted { hoppers, delivered } = *self;
+        if sets::size(hoppers) <= 1 {
+            return write!(f, "{}", delivered[0]);
         }
-        small(rt, delivered[k]);
-        if 1 < n {
-            text(rt, b" at ");
-            number(rt, sets::lowest(rest) as u64);
+        let tiles = (0..64).filter(|t| sets::holds(hoppers, *t));
+        for (k, (t, n)) in tiles.zip(&delivered).enumerate() {
+            if 0 < k {
+                write!(f, ", ")?;
+            }
+            write!(f, "{n} at {t}")?;
         }
-        rest = others(rest);
-        k += 1;
+        Ok(())
     }
 }
 
 // The counters of a floor and its rounds, to the line's end.
 pub fn counters(rt: &impl Print, c: Counters, hoppers: u64, round: u64) {
-    text(rt, b"last ");
-    small(rt, c.last);
-    text(rt, b", booked ");
-    small(rt, c.booked);
-    text(rt, b", delivered ");
-    let delivered = c.delivered;
-    counted(rt, hoppers, delivered);
-    text(rt, b", round ");
-    number(rt, round);
-    text(rt, b"\n");
+    let Counters {
+        last,
+        booked,
+        delivered,
+    } = c;
+    let counted = Counted { hoppers, delivered };
+    let _ = println!(rt; "last {last}, booked {booked}, delivered {counted}, round {round}");
 }
 
-// What a reason says.
-fn stood(rt: &impl Print, n: u8, lack: u16) {
-    match n {
-        reason::STOPPED => text(rt, b" stood: stopped"),
-        reason::NO_ARROW => text(rt, b" stood: no arrow"),
-        reason::TURN => text(rt, b" stood: the turn ahead was another's"),
-        reason::NO_GAP => {
-            text(rt, b" stood: no gap ahead, ");
-            number(rt, lack as u64);
-            text(rt, b" mm missing");
-        }
-        _ => text(rt, b" moved"),
-    }
-}
+// What the reasons say, but that of a missing gap, which has its millimetres.
+const REASONS: [(Reason, &str); 3] = [
+    (Reason::Stopped, "stood: stopped"),
+    (Reason::NoArrow, "stood: no arrow"),
+    (Reason::Turn, "stood: the turn ahead was another's"),
+];
 
 // Why tile t stood, one line; nothing of an empty tile, nor where no tile is. Gives whether there was a line.
 fn why_tile(rt: &impl Print, t: usize, n: u8, lack: u16) -> bool {
-    if (n == 0) | (n == reason::EMPTY) {
+    if n == 0 || n == u8::from(Reason::Empty) {
         return false;
     }
-    text(rt, b"      tile ");
-    number(rt, t as u64);
-    stood(rt, n, lack);
-    text(rt, b"\n");
+    if n == u8::from(Reason::NoGap) {
+        let _ = println!(rt; "      tile {t} stood: no gap ahead, {lack} mm missing");
+        return true;
+    }
+    let mut said = "moved";
+    for (why, words) in &REASONS {
+        if u8::from(*why) == n {
+            said = *words;
+        }
+    }
+    let _ = println!(rt; "      tile {t} {said}");
     true
 }
 
 // Why the tiles stood in round `at`, by its report.
-pub fn why(rt: &impl Print, at: u64, reasons: [u8; 64], missing: [u16; 64]) {
-    text(rt, b"why: in round ");
-    number(rt, at);
-    text(rt, b"\n");
+pub fn why(rt: &impl Print, at: u64, reasons: &[u8; 64], missing: &[u16; 64]) {
+    let _ = println!(rt; "why: in round {at}");
     let mut some = false;
-    let mut t: usize = 0;
-    while t < 64 {
-        let told = why_tile(rt, t, reasons[t], missing[t]);
-        some = some | told;
-        t += 1;
+    for (t, (n, lack)) in reasons.iter().zip(missing).enumerate() {
+        some |= why_tile(rt, t, *n, *lack);
     }
     if !some {
-        text(rt, b"      all tiles were empty\n");
+        let _ = println!(rt; "      all tiles were empty");
     }
 }

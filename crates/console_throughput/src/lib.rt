@@ -6,8 +6,8 @@ ghost use Rattle.throughput.specs.Lists.{zero_throughput};
 ghost use Rattle.throughput.specs.Window.{feed_values};
 ghost use Rattle.console_throughput.specs.Follow.{followed_by};
 
-use console_say::others;
 use floor::Delivery;
+use std::fmt;
 use throughput::Throughput;
 
 // Four records, the hoppers in tile order; those beyond the last hopper are fed 0.
@@ -28,7 +28,7 @@ pub struct Followed {
 fn fed(t: Throughput, d: Delivery) -> Throughput
     ensures { result ≡ (feed_values t d.count).throughput }
 {
-    let told = throughput::feed_values(t, d.count as u32);
+    let told = throughput::feed_values(t, u32::from(d.count));
     told.throughput
 }
 
@@ -36,7 +36,7 @@ pub fn follow(records: [Throughput; 4], deliveries: [Delivery; 4]) -> Followed
     ensures { result ≡ followed_by records deliveries }
 {
     let taken = deliveries[0];
-    let told = throughput::feed_values(records[0], taken.count as u32);
+    let told = throughput::feed_values(records[0], u32::from(taken.count));
     let first = told.throughput;
     let second = fed(records[1], deliveries[1]);
     let third = fed(records[2], deliveries[2]);
@@ -48,104 +48,68 @@ pub fn follow(records: [Throughput; 4], deliveries: [Delivery; 4]) -> Followed
     }
 }
 
-// n below 100,000,000 in eight digits.
-fn eight(rt: &impl Print, n: u32) {
-    if n < 10000000 {
-        console_say::text(rt, b"0");
-    }
-    if n < 1000000 {
-        console_say::text(rt, b"0");
-    }
-    if n < 100000 {
-        console_say::text(rt, b"0");
-    }
-    if n < 10000 {
-        console_say::text(rt, b"0");
-    }
-    if n < 1000 {
-        console_say::text(rt, b"0");
-    }
-    if n < 100 {
-        console_say::text(rt, b"0");
-    }
-    if n < 10 {
-        console_say::text(rt, b"0");
-    }
-    console_say::small(rt, n);
-}
-
 // A rate in decimals, exactly: 1 / 256 is 0.00390625.
-fn rate(rt: &impl Print, x: f64) {
-    let n = throughput::deliveries_of(x) as u32;
-    console_say::small(rt, n / 256);
-    console_say::text(rt, b".");
-    eight(rt, n % 256 * 390625);
+#[derive(Clone, Copy)]
+struct Rate(f64);
+
+impl fmt::Display for Rate {
+    fn fmt<W: fmt::Write>(&self, f: &mut fmt::Formatter<W>) -> fmt::Result {
+        let n = u32::from(throughput::deliveries_of(self.0));
+        let whole = n / 256;
+        let part = n % 256 * 390625;
+        write!(f, "{whole}.{part:08}")
+    }
 }
 
 // The hopper that a line is about, where there are several.
-fn at(rt: &impl Print, several: bool, tile: u8) {
-    if several {
-        console_say::text(rt, b" at ");
-        console_say::number(rt, tile as u64);
+#[derive(Clone, Copy)]
+struct At(Option<usize>);
+
+impl fmt::Display for At {
+    fn fmt<W: fmt::Write>(&self, f: &mut fmt::Formatter<W>) -> fmt::Result {
+        match self.0 {
+            Some(tile) => write!(f, " at {tile}"),
+            None => Ok(()),
+        }
     }
 }
 
-// The rate of the window that closed with this round, at the lowest hopper of the rest; nothing where none is left.
-fn window(rt: &impl Print, round: u64, several: bool, rest: u64, t: Throughput) {
-    let tile = sets::lowest(rest);
-    if tile < 64 {
-        console_say::text(rt, b"round ");
-        console_say::number(rt, round);
-        console_say::text(rt, b": window closed");
-        at(rt, several, tile);
-        console_say::text(rt, b", rate ");
-        rate(rt, t.last);
-        console_say::text(rt, b"\n");
-    }
+// Where a hopper's line says that it is.
+fn place(hoppers: u64, tile: usize) -> At {
+    At(if 1 < sets::size(hoppers) {
+        Some(tile)
+    } else {
+        None
+    })
 }
 
-pub fn closed(rt: &impl Print, round: u64, hoppers: u64, records: [Throughput; 4]) {
-    let several = 1 < sets::size(hoppers);
-    let second = others(hoppers);
-    let third = others(second);
-    let fourth = others(third);
-    window(rt, round, several, hoppers, records[0]);
-    window(rt, round, several, second, records[1]);
-    window(rt, round, several, third, records[2]);
-    window(rt, round, several, fourth, records[3]);
+// The rates of the windows that closed with this round.
+pub fn closed(rt: &impl Print, round: u64, hoppers: u64, records: &[Throughput; 4]) {
+    for (t, record) in (0..64).filter(|t| sets::holds(hoppers, *t)).zip(records) {
+        let at = place(hoppers, t);
+        let rate = Rate(record.last);
+        let _ = println!(rt; "round {round}: window closed{at}, rate {rate}");
+    }
 }
 
 // A record: the closed rates, and the open window.
-fn line(rt: &impl Print, several: bool, rest: u64, t: Throughput) {
-    let tile = sets::lowest(rest);
-    if tile < 64 {
-        console_say::text(rt, b"throughput");
-        at(rt, several, tile);
-        if t.closed == 0 {
-            console_say::text(rt, b": no window closed yet");
-        } else {
-            console_say::text(rt, b": last ");
-            rate(rt, t.last);
-            console_say::text(rt, b", least ");
-            rate(rt, t.least);
-            console_say::text(rt, b", greatest ");
-            rate(rt, t.greatest);
-        }
-        console_say::text(rt, b"; open window: rounds ");
-        console_say::small(rt, t.rounds as u32);
-        console_say::text(rt, b", delivered ");
-        console_say::small(rt, t.deliveries as u32);
-        console_say::text(rt, b"\n");
+fn line(rt: &impl Print, at: At, t: Throughput) {
+    let _ = print!(rt; "throughput{at}");
+    if t.closed == 0 {
+        let _ = print!(rt; ": no window closed yet");
+    } else {
+        let last = Rate(t.last);
+        let least = Rate(t.least);
+        let greatest = Rate(t.greatest);
+        let _ = print!(rt; ": last {last}, least {least}, greatest {greatest}");
     }
+    let rounds = t.rounds;
+    let deliveries = t.deliveries;
+    let _ = println!(rt; "; open window: rounds {rounds}, delivered {deliveries}");
 }
 
-pub fn show(rt: &impl Print, hoppers: u64, records: [Throughput; 4]) {
-    let several = 1 < sets::size(hoppers);
-    let second = others(hoppers);
-    let third = others(second);
-    let fourth = others(third);
-    line(rt, several, hoppers, records[0]);
-    line(rt, several, second, records[1]);
-    line(rt, several, third, records[2]);
-    line(rt, several, fourth, records[3]);
+pub fn show(rt: &impl Print, hoppers: u64, records: &[Throughput; 4]) {
+    for (t, record) in (0..64).filter(|t| sets::holds(hoppers, *t)).zip(records) {
+        line(rt, place(hoppers, t), *record);
+    }
 }

@@ -5,7 +5,7 @@ use Rattle.floor.specs.declared.Floor.{Floor}
 use Rattle.floor.specs.Calls.{stop_answer, repair_answer, keep_answer, recall_answer, forget_answer}
 use Rattle.floor.specs.Layouts.{name_number}
 use Rattle.console_words.specs.Text.{nth_word}
-use Rattle.console_parse.specs.Line.{ends_by, arguments_of, name_in}
+use Rattle.console_parse.specs.Line.{ends_by, arguments_of, read, name_in}
 use Rattle.console_session.specs.declared.Session.{Session}
 use Rattle.console_session.specs.Sessions.{after_call}
 
@@ -15,7 +15,7 @@ after_answer s a = after_call s a.refusal a.floor
 
 -- a call with one number, the tile's
 abbrev pub on_tile : (Floor → ℕ → Answer) → Session → List ℕ → Session
-on_tile call s line = cond (arguments_of line 1).good (after_answer s (call s.floor (get_or (arguments_of line 1).at 0 0))) s
+on_tile call s line = read (arguments_of line 1) (λ n. after_answer s (call s.floor (get_or n 0 0))) s
 
 -- a call with a name
 abbrev pub under_name : (Floor → ℕ → Answer) → Session → List ℕ → Session

@@ -7,56 +7,57 @@ ghost use Rattle.console_tiles.specs.Typed.{after_answer, stop_typed, repair_typ
 use console_session::Session;
 use floor::{Answer, Name};
 
+// What a call about a tile answered, and how the tile is now.
+fn pressed(rt: &impl Print, s: Session, call: &str, tile: u32, answer: Answer, now: &str) -> Session
+    ensures { result ≡ after_answer s answer }
+{
+    if answer.refusal == 0 {
+        console_say::pressed(rt, call, tile, now);
+    }
+    console_session::answered(rt, s, call, answer)
+}
+
 pub fn stop(rt: &impl Print, s: Session, line: &[u8]) -> Session
     ensures { result ≡ stop_typed s line.now }
 {
-    let n = console_parse::arguments(line, 1);
-    if !n.good {
-        return console_session::cannot(rt, s, line);
+    match console_parse::arguments(line, 1) {
+        Some(n) => pressed(rt, s, "stop", n[0], calls::stop(s.floor, n[0]), "stopped"),
+        None => console_session::cannot(rt, s, line),
     }
-    let floor = s.floor;
-    let answer = calls::stop(floor, n.at[0]);
-    if answer.refusal == 0 {
-        console_say::pressed(rt, b"stop", n.at[0], b" stopped\n");
-    }
-    console_session::answered(rt, s, b"stop", answer)
 }
 
 pub fn repair(rt: &impl Print, s: Session, line: &[u8]) -> Session
     ensures { result ≡ repair_typed s line.now }
 {
-    let n = console_parse::arguments(line, 1);
-    if !n.good {
-        return console_session::cannot(rt, s, line);
+    match console_parse::arguments(line, 1) {
+        Some(n) => pressed(
+            rt,
+            s,
+            "repair",
+            n[0],
+            calls::repair(s.floor, n[0]),
+            "running",
+        ),
+        None => console_session::cannot(rt, s, line),
     }
-    let floor = s.floor;
-    let answer = calls::repair(floor, n.at[0]);
-    if answer.refusal == 0 {
-        console_say::pressed(rt, b"repair", n.at[0], b" running\n");
-    }
-    console_session::answered(rt, s, b"repair", answer)
 }
 
 pub fn read(rt: &impl Print, s: Session, line: &[u8]) -> Session
     ensures { result ≡ s }
 {
-    let n = console_parse::arguments(line, 1);
-    if !n.good {
+    let Some(n) = console_parse::arguments(line, 1) else {
         return console_session::cannot(rt, s, line);
-    }
-    let floor = s.floor;
-    let answer = calls::read(floor, n.at[0]);
+    };
+    let answer = calls::read(s.floor, n[0]);
     if answer.refusal != 0 {
-        return console_session::refused(rt, s, b"read", answer.refusal);
+        return console_session::refused(rt, s, "read", answer.refusal);
     }
-    let t = answer.tile;
-    let members = answer.members;
-    console_show::reading(rt, n.at[0], t, members);
+    console_show::reading(rt, n[0], answer.tile, &answer.members);
     s
 }
 
 // What a call about a name answered.
-fn named(rt: &impl Print, s: Session, call: &[u8], letters: [u8; 8], answer: Answer) -> Session
+fn named(rt: &impl Print, s: Session, call: &str, letters: [u8; 8], answer: Answer) -> Session
     ensures { result ≡ after_answer s answer }
 {
     if answer.refusal == 0 {
@@ -65,6 +66,7 @@ fn named(rt: &impl Print, s: Session, call: &[u8], letters: [u8; 8], answer: Ans
     console_session::answered(rt, s, call, answer)
 }
 
+// keep, recall and forget differ in the call and its definition: one function over both would be no plainer.
 pub fn keep(rt: &impl Print, s: Session, line: &[u8]) -> Session
     ensures { result ≡ keep_typed s line.now }
 {
@@ -72,9 +74,8 @@ pub fn keep(rt: &impl Print, s: Session, line: &[u8]) -> Session
         return console_session::cannot(rt, s, line);
     }
     let letters = console_parse::name_at(line, 1);
-    let floor = s.floor;
-    let answer = calls::keep(floor, Name { letters: letters });
-    named(rt, s, b"keep", letters, answer)
+    let answer = calls::keep(s.floor, Name { letters });
+    named(rt, s, "keep", letters, answer)
 }
 
 pub fn recall(rt: &impl Print, s: Session, line: &[u8]) -> Session
@@ -84,9 +85,8 @@ pub fn recall(rt: &impl Print, s: Session, line: &[u8]) -> Session
         return console_session::cannot(rt, s, line);
     }
     let letters = console_parse::name_at(line, 1);
-    let floor = s.floor;
-    let answer = calls::recall(floor, Name { letters: letters });
-    named(rt, s, b"recall", letters, answer)
+    let answer = calls::recall(s.floor, Name { letters });
+    named(rt, s, "recall", letters, answer)
 }
 
 pub fn forget(rt: &impl Print, s: Session, line: &[u8]) -> Session
@@ -96,21 +96,18 @@ pub fn forget(rt: &impl Print, s: Session, line: &[u8]) -> Session
         return console_session::cannot(rt, s, line);
     }
     let letters = console_parse::name_at(line, 1);
-    let floor = s.floor;
-    let answer = calls::forget(floor, Name { letters: letters });
-    named(rt, s, b"forget", letters, answer)
+    let answer = calls::forget(s.floor, Name { letters });
+    named(rt, s, "forget", letters, answer)
 }
 
 // The layouts held, by rising name.
 pub fn layouts(rt: &impl Print, s: Session) -> Session
     ensures { result ≡ s }
 {
-    let floor = s.floor;
-    let answer = calls::read(floor, 0);
+    let answer = calls::read(s.floor, 0);
     if answer.refusal != 0 {
-        return console_session::refused(rt, s, b"layouts", answer.refusal);
+        return console_session::refused(rt, s, "layouts", answer.refusal);
     }
-    let held = floor.layouts;
-    console_show::layouts(rt, held);
+    console_show::layouts(rt, &s.floor.layouts);
     s
 }

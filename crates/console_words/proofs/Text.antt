@@ -1,18 +1,21 @@
 -- Words and numbers, one step of a loop each.
 use mathlib.Core.Path.{◌≡◌, refl, sym, ap, ◌∙◌}
-use mathlib.Core.Bool.{◌&&◌, and-false}
-use mathlib.Core.List.{List, [], ◌∷◌, ◌++◌, append_assoc, append-nil}
-use Prim.Native.Nat.{ℕ, zero, suc, ◌+◌, ◌*◌, ◌-◌, ◌≤◌, ◌<◌}
+use mathlib.Core.Bool.{Bool, true, false, cond, not, ◌&&◌, and-false}
+use mathlib.Core.List.{List, [], ◌∷◌}
+use Prim.Native.Nat.{ℕ, suc, ◌+◌, ◌*◌, ◌-◌, ◌≤◌, ◌<◌}
 use native.Mathlib.Numerals.{add-one}
 use native.Mathlib.Omega.{arith}
-use native.Mathlib.Decide.{ℕ_discrete}
-use lib.Dec.{leb}
+use native.Mathlib.Decide.{dec_le}
+use lib.Dec.{leb, ltb, eqb}
+use Rattle.std.proofs.Common.{take_while}
 use lib.ListN.{length, take, drop, get_or, drop_of_length-le, length-drop}
-use lib.Seq.{drop-cons, take-suc, get_or-drop}
-use borrow.Author.Tests.{le-leb, lt-leb}
+use Rattle.std.proofs.lemmas.List.Folds.{length-prefix_len}
+use Rattle.std.proofs.lemmas.List.Sums.{prefix_len-le-length, prefix_len_passes, prefix_len_stops}
+use lib.Seq.{drop-cons, drop-drop, get_or-drop, take_all}
+use borrow.Author.Tests.{le-leb, lt-leb, lt-ltb, le-ltb, eq-eqb, eqb-true, not-false}
 use Rattle.console_words.specs.Text.{after_blanks, after_word, word, nth_word, only_digits, value_after_of, has_some, value_if, number_of}
-use Rattle.console_words.specs.declared.Parsed.{Parsed}
-use Rattle.console_words.specs.declared.Parsed.TheVariants.{Value, Unreadable}
+use Rattle.std.proofs.Common.{Option, None, Some}
+use Rattle.std.specs.List.{prefix_len}
 
 -- the text from place i begins with the byte at i
 pub from_place : (s : List ℕ) (i : ℕ) → i < length s → drop i s ≡ get_or s i 0 ∷ drop (i + 1) s
@@ -21,88 +24,99 @@ from_place s i h = rw (add-one, drop-cons s i 0)
 pub from_end : (s : List ℕ) (i : ℕ) → length s ≤ i → drop i s ≡ []
 from_end s i h = drop_of_length-le s h
 
--- a byte that stands at no place from at to i, nor at i
-pub between_more : (s : List ℕ) (at i b : ℕ) → ((k : ℕ) → at ≤ k → k < i → get_or s k 0 ≡ b → ⊥) → (get_or s i 0 ≡ b → ⊥) → (k : ℕ) → at ≤ k → k < i + 1 → get_or s k 0 ≡ b → ⊥
-between_more s at i b f g k lo hi e = split (ℕ_discrete k i)
+-- ---- blanks and words
+pub past_blanks : (s : List ℕ) → drop (prefix_len (λ b. leb b 32) s) s ≡ after_blanks s
+unfolding after_blanks
+past_blanks [] = refl
+past_blanks (b ∷ s) = go (leb b 32) (past_blanks s)
   where
-    split : Dec (k ≡ i) → ⊥
-    split (yes p) = g (rw p at e)
-    split (no n) = f k lo (omega arith) e
+    go : (t : Bool) → drop (prefix_len (λ b. leb b 32) s) s ≡ after_blanks s → drop (cond t (1 + prefix_len (λ b. leb b 32) s) 0) (b ∷ s) ≡ cond t (after_blanks s) (b ∷ s)
+    go true e =
+        let n : 1 + prefix_len (λ b. leb b 32) s ≡ suc (prefix_len (λ b. leb b 32) s) = omega arith in
+        rw n e
+    go false e = refl
 
--- ---- blanks
-pub blanks_turn : (s : List ℕ) (i : ℕ) → i < length s → get_or s i 0 ≤ 32 → after_blanks (drop (i + 1) s) ≡ after_blanks (drop i s)
-unfolding after_blanks
-blanks_turn s i h le = rw (from_place s i h, le-leb (get_or s i 0) 32 le)
+pub past_word : (s : List ℕ) → (drop (prefix_len (λ b. ltb 32 b) s) s ≡ after_word s) × (take (prefix_len (λ b. ltb 32 b) s) s ≡ word s)
+unfolding after_word word
+past_word [] = (refl, refl)
+past_word (b ∷ s) = go (dec_le b 32) (past_word s)
+  where
+    go : Dec (b ≤ 32) → (drop (prefix_len (λ b. ltb 32 b) s) s ≡ after_word s) × (take (prefix_len (λ b. ltb 32 b) s) s ≡ word s) → (drop (cond (ltb 32 b) (1 + prefix_len (λ b. ltb 32 b) s) 0) (b ∷ s) ≡ cond (leb b 32) (b ∷ s) (after_word s)) × (take (cond (ltb 32 b) (1 + prefix_len (λ b. ltb 32 b) s) 0) (b ∷ s) ≡ cond (leb b 32) [] (b ∷ word s))
+    go (yes h) e = rw (le-leb b 32 h, le-ltb 32 b h) (refl, refl)
+    go (no h) e =
+        let k : 32 < b = omega arith in
+        let n : 1 + prefix_len (λ b. ltb 32 b) s ≡ suc (prefix_len (λ b. ltb 32 b) s) = omega arith in
+        rw (lt-leb b 32 k, lt-ltb 32 b k, n) (e.0, ap (λ (w : List ℕ). b ∷ w) e.1)
 
-pub blanks_stop : (s : List ℕ) (i : ℕ) → i < length s → 32 < get_or s i 0 → drop i s ≡ after_blanks (drop i s)
-unfolding after_blanks
-blanks_stop s i h lt = rw (from_place s i h, lt-leb (get_or s i 0) 32 lt)
+-- ---- the same of what the code counts
+front_length : (p : ℕ → Bool) (s : List ℕ) (k : ℕ) → k ≡ length (take_while p s) → k ≡ prefix_len p s
+front_length p s k e = e ∙ length-prefix_len p s
 
-pub blanks_end : (s : List ℕ) (i : ℕ) → length s ≤ i → drop i s ≡ after_blanks (drop i s)
-unfolding after_blanks
-blanks_end s i h = rw (from_end s i h)
+pub blanks_dropped : (s : List ℕ) (k : ℕ) → k ≡ length (take_while (λ b. leb b 32) s) → drop k s ≡ after_blanks s
+blanks_dropped s k e = rw (front_length (λ b. leb b 32) s k e) (past_blanks s)
 
--- ---- words
-pub after_turn : (s : List ℕ) (i : ℕ) → i < length s → 32 < get_or s i 0 → after_word (drop (i + 1) s) ≡ after_word (drop i s)
-unfolding after_word
-after_turn s i h lt = rw (from_place s i h, lt-leb (get_or s i 0) 32 lt)
+pub text_from_word : (s : List ℕ) (k : ℕ) → k ≡ length (take_while (λ b. leb b 32) s) → take (length s - k) (drop k s) ≡ after_blanks s
+text_from_word s k e = take_all (length s - k) (drop k s) (rw length-drop (omega arith)) ∙ blanks_dropped s k e
 
-pub after_stop : (s : List ℕ) (i : ℕ) → i < length s → get_or s i 0 ≤ 32 → drop i s ≡ after_word (drop i s)
-unfolding after_word
-after_stop s i h le = rw (from_place s i h, le-leb (get_or s i 0) 32 le)
+pub word_split : (s t u : List ℕ) (k : ℕ) → k ≡ length (take_while (λ b. ltb 32 b) s) → t ≡ take k s → u ≡ drop k s → (t ≡ word s) × (u ≡ after_word s)
+word_split s t u k e p q =
+    let l = front_length (λ b. ltb 32 b) s k e in
+    (p ∙ rw l (past_word s).1, q ∙ rw l (past_word s).0)
 
-pub after_end : (s : List ℕ) (i : ℕ) → length s ≤ i → drop i s ≡ after_word (drop i s)
-unfolding after_word
-after_end s i h = rw (from_end s i h)
+within : (p : ℕ → Bool) (s : List ℕ) (at k : ℕ) → at ≤ length s → k ≡ length (take_while p (take (length s - at) (drop at s))) → (k ≡ length (take_while p (drop at s))) × (at + k ≤ length s)
+within p s at k h e =
+    let a : take (length s - at) (drop at s) ≡ drop at s = take_all (length s - at) (drop at s) (rw length-drop (omega arith)) in
+    let f : k ≡ length (take_while p (drop at s)) = rw a at e in
+    let l : k ≡ prefix_len p (drop at s) = front_length p (drop at s) k f in
+    (f, omega (arith, prefix_len-le-length p (drop at s), length-drop at s))
 
-pub word_stop : (s : List ℕ) (i : ℕ) → i < length s → get_or s i 0 ≤ 32 → word (drop i s) ≡ []
-unfolding word
-word_stop s i h le = rw (from_place s i h, le-leb (get_or s i 0) 32 le)
+pub blanks_skipped : (s : List ℕ) (at k : ℕ) → at ≤ length s → k ≡ length (take_while (λ b. leb b 32) (take (length s - at) (drop at s))) → (at ≤ at + k) × (at + k ≤ length s) × (drop (at + k) s ≡ after_blanks (drop at s))
+blanks_skipped s at k h e =
+    let w = within (λ b. leb b 32) s at k h e in
+    (omega arith, w.1, sym (drop-drop k at s) ∙ blanks_dropped (drop at s) k w.0)
 
-pub word_end : (s : List ℕ) (i : ℕ) → length s ≤ i → word (drop i s) ≡ []
-unfolding word
-word_end s i h = rw (from_end s i h)
+pub found : (s : List ℕ) (at b n : ℕ) → at ≤ length s → n ≡ length (take_while (λ x. not (eqb x b)) (take (length s - at) (drop at s))) → (at + n ≤ length s) × ((k : ℕ) → at ≤ k → k < at + n → get_or s k 0 ≡ b → ⊥) × (at + n < length s → get_or s (at + n) 0 ≡ b)
+found s at b n h e =
+    let w = within (λ x. not (eqb x b)) s at n h e in
+    let l = front_length (λ x. not (eqb x b)) (drop at s) n w.0 in
+    (w.1, none l, some l)
+  where
+    bare : (t : Bool) → not t ≡ true → t ≡ true → ⊥
+    bare t p q = grind arith
 
-word_more : (s : List ℕ) (i : ℕ) → i < length s → 32 < get_or s i 0 → word (drop i s) ≡ get_or s i 0 ∷ word (drop (i + 1) s)
-unfolding word
-word_more s i h lt = rw (from_place s i h, lt-leb (get_or s i 0) 32 lt)
+    none : n ≡ prefix_len (λ x. not (eqb x b)) (drop at s) → (k : ℕ) → at ≤ k → k < at + n → get_or s k 0 ≡ b → ⊥
+    none l k lo hi q =
+        let j : at + (k - at) ≡ k = omega arith in
+        let g : get_or (drop at s) (k - at) 0 ≡ b = get_or-drop at s (k - at) 0 ∙ ap (λ (i : ℕ). get_or s i 0) j ∙ q in
+        bare (eqb (get_or (drop at s) (k - at) 0) b) (prefix_len_passes (λ x. not (eqb x b)) (drop at s) (k - at) 0 (omega arith)) (eq-eqb (get_or (drop at s) (k - at) 0) b g)
 
-pub word_begin : (s : List ℕ) (at : ℕ) → word (drop at s) ≡ take (at - at) (drop at s) ++ word (drop at s)
-word_begin s at =
-    let e : at - at ≡ 0 = omega arith in
-    rw e
+    some : n ≡ prefix_len (λ x. not (eqb x b)) (drop at s) → at + n < length s → get_or s (at + n) 0 ≡ b
+    some l k =
+        let m : prefix_len (λ x. not (eqb x b)) (drop at s) < length (drop at s) = omega (arith, length-drop at s) in
+        let f : not (eqb (get_or (drop at s) (prefix_len (λ x. not (eqb x b)) (drop at s)) 0) b) ≡ false = prefix_len_stops (λ x. not (eqb x b)) (drop at s) 0 m in
+        let v : get_or (drop at s) n 0 ≡ b = rw l (eqb-true _ _ (not-false (eqb (get_or (drop at s) (prefix_len (λ x. not (eqb x b)) (drop at s)) 0) b) f)) in
+        sym (get_or-drop at s n 0) ∙ v
 
--- what was passed of a word, and what is left of it
-pub word_turn : (s : List ℕ) (at i : ℕ) → at ≤ i → i < length s → 32 < get_or s i 0 → word (drop at s) ≡ take (i - at) (drop at s) ++ word (drop i s) → word (drop at s) ≡ take (i + 1 - at) (drop at s) ++ word (drop (i + 1) s)
-word_turn s at i le h lt p =
-    let t : List ℕ = drop at s in
-    let n : ℕ = i - at in
-    let e : i + 1 - at ≡ suc n = omega arith in
-    let q : at + n ≡ i = omega arith in
-    let k : n < length t = rw length-drop (omega arith) in
-    let g : get_or t n 0 ≡ get_or s i 0 = get_or-drop at s n 0 ∙ ap (λ (j : ℕ). get_or s j 0) q in
-    rw (e, take-suc t n 0 k, g, append_assoc) (p ∙ ap (λ (w : List ℕ). take n t ++ w) (word_more s i h lt))
+-- ---- the words one after another
+module _ (s : List ℕ) (k i : ℕ) where
+  pub next_word : (rest t u : List ℕ) → i < k → nth_word (k - i) rest ≡ nth_word k s → t ≡ after_blanks rest → u ≡ after_word t → nth_word (k - (i + 1)) u ≡ nth_word k s
+  unfolding nth_word
+  next_word rest t u h e p q =
+      let n : k - i ≡ suc (k - (i + 1)) = omega arith in
+      rw (q, p) (ap (λ (x : ℕ). nth_word x rest) (sym n) ∙ e)
 
-pub word_whole : (t w r : List ℕ) → w ≡ t ++ r → r ≡ [] → t ≡ w
-word_whole t w r p q = sym (append-nil t) ∙ ap (λ (x : List ℕ). t ++ x) (sym q) ∙ sym p
-
-pub nth_turn : (s : List ℕ) (at start end k n : ℕ) (w : List ℕ) → 0 < n → k ≡ n - 1 → drop start s ≡ after_blanks (drop at s) → drop end s ≡ after_word (drop start s) → nth_word n (drop at s) ≡ w → nth_word k (drop end s) ≡ w
-unfolding nth_word
-nth_turn s at start end k zero w h e p q r = absurd (omega arith)
-nth_turn s at start end k (suc n) w h e p q r =
-    let f : k ≡ n = omega arith in
-    rw (f, q, p) r
-
-pub nth_here : (s : List ℕ) (at from n : ℕ) (w v : List ℕ) → n ≡ 0 → drop from s ≡ after_blanks (drop at s) → v ≡ word (drop from s) → nth_word n (drop at s) ≡ w → v ≡ w
-unfolding nth_word
-nth_here s at from n w v z p q r = q ∙ ap word p ∙ (rw z at r)
+  pub last_word : (rest t w : List ℕ) → k ≤ i → nth_word (k - i) rest ≡ nth_word k s → t ≡ after_blanks rest → w ≡ word t → w ≡ nth_word k s
+  unfolding nth_word
+  last_word rest t w h e p q =
+      let n : k - i ≡ 0 = omega arith in
+      rw (q, p) (ap (λ (x : ℕ). nth_word x rest) (sym n) ∙ e)
 
 -- ---- numbers
 -- the number that the digits write after those of n, if they are digits and it stays within 32 bits
-unfoldable pub number_after : ℕ → List ℕ → Parsed
+unfoldable pub number_after : ℕ → List ℕ → Option ℕ
 number_after n s = value_if (only_digits s && leb (value_after_of n s) 4294967295) (value_after_of n s)
 
-pub number_none : (s : List ℕ) → length s ≡ 0 → Unreadable ≡ number_of s
+pub number_none : (s : List ℕ) → length s ≡ 0 → None ≡ number_of s
 unfolding number_of has_some value_if
 number_none [] h = refl
 number_none (b ∷ s) h = absurd (omega arith)
@@ -117,7 +131,7 @@ unfolding value_after_of
 value_grows n [] = omega arith
 value_grows n (b ∷ s) = omega (arith, value_grows (10 * n + (b - 48)) s)
 
-over_is : (n : ℕ) (s : List ℕ) → 4294967295 < n → number_after n s ≡ Unreadable
+over_is : (n : ℕ) (s : List ℕ) → 4294967295 < n → number_after n s ≡ None
 unfolding number_after value_if
 over_is n s h =
     let k : 4294967295 < value_after_of n s = omega (arith, value_grows n s) in
@@ -134,23 +148,23 @@ module _ (s : List ℕ) (i n b : ℕ) (value : number_of s ≡ number_after n (d
       let one : number_after n (drop i s) ≡ number_after (10 * n + (b - 48)) (drop (i + 1) s) = rw (starts, le-leb 48 b lo, le-leb b 57 hi) in
       value ∙ one
 
-  pub number_low : b < 48 → Unreadable ≡ number_of s
+  pub number_low : b < 48 → None ≡ number_of s
   unfolding number_after only_digits value_if
   number_low lo =
-      let one : number_after n (drop i s) ≡ Unreadable = rw (starts, lt-leb 48 b lo) in
+      let one : number_after n (drop i s) ≡ None = rw (starts, lt-leb 48 b lo) in
       sym (value ∙ one)
 
-  pub number_high : 57 < b → Unreadable ≡ number_of s
+  pub number_high : 57 < b → None ≡ number_of s
   unfolding number_after only_digits value_if
   number_high hi =
-      let one : number_after n (drop i s) ≡ Unreadable = rw (starts, lt-leb b 57 hi, and-false (leb 48 b)) in
+      let one : number_after n (drop i s) ≡ None = rw (starts, lt-leb b 57 hi, and-false (leb 48 b)) in
       sym (value ∙ one)
 
-  pub number_over : 48 ≤ b → b ≤ 57 → 4294967295 < 10 * n + (b - 48) → Unreadable ≡ number_of s
-  number_over lo hi k = sym (number_turn lo hi ∙ over_is (10 * n + (b - 48)) (drop (i + 1) s) k)
+  pub number_over : (m d : ℕ) → m ≡ 4294967295 → d ≡ b - 48 → 48 ≤ b → b ≤ 57 → m < 10 * n + d → None ≡ number_of s
+  number_over m d p q lo hi k = sym (number_turn lo hi ∙ over_is (10 * n + (b - 48)) (drop (i + 1) s) (omega arith))
 
-pub number_whole : (s : List ℕ) (i n : ℕ) → number_of s ≡ number_after n (drop i s) → length s ≤ i → n ≤ 4294967295 → Value n ≡ number_of s
+pub number_whole : (s : List ℕ) (i n : ℕ) → number_of s ≡ number_after n (drop i s) → length s ≤ i → n ≤ 4294967295 → Some n ≡ number_of s
 unfolding number_after only_digits value_after_of value_if
 number_whole s i n value h le =
-    let one : number_after n (drop i s) ≡ Value n = rw (from_end s i h, le-leb n 4294967295 le) in
+    let one : number_after n (drop i s) ≡ Some n = rw (from_end s i h, le-leb n 4294967295 le) in
     sym (value ∙ one)

@@ -1,7 +1,5 @@
 -- What a text says: its words, and the number that a word writes. Assumes nothing.
-use Rattle.std.specs.Prelude.{Bool, true, false, cond, ◌&&◌, List, [], ◌∷◌, ℕ, zero, suc, ◌+◌, ◌*◌, ◌-◌, leb}
-use Rattle.console_words.specs.declared.Parsed.{Parsed}
-use Rattle.console_words.specs.declared.Parsed.TheVariants.{Value, Unreadable}
+use Rattle.std.specs.Prelude.{Bool, true, false, cond, ◌&&◌, List, [], ◌∷◌, ℕ, zero, suc, ◌+◌, ◌*◌, ◌-◌, leb, Option, None, Some}
 
 -- the text from its first byte that is no blank; a space and every byte below it is a blank
 unfoldable pub after_blanks : List ℕ → List ℕ
@@ -37,10 +35,10 @@ unfoldable pub has_some : List ℕ → Bool
 has_some [] = false
 has_some (b ∷ s) = true
 
-unfoldable pub value_if : Bool → ℕ → Parsed
-value_if true n = Value n
-value_if false n = Unreadable
+unfoldable pub value_if : Bool → ℕ → Option ℕ
+value_if true n = Some n
+value_if false n = None
 
 -- the number that a word writes: some digits, nothing else, within 32 bits
-unfoldable pub number_of : List ℕ → Parsed
+unfoldable pub number_of : List ℕ → Option ℕ
 number_of s = value_if (has_some s && (only_digits s && leb (value_after_of 0 s) 4294967295)) (value_after_of 0 s)

@@ -1,21 +1,14 @@
 // Text as bytes: where a line ends, the words of a line, a word as a decimal number.
 #![tactic(auto)]
 
-ghost use Rattle.std.specs.Prelude.{◌≡◌, ℕ, ◌-◌, ◌≤◌, ◌<◌, length, get_or, take, drop};
+ghost use Rattle.std.specs.Prelude.{◌≡◌, ℕ, ◌≤◌, ◌<◌, ◌==◌, length, get_or, take, drop, not, nat_lt, nat_le, take_while};
 ghost use Rattle.console_words.specs.Text.{after_blanks, after_word, word, nth_word, number_of};
 
-// A part of a text: its first byte, and the byte after its last.
-#[derive(Clone, Copy)]
-pub struct Span {
-    pub from: usize,
-    pub to: usize,
-}
-
-// A word as a number, or not one.
-#[derive(Clone, Copy)]
-pub enum Parsed {
-    Value(u32),
-    Unreadable,
+// How many bytes stand before the first `b`.
+fn before(s: &[u8], b: u8) -> usize
+    ensures { result ≡ length (take_while (λ x. not (x == b)) s.now) }
+{
+    s.iter().take_while(|x| **x != b).count()
 }
 
 // The first place from `at` on where `b` stands; the length where there is none.
@@ -25,14 +18,14 @@ pub fn find(s: &[u8], at: usize, b: u8) -> usize
     ensures by_index { (k : ℕ) → at ≤ k → k < result → get_or s.now k 0 ≡ b → ⊥ }
     ensures result_value { result < length s.now → get_or s.now result 0 ≡ b }
 {
-    let mut i = at;
-    while i < s.len() {
-        if s[i] == b {
-            return i;
-        }
-        i += 1;
-    }
-    i
+    at + before(&s[at..], b)
+}
+
+// How many blanks stand before the first word.
+fn blanks(s: &[u8]) -> usize
+    ensures { result ≡ length (take_while (λ b. nat_le b 32) s.now) }
+{
+    s.iter().take_while(|b| **b <= 32).count()
 }
 
 // The first place from `at` on that is no blank; the length where there is none.
@@ -40,75 +33,57 @@ pub fn skip_blanks(s: &[u8], at: usize) -> usize
     requires { at ≤ length s.now }
     ensures { (at ≤ result) × (result ≤ length s.now) × (drop result s.now ≡ after_blanks (drop at s.now)) }
 {
-    let mut i = at;
-    while i < s.len() {
-        if s[i] > 32 {
-            return i;
-        }
-        i += 1;
-    }
-    i
+    at + blanks(&s[at..])
 }
 
-// Where the word that begins at `at` ends.
-fn word_end(s: &[u8], at: usize) -> usize
-    requires { at ≤ length s.now }
-    ensures { (at ≤ result) × (result ≤ length s.now) × (drop result s.now ≡ after_word (drop at s.now)) × (take (result - at) (drop at s.now) ≡ word (drop at s.now)) }
+// The text from its first word on.
+fn from_word(s: &[u8]) -> &[u8]
+    ensures { result.now ≡ after_blanks s.now }
 {
-    let mut i = at;
-    while i < s.len() {
-        if s[i] <= 32 {
-            return i;
-        }
-        i += 1;
-    }
-    i
+    &s[blanks(s)..]
 }
 
-// The word with k words before it; an empty part where the text has no more words.
-pub fn nth(s: &[u8], k: usize) -> Span
-    ensures { (result.from ≤ result.to) × (result.to ≤ length s.now) × (take (result.to - result.from) (drop result.from s.now) ≡ nth_word k s.now) }
+// How many bytes stand before the first blank.
+fn word_length(s: &[u8]) -> usize
+    ensures { result ≡ length (take_while (λ b. nat_lt 32 b) s.now) }
 {
-    let mut at = 0;
-    let mut left = k;
-    while 0 < left {
-        let start = skip_blanks(s, at);
-        at = word_end(s, start);
-        left -= 1;
-    }
-    let from = skip_blanks(s, at);
-    let to = word_end(s, from);
-    Span { from: from, to: to }
+    s.iter().take_while(|b| **b > 32).count()
 }
 
-// The number that a word of decimal digits writes. Unreadable: no digits, another byte, or more than 32 bits hold.
-pub fn number(s: &[u8]) -> Parsed
+// The word with which a text begins, and what follows it.
+fn split_word(s: &[u8]) -> (&[u8], &[u8])
+    ensures { (result.0.now ≡ word s.now) × (result.1.now ≡ after_word s.now) }
+{
+    s.split_at(word_length(s))
+}
+
+// The word with k words before it; empty where the text has no more words.
+pub fn nth(s: &[u8], k: usize) -> &[u8]
+    ensures { result.now ≡ nth_word k s.now }
+{
+    let mut rest = s;
+    for _ in 0..k {
+        rest = split_word(from_word(rest)).1;
+    }
+    split_word(from_word(rest)).0
+}
+
+// The number that a word of decimal digits writes. None: no digits, another byte, or more than 32 bits hold.
+pub fn number(s: &[u8]) -> Option<u32>
     ensures { result ≡ number_of s.now }
 {
-    if s.len() == 0 {
-        return Parsed::Unreadable;
+    if s.is_empty() {
+        return None;
     }
     let mut n: u64 = 0;
-    let mut i = 0;
-    while i < s.len() {
-        let b = wide(s[i]);
-        if b < 48 {
-            return Parsed::Unreadable;
+    for b in s {
+        if *b < b'0' || b'9' < *b {
+            return None;
         }
-        if 57 < b {
-            return Parsed::Unreadable;
+        n = 10 * n + u64::from(*b - b'0');
+        if u64::from(u32::MAX) < n {
+            return None;
         }
-        n = 10 * n + (b - 48);
-        if 4294967295 < n {
-            return Parsed::Unreadable;
-        }
-        i += 1;
     }
-    Parsed::Value(n as u32)
-}
-
-fn wide(b: u8) -> u64
-    ensures { result ≡ b }
-{
-    b as u64
+    Some(n as u32)
 }

@@ -5,7 +5,6 @@ use mathlib.Core.List.{List, [], ◌∷◌, ◌++◌}
 use Prim.Native.Nat.{ℕ}
 use lib.Dec.{eqb}
 use Rattle.laws.specs.Define.{bit}
-use Rattle.floor.specs.declared.Canister.{Canister}
 use Rattle.floor.specs.declared.Floor.{Floor}
 use Rattle.floor.specs.declared.Answer.{Answer}
 use Rattle.floor.specs.declared.Placed.{Placed}
@@ -13,7 +12,6 @@ use Rattle.floor.specs.declared.Rounded.{Rounded}
 use Rattle.floor.specs.Calls.{book_answer, stop_answer, repair_answer, keep_answer, forget_answer, recall_answer, round_answer}
 use Rattle.floor.specs.Anywhere.{anywhere_answer}
 use Rattle.floor.specs.Bookings.{list_answer, list_after}
-use Rattle.floor.specs.Reports.{listed_at}
 use Rattle.floor.specs.Demand3.{Call, book, anywhere, stop, repair, round, keep, forget, recall, list, outcome, floor_after, booked_in, reported_in, recall_set, recall_makes, runs_by, latest}
 use Rattle.floor.specs.Chain.{booked_by, placed_by, listed_by, joined, Made, none, books, places, stops, repairs, rounds, keeps, forgets, recalls, lists, runs_made, RealCalls}
 

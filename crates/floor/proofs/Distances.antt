@@ -1,13 +1,11 @@
 -- Once distances have settled, each is that to the nearest hopper: `distances`.
 use mathlib.Core.Path.{◌≡◌, refl, sym, ap, ◌∙◌, subst, fun_ext}
-use mathlib.Core.Logic.{◌⊎◌, inl, inr, ◌↔◌, ◌≢◌}
-use mathlib.Core.Bool.{Bool, true, false, ◌&&◌, ◌||◌}
-use mathlib.Core.List.{List, Memᴰ}
-use Prim.Native.Nat.{ℕ, zero, suc, ◌-◌, ◌≤◌, ◌<◌}
+use mathlib.Core.Logic.{◌⊎◌, inl, inr, ◌≢◌}
+use mathlib.Core.Bool.{Bool, true, ◌&&◌}
+use Prim.Native.Nat.{ℕ, zero, suc, ◌≤◌, ◌<◌}
 use native.Mathlib.Omega.{arith}
 use native.Mathlib.Decide.{dec_le}
 use Rattle.laws.specs.Define.{any_of}
-use Rattle.laws.specs.Every.{All}
 use Rattle.laws.proofs.Tests.{and_left, and_right, or_case}
 use Rattle.laws.proofs.Search.{any_find}
 use Rattle.floor.specs.declared.Settings.{Settings}
@@ -20,9 +18,9 @@ use Rattle.floor.specs.Memory.{view}
 use Rattle.floor.specs.Well.{well_formed}
 use Rattle.floor.specs.Route.{route}
 use Rattle.floor.specs.Live.{LivePath, here, step}
-use Rattle.floor.specs.Demand3.{Call, round, InRange, floor_after}
-use Rattle.floor.specs.Arrows.{RunningUnchanged, Steady}
-use Rattle.floor.specs.Distances.{steps, ToNearest, Distances, DistanceRule}
+use Rattle.floor.specs.Demand3.{round, floor_after}
+use Rattle.floor.specs.Arrows.{Steady}
+use Rattle.floor.specs.Distances.{steps, ToNearest, DistanceRule}
 use Rattle.floor.proofs.Sound.{Sound}
 use Rattle.floor.proofs.Pack.{well_sound}
 use Rattle.floor.proofs.Routing.{Graph, Routable, reach, reach_step, reach_all, RightTo, Right, right_all, right_start, right_next, right_reach}

@@ -1,16 +1,16 @@
 -- First laws: a fresh floor is well formed, the all-zero floor is not, and each field of a well-formed floor has its width.
 use mathlib.Core.Path.{◌≡◌, refl, sym, ap, ◌∙◌, subst}
-use mathlib.Core.Logic.{◌⊎◌, inl, inr, ◌≢◌}
+use mathlib.Core.Logic.{◌⊎◌, inl, inr}
 use mathlib.Core.Bool.{Bool, true, false, cond, true≢false}
 use mathlib.Core.List.{List, [], ◌∷◌}
 use Prim.Native.Nat.{ℕ, zero, suc, ◌/◌, ◌%◌, ◌^◌, ◌≤◌, ◌<◌}
 use native.Mathlib.Omega.{arith}
 use native.Mathlib.Nat.{lt_of_lt_of_le}
 use native.Mathlib.Decide.{dec_le}
-use lib.ListN.{length, get_or, get_or-eq_default}
+use lib.ListN.{get_or, get_or-eq_default}
 use lib.Pow.{pow_mono}
 use borrow.Author.Tests.{eq-eqb, ne_eqb, lt-leb}
-use Rattle.laws.specs.Define.{refusal, all_of, pairs_of, sum, bit}
+use Rattle.laws.specs.Define.{refusal, all_of, pairs_of, sum}
 use Rattle.laws.specs.Every.{All}
 use Rattle.laws.proofs.Tables.{tab_length, tab_at, tab_off, zeros_at}
 use Rattle.laws.proofs.Lists.{all_get, all_both, all_imp, all_unmap, cat_all, cat_empty}
@@ -19,10 +19,10 @@ use Rattle.floor.specs.declared.Settings.{Settings}
 use Rattle.floor.specs.declared.Tile.{Tile}
 use Rattle.floor.specs.declared.Floor.{Floor}
 use Rattle.floor.specs.Settings.{total, spacing, is_hopper, settings_tests, settings_refusal, settings_pass}
-use Rattle.floor.specs.Model.{TileState, no_tile_of, tile_of, runs_of_of, members_of, numbers, numbers_on}
+use Rattle.floor.specs.Model.{TileState, no_tile_of, tile_of, members_of, numbers, numbers_on}
 use Rattle.floor.specs.Layouts.{layouts_sound}
 use Rattle.floor.specs.Memory.{zero_tile, zero_canister, zero_floor, head_of, state_of, view, unused, head, pack}
-use Rattle.floor.specs.Well.{inside, apart, state_sound, sound, well_formed}
+use Rattle.floor.specs.Well.{apart, state_sound, sound, well_formed}
 use Rattle.floor.specs.Calls.{refusal_of, answer, fresh_tile, fresh_floor, fresh_answer, book_tests, book_answer}
 use Rattle.floor.specs.Capacity.{FullTiles}
 use Rattle.floor.proofs.Sound.{Measured, Inside, Sound}

@@ -1,10 +1,12 @@
--- The neighbour of a tile and the opposite of a side, branch by branch, in the words of the code; the first and the last row as sets.
+-- The neighbour of a tile and the opposite of a side, branch by branch, in the words of the code; the first row as a set.
 use mathlib.Core.Path.{◌≡◌, refl, sym, ap, ◌∙◌}
 use mathlib.Core.Logic.{◌≢◌}
 use mathlib.Core.Bool.{Bool, true, false, true≢false}
 use mathlib.Core.List.{List, [], ◌∷◌}
 use Prim.Native.Nat.{ℕ, zero, suc, ◌+◌, ◌-◌, ◌%◌, ◌≤◌, ◌<◌}
-use native.Mathlib.Nat.{mod-le, mod-lt}
+use native.Mathlib.Nat.{mod-le, mod-lt, mod-eq_of_lt, mod_self, suc-mod, mul-mod_left}
+use native.Mathlib.Decide.{dec_le}
+use native.Mathlib.Numerals.{suc-eq-add-one}
 use native.Mathlib.Omega.{arith}
 use lib.Dec.{eqb}
 use lib.ListN.{get_or}
@@ -17,12 +19,9 @@ use Rattle.floor.specs.Sides.{opposite}
 use Rattle.floor.specs.Grid.{neighbour}
 use Rattle.floor.proofs.SideTables.{same, same_true}
 
--- ---- the first and the last row as sets, where a column has r rows: tables that the prover computes
+-- ---- the first row as a set, where a column has r rows: tables that the prover computes
 abbrev pub firsts : List ℕ
 firsts = 0 ∷ 18446744073709551615 ∷ 6148914691236517205 ∷ 10540996613548315209 ∷ 1229782938247303441 ∷ 1190112520884487201 ∷ 1171221845949812801 ∷ 9295997013522923649 ∷ 72340172838076673 ∷ []
-
-abbrev pub lasts : List ℕ
-lasts = 0 ∷ 18446744073709551615 ∷ 12297829382473034410 ∷ 5270498306774157604 ∷ 9838263505978427528 ∷ 595056260442243600 ∷ 585610922974906400 ∷ 4647998506761461824 ∷ 9259542123273814144 ∷ []
 
 rows_right : List ℕ → (ℕ → ℕ → Bool) → ℕ → ℕ → Bool
 rows_right rows q r t = same (bit (get_or rows (r + 1) 0) t) (q (r + 1) t)
@@ -38,10 +37,6 @@ firsts_right : all_below (λ r. all_below (rows_right firsts (λ r t. eqb (t % r
 unfolding all_below rows_right same bit
 firsts_right = refl
 
-lasts_right : all_below (λ r. all_below (rows_right lasts (λ r t. eqb (t % r + 1) r) r) 64) 8 ≡ true
-unfolding all_below rows_right same bit
-lasts_right = refl
-
 past_three : (n : ℕ) → 1 ≤ n → n ≢ 1 → n ≢ 2 → n ≢ 3 → 4 ≤ n
 past_three n lo a b c = omega arith
 
@@ -55,9 +50,6 @@ module _ (r n : ℕ) (lo : 1 ≤ r) (hi : r ≤ 8) (e : n ≡ r) where
   pub first_row_of : (t : ℕ) → t < 64 → bit (get_or firsts r 0) t ≡ eqb (t % n) 0
   first_row_of = rows_at firsts (λ r t. eqb (t % r) 0) firsts_right r n lo hi e
 
-  pub last_row_of : (t : ℕ) → t < 64 → bit (get_or lasts r 0) t ≡ eqb (t % n + 1) n
-  last_row_of = rows_at lasts (λ r t. eqb (t % r + 1) r) lasts_right r n lo hi e
-
 -- what a test of such a set tells of tile t, n the number of rows
 module _ (set t n : ℕ) {found : Bool} (small : t < 64) (f : found ≡ bit set t) where
   module _ (q : (t : ℕ) → t < 64 → bit set t ≡ eqb (t % n) 0) where
@@ -67,12 +59,24 @@ module _ (set t n : ℕ) {found : Bool} (small : t < 64) (f : found ≡ bit set 
     pub first_out : found ≡ false → 0 < t % n
     first_out h = let z : t % n ≢ 0 = λ e. true≢false (sym (eq-eqb (t % n) 0 e) ∙ sym (f ∙ q t small) ∙ h) in omega arith
 
-  module _ (q : (t : ℕ) → t < 64 → bit set t ≡ eqb (t % n + 1) n) where
-    pub last_in : found ≡ true → n ≤ t % n + 1
-    last_in h = omega (arith, eqb-true (t % n + 1) n (sym (f ∙ q t small) ∙ h))
+-- the tile that follows t is of row 0 where t is of the last row
+module _ (t n : ℕ) (p : 1 ≤ n) where
+  follows : (t + 1) % n ≡ (t % n + 1) % n
+  follows = rw (sym (suc-eq-add-one t), sym (suc-eq-add-one (t % n))) (suc-mod t n)
 
-    pub last_out : 1 ≤ n → found ≡ false → t % n + 1 < n
-    last_out p h = let z : t % n + 1 ≢ n = λ e. true≢false (sym (eq-eqb (t % n + 1) n e) ∙ sym (f ∙ q t small) ∙ h) in omega (arith, mod-lt t p)
+  pub last_of : (t + 1) % n ≤ 0 → n ≤ t % n + 1
+  last_of z = go (dec_le n (t % n + 1))
+    where
+      go : Dec (n ≤ t % n + 1) → n ≤ t % n + 1
+      go (yes h) = h
+      go (no h) = let lt : t % n + 1 < n = omega (arith, h) in omega (arith, z, follows, mod-eq_of_lt lt)
+
+  pub below_last : 0 < (t + 1) % n → t % n + 1 < n
+  below_last z = go (dec_le n (t % n + 1))
+    where
+      go : Dec (n ≤ t % n + 1) → t % n + 1 < n
+      go (no h) = omega (arith, h)
+      go (yes h) = let e : t % n + 1 ≡ n = omega (arith, h, mod-lt t p) in omega (arith, z, follows, ap (λ (x : ℕ). x % n) e, mod_self n)
 
 pub some_rest : (t n : ℕ) → 0 < t % n → 1 ≤ t
 some_rest t n h = omega (arith, mod-le t n)
@@ -86,9 +90,9 @@ module _ (s : Settings) (k t : ℕ) where
   unfolding neighbour
   south_in e h = rw (e, lt-ltb 0 (t % s.rows) h)
 
-  pub north_in : k ≡ 3 → t % s.rows + 1 < s.rows → t + 1 ≡ neighbour s k t
+  pub north_in : k ≡ 3 → 1 ≤ s.rows → 0 < (t + 1) % s.rows → t + 1 ≡ neighbour s k t
   unfolding neighbour
-  north_in e h = rw (e, lt-ltb (t % s.rows + 1) s.rows h)
+  north_in e p h = rw (e, lt-ltb (t % s.rows + 1) s.rows (below_last t s.rows p h))
 
   -- all is the number of tiles, as the code has it
   module _ (all : ℕ) (c : all ≡ total s) where
@@ -100,9 +104,13 @@ module _ (s : Settings) (k t : ℕ) where
     unfolding neighbour
     south_out e h = rw (e, le-ltb 0 (t % s.rows) h) c
 
-    pub north_out : k ≡ 3 → s.rows ≤ t % s.rows + 1 → all ≡ neighbour s k t
+    pub north_out : k ≡ 3 → 1 ≤ s.rows → (t + 1) % s.rows ≤ 0 → all ≡ neighbour s k t
     unfolding neighbour
-    north_out e h = rw (e, le-ltb (t % s.rows + 1) s.rows h) c
+    north_out e p h = rw (e, le-ltb (t % s.rows + 1) s.rows (last_of t s.rows p h)) c
+
+    pub north_end : k ≡ 3 → 1 ≤ s.rows → t + 1 ≡ all → all ≡ neighbour s k t
+    unfolding neighbour
+    north_end e p h = north_out e p (omega (arith, ap (λ (x : ℕ). x % s.rows) (h ∙ c), mul-mod_left s.columns s.rows))
 
     pub east_in : k ≡ 4 → t + s.rows < all → t + s.rows ≡ neighbour s k t
     unfolding neighbour

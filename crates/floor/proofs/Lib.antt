@@ -6,6 +6,7 @@ pub mod Well
 pub mod Rows
 pub mod Pack
 pub mod Answers
+pub mod Refusing
 pub mod Capacity
 pub mod FreshAndWidths
 pub mod Locality

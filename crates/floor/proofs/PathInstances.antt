@@ -1,6 +1,5 @@
 -- [10] on concrete floors, beside DistanceInstances: `distances` field by field, where distances have settled and where tiles are cut off.
 use mathlib.Core.Path.{◌≡◌, refl, sym, ap, ◌∙◌, subst}
-use mathlib.Core.Logic.{◌≢◌}
 use mathlib.Core.Bool.{true, false, true≢false}
 use Prim.Native.Nat.{ℕ, ◌≤◌}
 use native.Mathlib.Omega.{arith}

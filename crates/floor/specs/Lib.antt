@@ -27,3 +27,4 @@ pub mod BoundedBypass
 pub mod Arrows
 pub mod Distances
 pub mod Standing
+pub mod Numbers

@@ -10,14 +10,16 @@ ghost use Rattle.floor.specs.Sides.{in_set};
 ghost use Rattle.floor.specs.Grid as G;
 ghost use Rattle.floor.specs.Memory.{zero_floor};
 
-pub mod reason;
-pub mod refusals;
+mod reason;
+mod refusal;
 
+pub use reason::Reason;
+pub use refusal::{Refusal, answered};
 use sets::has;
 
 // A canister: its number, never 0, and its place, the south-west corner measured from the tile's.
 #[repr(C)]
-#[derive(Clone, Copy)]
+#[derive(Clone, Copy, PartialEq, Eq)]
 pub struct Canister {
     pub number: u32,
     pub a: u16,
@@ -32,15 +34,6 @@ impl Canister {
         b: 0,
     };
 }
-
-// The numbers of the sides, for `match`; none is 0. As sides they are `Side::WEST` and so on.
-pub const WEST: u8 = 1;
-
-pub const SOUTH: u8 = 2;
-
-pub const NORTH: u8 = 3;
-
-pub const EAST: u8 = 4;
 
 // The tiles of row 0 where a column has this many rows, as a set: no division for each tile.
 fn first_row(rows: u8) -> u64
@@ -59,26 +52,9 @@ fn first_row(rows: u8) -> u64
     }
 }
 
-// The tiles of the last row, likewise.
-fn last_row(rows: u8) -> u64
-    requires { (1 ≤ rows) × (rows ≤ 8) }
-    ensures { (t : ℕ) → t < 64 → bit result t ≡ eqb (t % rows + 1) rows }
-{
-    match rows {
-        1 => 0xffffffffffffffff,
-        2 => 0xaaaaaaaaaaaaaaaa,
-        3 => 0x4924924924924924,
-        4 => 0x8888888888888888,
-        5 => 0x0842108421084210,
-        6 => 0x0820820820820820,
-        7 => 0x4081020408102040,
-        _ => 0x8080808080808080,
-    }
-}
-
 // A side of a tile, by document 01's number.
 #[repr(C)]
-#[derive(Clone, Copy)]
+#[derive(Clone, Copy, PartialEq, Eq)]
 pub struct Side {
     pub code: u8,
 }
@@ -86,21 +62,22 @@ pub struct Side {
 impl Side {
     pub const NONE: Side = Side { code: 0 };
 
-    pub const WEST: Side = Side { code: WEST };
+    pub const WEST: Side = Side { code: 1 };
 
-    pub const SOUTH: Side = Side { code: SOUTH };
+    pub const SOUTH: Side = Side { code: 2 };
 
-    pub const NORTH: Side = Side { code: NORTH };
+    pub const NORTH: Side = Side { code: 3 };
 
-    pub const EAST: Side = Side { code: EAST };
+    pub const EAST: Side = Side { code: 4 };
 
     // The side that a neighbour has here. Opposite sides add up to five.
     pub fn opposite(self) -> Side
         ensures { result.code ≡ S.opposite self.code }
     {
-        let k = self.code;
-        match k {
-            WEST..=EAST => Side { code: 5 - k },
+        match self.code {
+            1..=4 => Side {
+                code: 5 - self.code,
+            },
             _ => Side::NONE,
         }
     }
@@ -110,8 +87,7 @@ impl Side {
         requires { (self.code ≤ 4) × (set < 16) }
         ensures { result ≡ in_set set self.code }
     {
-        let k = self.code;
-        (set << 1 >> k) & 1 == 1
+        (set << 1 >> self.code) & 1 == 1
     }
 
     // The first side of the set strictly after this one, coming round to itself; none if the set is empty.
@@ -122,15 +98,10 @@ impl Side {
         if set == 0 {
             return Side::NONE;
         }
-        let k = self.code;
-        let beyond = set >> k << k;
-        if beyond == 0 {
-            return Side {
-                code: u8::trailing_zeros(set) as u8 + 1,
-            };
-        }
+        let beyond = set >> self.code << self.code;
+        let sought = if beyond == 0 { set } else { beyond };
         Side {
-            code: u8::trailing_zeros(beyond) as u8 + 1,
+            code: sought.trailing_zeros() as u8 + 1,
         }
     }
 
@@ -139,22 +110,22 @@ impl Side {
         requires { (1 ≤ s.rows) × (s.rows ≤ 8) × (total s ≤ 64) × (t < total s) }
         ensures { result ≡ G.neighbour s self.code t }
     {
-        let rows = s.rows as usize;
+        let rows = usize::from(s.rows);
         let all = s.tile_count();
-        let k = self.code;
-        match k {
-            WEST => if rows <= t { t - rows } else { all },
-            SOUTH => if has(first_row(s.rows), t as u8) {
+        match self {
+            Side::WEST => if rows <= t { t - rows } else { all },
+            Side::SOUTH => if has(first_row(s.rows), t as u8) {
                 all
             } else {
                 t - 1
             },
-            NORTH => if has(last_row(s.rows), t as u8) {
+            // north of the last row a column's first tile follows, or no tile
+            Side::NORTH => if t + 1 == all || has(first_row(s.rows), (t + 1) as u8) {
                 all
             } else {
                 t + 1
             },
-            EAST => if t + rows < all { t + rows } else { all },
+            Side::EAST => if t + rows < all { t + rows } else { all },
             _ => all,
         }
     }
@@ -166,7 +137,7 @@ pub const DISTANCE_NONE: u8 = 255;
 // A tile without its canisters. `running` is 1 or 0; `distance` is DISTANCE_NONE where there is none; `next` is document
 // 01's arrow, `token` its turn; `count` is how many of the tile's sixteen places are used.
 #[repr(C)]
-#[derive(Clone, Copy)]
+#[derive(Clone, Copy, PartialEq, Eq)]
 pub struct Tile {
     pub running: u8,
     pub distance: u8,
@@ -187,7 +158,7 @@ impl Tile {
 
 // W, H, the hopper set, the fill set, U, l, r and v. A set has bit t for tile t.
 #[repr(C)]
-#[derive(Clone, Copy)]
+#[derive(Clone, Copy, PartialEq, Eq)]
 pub struct Settings {
     pub columns: u8,
     pub rows: u8,
@@ -215,21 +186,21 @@ impl Settings {
     pub fn tile_count(self) -> usize
         ensures { result ≡ total self }
     {
-        self.columns as usize * self.rows as usize
+        usize::from(self.columns) * usize::from(self.rows)
     }
 
     // d, how far apart canisters stand on one axis at least.
     pub fn spacing(self) -> u32
         ensures { result ≡ T.spacing self }
     {
-        self.length as u32 + self.gap as u32
+        u32::from(self.length) + u32::from(self.gap)
     }
 }
 
 // The last number booked, how many were booked, and how many were delivered to each hopper, the hoppers in tile order, then
 // zeros.
 #[repr(C)]
-#[derive(Clone, Copy)]
+#[derive(Clone, Copy, PartialEq, Eq)]
 pub struct Counters {
     pub last: u32,
     pub booked: u32,
@@ -246,7 +217,7 @@ impl Counters {
 
 // A name as its eight bytes, the first letter first, zero filled.
 #[repr(C)]
-#[derive(Clone, Copy)]
+#[derive(Clone, Copy, PartialEq, Eq)]
 pub struct Name {
     pub letters: [u8; 8],
 }
@@ -254,7 +225,7 @@ pub struct Name {
 // A layout: its name as one number, the first letter in the highest byte, zero filled; and the set of tiles that ran when it
 // was kept.
 #[repr(C)]
-#[derive(Clone, Copy)]
+#[derive(Clone, Copy, PartialEq, Eq)]
 pub struct Layout {
     pub name: u64,
     pub set: u64,
@@ -268,7 +239,7 @@ impl Layout {
 // An entry of a list of bookings: a tile, a canister with its place, and the number that the booking is refused by, 0 where
 // it is accepted.
 #[repr(C)]
-#[derive(Clone, Copy)]
+#[derive(Clone, Copy, PartialEq, Eq)]
 pub struct Booking {
     pub tile: u32,
     pub canister: Canister,
@@ -278,7 +249,7 @@ pub struct Booking {
 // A floor. The canisters of tile t stand from place 16 * t on, by rising number, the layouts by rising name; unused places
 // are zero.
 #[repr(C)]
-#[derive(Clone, Copy)]
+#[derive(Clone, Copy, PartialEq, Eq)]
 pub struct Floor {
     pub settings: Settings,
     pub counters: Counters,
@@ -289,7 +260,7 @@ pub struct Floor {
 
 // What a round delivered to one hopper: how many, and their numbers, rising, then zeros.
 #[repr(C)]
-#[derive(Clone, Copy)]
+#[derive(Clone, Copy, PartialEq, Eq)]
 pub struct Delivery {
     pub numbers: [u32; 4],
     pub count: u8,
@@ -305,7 +276,7 @@ impl Delivery {
 // What a round reports: the side that each tile granted; why each tile stood, 6 where it moved, and the millimetres missing
 // beside reason 5; and what came to each hopper, the hoppers in tile order, then zeros.
 #[repr(C)]
-#[derive(Clone, Copy)]
+#[derive(Clone, Copy, PartialEq, Eq)]
 pub struct Report {
     pub grants: [u8; 64],
     pub reasons: [u8; 64],
@@ -327,7 +298,7 @@ impl Report {
 // accepted.
 // The number stands last: padding before the floor costs another copy of it.
 #[repr(C)]
-#[derive(Clone, Copy)]
+#[derive(Clone, Copy, PartialEq, Eq)]
 pub struct Answer {
     pub floor: Floor,
     pub refusal: u8,
@@ -335,7 +306,7 @@ pub struct Answer {
 
 // The answer of a booking without a place: the place found; refused: zeros, which are a place too, so look at the refusal.
 #[repr(C)]
-#[derive(Clone, Copy)]
+#[derive(Clone, Copy, PartialEq, Eq)]
 pub struct Placed {
     pub floor: Floor,
     pub a: u16,
@@ -345,7 +316,7 @@ pub struct Placed {
 
 // The answer of a round.
 #[repr(C)]
-#[derive(Clone, Copy)]
+#[derive(Clone, Copy, PartialEq, Eq)]
 pub struct Rounded {
     pub floor: Floor,
     pub report: Report,
@@ -355,19 +326,11 @@ pub struct Rounded {
 // The answer of reading a tile: the tile and its sixteen places. It holds no floor, so the order of its fields costs no
 // copy.
 #[repr(C)]
-#[derive(Clone, Copy)]
+#[derive(Clone, Copy, PartialEq, Eq)]
 pub struct Reading {
     pub refusal: u8,
     pub tile: Tile,
     pub members: [Canister; 16],
-}
-
-// The canisters of one tile, by rising number, then zeros.
-#[repr(C)]
-#[derive(Clone, Copy)]
-pub struct Members {
-    pub items: [Canister; 16],
-    pub count: u8,
 }
 
 // The all-zero floor.

@@ -1,9 +1,8 @@
 -- A number, and a field of a row, that stand at a place of a list of bytes; for the code that reads.
 use mathlib.Core.Path.{◌≡◌, refl, sym, ◌∙◌}
 use mathlib.Core.List.{List, [], ◌∷◌}
-use Prim.Native.Nat.{ℕ, zero, suc, ◌+◌, ◌*◌, ◌^◌, ◌≤◌, ◌<◌}
+use Prim.Native.Nat.{ℕ, zero, suc, ◌+◌, ◌*◌, ◌^◌, ◌<◌}
 use native.Mathlib.Omega.{arith}
-use native.Mathlib.Numerals.{add-one}
 use native.Mathlib.Nat.{suc-add, zero-add, pow-suc, mul_assoc}
 use lib.ListN.{length, take, drop, get_or}
 use lib.Seq.{drop-drop, drop-cons}
@@ -13,12 +12,14 @@ pub le_one : (s : List ℕ) (at : ℕ) → at < length s → le 1 (drop at s) �
 unfolding le
 le_one s at h = rw (drop-cons s at 0 h) (omega arith)
 
-pub le_two : (s : List ℕ) (at : ℕ) → at + 2 ≤ length s → le 2 (drop at s) ≡ get_or s at 0 + get_or s (at + 1) 0 * 256
+-- the byte at `up` is the one after `at`
+pub le_two : (s : List ℕ) (at up : ℕ) → up ≡ at + 1 → up < length s → le 2 (drop at s) ≡ get_or s at 0 + get_or s up 0 * 256
 unfolding le
-le_two s at h =
+le_two s at up e h =
     let h1 : at < length s = omega arith in
     let h2 : suc at < length s = omega arith in
-    rw (drop-cons s at 0 h1, drop-cons s (suc at) 0 h2, add-one) (omega arith)
+    let n : up ≡ suc at = omega arith in
+    rw (n, drop-cons s at 0 h1, drop-cons s (suc at) 0 h2) (omega arith)
 
 le_nil : (n : ℕ) → le n [] ≡ 0
 unfolding le

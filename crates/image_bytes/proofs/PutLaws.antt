@@ -1,13 +1,17 @@
 -- Laws of bytes put into a buffer.
-use mathlib.Core.Path.{◌≡◌, sym, ap, ◌∙◌}
+use mathlib.Core.Path.{◌≡◌, refl, sym, ap, ◌∙◌}
 use mathlib.Core.List.{List, [], ◌∷◌, ◌++◌, append_assoc}
-use Prim.Native.Nat.{ℕ, zero, suc, ◌+◌, ◌*◌, ◌/◌, ◌%◌, ◌^◌, ◌≤◌, ◌<◌}
+use Prim.Native.Nat.{ℕ, zero, suc, ◌+◌, ◌-◌, ◌/◌, ◌%◌, ◌^◌, ◌≤◌, ◌<◌}
 use native.Mathlib.Omega.{arith}
 use native.Mathlib.Numerals.{add-one}
-use native.Mathlib.Nat.{mod-eq_of_lt, mod-lt, suc-add, zero-add, pow-suc, mul_assoc, div-add-mod', div-lt_iff_lt-mul, one-le-pow, zero-lt-suc}
+use native.Mathlib.Nat.{mod-eq_of_lt, pow-suc}
 use lib.ListN.{length, take, drop, set, length-append, take-append-drop}
 use lib.Seq.{set_split, drop-drop, take_at, length-take-le, drop-append-add}
+use borrow.Rule.Slice.PartMut.{put_mid}
+use Rattle.std.specs.Int.{bytes_low_first}
+use Rattle.std.proofs.Math.Nat.{div-div-eq-div-mul}
 use Rattle.image_bytes.specs.Bytes.{bytes}
+use Rattle.image_bytes.proofs.ByteLaws.{bytes_length}
 use Rattle.image_bytes.specs.InternalPut.{put}
 
 pub put_none : (l : List ℕ) (at : ℕ) → put l at [] ≡ l
@@ -44,23 +48,9 @@ put_three l m k j at to up xs ys zs h e2 e3 p q r =
     let b : j ≡ put l at ((xs ++ ys) ++ zs) = put_two l k j at up (xs ++ ys) zs (rw n (omega arith)) (rw n (omega arith)) a r in
     rw (append_assoc xs ys zs) at b
 
--- ---- a wide number in two parts
 pub bytes_one : (x : ℕ) → x < 256 → bytes 1 x ≡ x ∷ []
 unfolding bytes
 bytes_one x h = rw (mod-eq_of_lt h)
-
-bytes_join : (m n q r : ℕ) → r < 256 ^ m → bytes (m + n) (q * 256 ^ m + r) ≡ bytes m r ++ bytes n q
-unfolding bytes
-bytes_join zero n q r h = let e : q * 256 ^ 0 + r ≡ q = omega arith in rw (zero-add n, e)
-bytes_join (suc m) n q r h =
-    let p : q * 256 ^ suc m ≡ q * 256 ^ m * 256 = rw pow-suc (sym (mul_assoc q (256 ^ m) 256)) in
-    let k : r / 256 < 256 ^ m = (div-lt_iff_lt-mul {k = 256} {x = r} {y = 256 ^ m} (omega arith)).1 (omega arith) in
-    let lo : (q * 256 ^ m * 256 + r) % 256 ≡ r % 256 = omega arith in
-    let hi : (q * 256 ^ m * 256 + r) / 256 ≡ q * 256 ^ m + r / 256 = omega arith in
-    rw (suc-add m n, p, lo, hi, bytes_join m n q (r / 256) k)
-
-pub bytes_split : (m n x : ℕ) → bytes (m + n) x ≡ bytes m (x % 256 ^ m) ++ bytes n (x / 256 ^ m)
-bytes_split m n x = ap (bytes (m + n)) (sym (div-add-mod' x (256 ^ m))) ∙ bytes_join m n (x / 256 ^ m) (x % 256 ^ m) (mod-lt x (one-le-pow m 256 (zero-lt-suc 255)))
 
 -- four writes in a row
 pub put_four : (l m k j i : List ℕ) (at p2 p3 p4 : ℕ) (ws xs ys zs : List ℕ) → at + length ws + length xs + length ys + length zs ≤ length l
@@ -71,3 +61,24 @@ put_four l m k j i at p2 p3 p4 ws xs ys zs h e2 e3 e4 a b c d =
     let p : k ≡ put l at (ws ++ xs) = put_two l m k at p2 ws xs (omega arith) e2 a b in
     let q : i ≡ put l at ((ws ++ xs) ++ (ys ++ zs)) = put_three l k j i at p3 p4 (ws ++ xs) ys zs (rw n (omega arith)) (rw n (omega arith)) (rw n (omega arith)) p c d in
     rw (append_assoc ws xs (ys ++ zs)) at q
+
+-- ---- as std writes a number
+bytes_from : (n i x : ℕ) → bytes n (x / 256 ^ suc i) ≡ bytes_low_first (suc i) n x
+unfolding bytes
+bytes_from zero i x = refl
+bytes_from (suc n) i x =
+    let e : x / 256 ^ suc i / 256 ≡ x / 256 ^ suc (suc i) = div-div-eq-div-mul x (256 ^ suc i) 256 ∙ ap (λ k. x / k) (sym (pow-suc 256 (suc i))) in
+    rw (e, bytes_from n (suc i) x)
+
+bytes_std : (n x : ℕ) → bytes n x ≡ bytes_low_first 0 n x
+unfolding bytes
+bytes_std zero x = refl
+bytes_std (suc n) x = ap (λ (ys : List ℕ). x % 256 ∷ ys) (bytes_from n 0 x)
+
+-- n bytes were written to the part from `at` on; and the n bytes of x
+pub put_list : (l : List ℕ) (at n : ℕ) (ys bs : List ℕ) → ys ≡ bs → length bs ≡ n → put_mid at (at + n - at) l ys ≡ put l at bs
+unfolding put
+put_list l at n ys bs e m = let k : at + n - at ≡ n = omega arith in rw (k, e, m, drop-drop n at l)
+
+pub put_part : (l : List ℕ) (at n x : ℕ) (ys : List ℕ) → ys ≡ bytes_low_first 0 n x → put_mid at (at + n - at) l ys ≡ put l at (bytes n x)
+put_part l at n x ys e = put_list l at n ys (bytes n x) (e ∙ sym (bytes_std n x)) (bytes_length n x)

@@ -6,7 +6,7 @@ ghost use Rattle.image.specs.Image.{image_answer, standard, load_answer, write_a
 
 use calls::fresh;
 use check_floor::well_formed;
-use floor::{Answer, Floor, Settings, refusals};
+use floor::{Answer, Floor, Refusal, Settings};
 use image::Written;
 use image_read::{read_image, refused};
 use image_write::{image_length, write_image};
@@ -37,7 +37,7 @@ fn load_image(bytes: &[u8]) -> Answer
     let well = well_formed(f);
     let mut out = r;
     if (r.refusal == 0) & !well {
-        out = refused(refusals::IMAGE_MALFORMED);
+        out = refused(Refusal::ImageMalformed);
     }
     out
 }
@@ -61,17 +61,11 @@ pub fn write(floor: Floor, buffer: &mut [u8]) -> Written
 {
     let well = well_formed(floor);
     if !well {
-        return Written {
-            refusal: refusals::MALFORMED,
-            length: 0,
-        };
+        return Written::refused(Refusal::Malformed);
     }
     let n = image_length(floor);
     if buffer.len() < n as usize {
-        return Written {
-            refusal: refusals::SHORT_BUFFER,
-            length: 0,
-        };
+        return Written::refused(Refusal::ShortBuffer);
     }
     write_image(floor, buffer);
     Written {

@@ -15,6 +15,7 @@ use Rattle.laws.proofs.SetBits.{bits_within}
 use Rattle.laws.proofs.Tables.{tab_length, tab_at, tab_same, filled}
 use Rattle.image_bytes.specs.Bytes.{le, field}
 use Rattle.floor.specs.declared.Settings.{Settings}
+use Rattle.floor.specs.declared.Counters.{Counters}
 use Rattle.floor.specs.declared.Canister.{Canister}
 use Rattle.floor.specs.declared.Layout.{Layout}
 use Rattle.floor.specs.Settings.{total, hoppers_of}
@@ -28,7 +29,8 @@ use Rattle.image.proofs.LoadedWrites.{canisters_length, settings_good, counters_
 use Rattle.image_record_read.proofs.Refusals.{room_20}
 use Rattle.image.proofs.Read.{first_measured}
 use Rattle.image_record_read.specs.InternalScan.{Holds, layout_from, LayoutsAt, Starts}
-use Rattle.image_record_read.specs.declared.Found.{Found}
+use Rattle.image_record_read.specs.declared.Record.{Record}
+use Rattle.image_record_read.specs.declared.Record.TheVariants as R
 use Rattle.image_record_read.specs.declared.Scan.{Scan}
 use Rattle.image_record_read.proofs.Values.{layout_some}
 use Rattle.image_record_read.proofs.Walk.{rest_at, record_room, tiles_at, tiles_off}
@@ -115,9 +117,6 @@ module _ (xs : List ℕ) where
   answer_1 k e h = answer_refused k (fault_front ∙ rw (← e, ne_eqb k 0 h)) h
 
 -- ---- room for the records that were found
-pub no_fault : (k n : ℕ) → k ≡ n → k ≡ 0 → n ≡ 0
-no_fault k n e z = sym e ∙ z
-
 pub record First (xs : List ℕ) : Type 0 where
   pub long : (length_in xs ≡ 20) ⊎ (length_in xs ≡ 28)
   pub enough : 4 + length_in xs ≤ length xs
@@ -175,22 +174,22 @@ module _ (s : List ℕ) (from n : ℕ) (ls : List Layout) (L : LayoutsAt s from 
 
 -- ---- read_front, by what the code read: a and b are what the records of kinds 1 and 2 hold, u and w are the lengths of their
 -- bodies, h is the number of hoppers
-pub record FirstRead (x : List ℕ) (a : Found) (u h : ℕ) : Type 0 where
+pub record FirstRead (x : List ℕ) (a : Settings) (u h : ℕ) : Type 0 where
   pub sound : record_fault 1 0 x ≡ 0
-  pub holds : Holds 1 0 x a
+  pub holds : a ≡ settings_in (length_in x) (body_in x)
   pub long : u ≡ le 2 x
-  pub counted : h ≡ length (bits_below a.settings.hoppers 64)
+  pub counted : h ≡ length (bits_below a.hoppers 64)
 
-pub record SecondRead (x : List ℕ) (a : Found) (u h : ℕ) (b : Found) : Type 0 where
+pub record SecondRead (x : List ℕ) (a : Settings) (u h : ℕ) (b : Counters) : Type 0 where
   pub first : FirstRead x a u h
   pub sound : record_fault 2 h (drop (4 + u) x) ≡ 0
-  pub holds : Holds 2 h (drop (4 + u) x) b
+  pub holds : b ≡ counters_in h (body_in (drop (4 + u) x))
 
-pub first_read : {x : List ℕ} {a : Found} {u h : ℕ} → (a.fault ≡ record_fault 1 0 x) × (a.fault ≡ 0 → Holds 1 0 x a) → a.fault ≡ 0 → u ≡ le 2 x → h ≡ length (bits_below a.settings.hoppers 64) → FirstRead x a u h
-first_read e z n m = record { sound = sym e.0 ∙ z; holds = e.1 z; long = n; counted = m }
+pub first_read : {x : List ℕ} {a : Settings} {u h : ℕ} {m : Record} → (0 ≡ record_fault 1 0 x) × Holds 1 0 x m → m ≡ R.Settings a → u ≡ le 2 x → h ≡ length (bits_below a.hoppers 64) → FirstRead x a u h
+first_read r q n m = let p = rw q at r.1 in record { sound = sym r.0; holds = p.1; long = n; counted = m }
 
-pub second_read : {x : List ℕ} {a : Found} {u h : ℕ} {b : Found} → FirstRead x a u h → (b.fault ≡ record_fault 2 h (drop (4 + u) x)) × (b.fault ≡ 0 → Holds 2 h (drop (4 + u) x) b) → b.fault ≡ 0 → SecondRead x a u h b
-second_read F e z = record { first = F; sound = sym e.0 ∙ z; holds = e.1 z }
+pub second_read : {x : List ℕ} {a : Settings} {u h : ℕ} {b : Counters} {m : Record} → FirstRead x a u h → (0 ≡ record_fault 2 h (drop (4 + u) x)) × Holds 2 h (drop (4 + u) x) m → m ≡ R.Counters b → SecondRead x a u h b
+second_read F r q = let p = rw q at r.1 in record { first = F; sound = sym r.0; holds = p.1 }
 
 module _ (x : List ℕ) (k : ℕ) (e : k ≡ record_fault 1 0 x) where
   pub stop_1 : k ≢ 0 → k ≡ front_fault x
@@ -199,7 +198,7 @@ module _ (x : List ℕ) (k : ℕ) (e : k ≡ record_fault 1 0 x) where
   pub first_long : k ≡ 0 → 2 ≤ length x
   first_long z = omega (arith, (first_ok x (sym e ∙ z)).room)
 
-module _ {x : List ℕ} {a : Found} {u h : ℕ} (F : FirstRead x a u h) where
+module _ {x : List ℕ} {a : Settings} {u h : ℕ} (F : FirstRead x a u h) where
   abbrev read : Settings
   read = settings_in (length_in x) (body_in x)
 
@@ -207,7 +206,7 @@ module _ {x : List ℕ} {a : Found} {u h : ℕ} (F : FirstRead x a u h) where
   unfolding hoppers_of
   hoppers_are =
       let M = first_measured x F.sound in
-      F.counted ∙ ap (λ (y : Settings). length (bits_below y.hoppers 64)) (F.holds.settings refl) ∙ ap (λ (l : List ℕ). length l) (bits_within read.hoppers (total read) 64 M.few M.hoppers_on)
+      F.counted ∙ ap (λ (y : Settings). length (bits_below y.hoppers 64)) F.holds ∙ ap (λ (l : List ℕ). length l) (bits_within read.hoppers (total read) 64 M.few M.hoppers_on)
 
   pub hoppers_few : h ≤ 4
   hoppers_few = omega (arith, hoppers_are, (first_measured x F.sound).hoppers_few)
@@ -224,7 +223,7 @@ module _ {x : List ℕ} {a : Found} {u h : ℕ} (F : FirstRead x a u h) where
   pub stop_2 : (k : ℕ) → k ≡ record_fault 2 h (drop (header_length + u) x) → k ≢ 0 → k ≡ front_fault x
   stop_2 k e n = let q = e ∙ second_is in q ∙ sym (front_2 x F.sound (λ o. n (q ∙ o)))
 
-module _ {x : List ℕ} {a : Found} {u h : ℕ} {b : Found} (S : SecondRead x a u h b) where
+module _ {x : List ℕ} {a : Settings} {u h : ℕ} {b : Counters} (S : SecondRead x a u h b) where
   pub second_long : counters_length h ≤ length x - (header_length + u)
   second_long = rw length-drop at (second_ok h (drop (header_length + u) x) S.sound).enough
 
@@ -239,14 +238,14 @@ module _ {x : List ℕ} {a : Found} {u h : ℕ} {b : Found} (S : SecondRead x a 
     front_is k e = e ∙ ap (layouts_fault 8) rest_2 ∙ sym (front_3 x S.first.sound (sym (second_is S.first) ∙ S.sound))
 
     pub front_read : (m : ℕ) (ls : List Layout) → LayoutsAt x (header_length + u + header_length + w) m ls
-        → FrontRead x record { settings = a.settings; counters = b.counters; layouts = ls; count = m; next = header_length + u + header_length + w + layout_length * m; fault = 0 }
+        → FrontRead x record { settings = a; counters = b; layouts = ls; count = m; next = header_length + u + header_length + w + layout_length * m }
     unfolding model_in
     front_read m ls L =
         let from = header_length + u + header_length + w in
-        let st = S.first.holds.settings refl in
+        let st = S.first.holds in
         record {
           settings = st;
-          counters = S.holds.counters refl ∙ ap (λ (l : List ℕ). counters_in h (body_in l)) (rest_1 S.first) ∙ ap (λ (n : ℕ). counters_in n (body_in (rest_in_of x))) (hoppers_are S.first);
+          counters = S.holds ∙ ap (λ (l : List ℕ). counters_in h (body_in l)) (rest_1 S.first) ∙ ap (λ (n : ℕ). counters_in n (body_in (rest_in_of x))) (hoppers_are S.first);
           layouts = L.places ∙ layouts_are x from m ls L ∙ ap (λ (l : List ℕ). layout_places 8 (layouts_in 8 l)) rest_2;
           used = ap (take m) L.places ∙ layouts_first x from m ls L ∙ ap (layouts_in 8) rest_2;
           few = L.few;
@@ -266,6 +265,12 @@ pub record TilesRead (xs : List ℕ) (r : Front) (n : ℕ) (t : Scan) : Type 0 w
   pub sound : tiles_fault n 0 (drop r.next xs) ≡ 0
   pub starts : Starts xs (drop r.next xs) t.starts n
   pub heads : t.tiles ≡ tab 64 (λ t. head (get_or (tiles_in n (drop r.next xs)) t unused))
+
+pub front_kept : {xs : List ℕ} {r : Front} {n : ℕ} → (0 ≡ front_fault xs) × FrontRead xs r → n ≡ total r.settings → FrontKept xs r n
+front_kept e n = record { sound = sym e.0; front = e.1; tiles = n }
+
+pub tiles_read : {xs : List ℕ} {r : Front} {n : ℕ} {t : Scan} → FrontKept xs r n → (0 ≡ tiles_fault n 0 (drop r.next xs)) × (Starts xs (drop r.next xs) t.starts n × (t.tiles ≡ tab 64 (λ t. head (get_or (tiles_in n (drop r.next xs)) t unused)))) → TilesRead xs r n t
+tiles_read K e = record { kept = K; sound = sym e.0; starts = e.1.0; heads = e.1.1 }
 
 module _ {xs : List ℕ} {r : Front} {n : ℕ} (K : FrontKept xs r n) where
   abbrev all : ℕ

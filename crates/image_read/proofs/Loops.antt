@@ -1,16 +1,12 @@
--- What holds at the heads of the loops: of `canisters_of`, over the tiles and over one tile's canisters; over the layouts, whether each has a name.
-use mathlib.Core.Path.{◌≡◌, refl}
+-- What holds at the heads of the loops: of `canisters_of`, over the tiles and over one tile's canisters.
+use mathlib.Core.Path.{◌≡◌}
 use mathlib.Core.List.{List}
 use Prim.Native.Nat.{ℕ, ◌+◌, ◌*◌, ◌≤◌, ◌<◌}
 use native.Mathlib.Omega.{arith}
-use lib.ListN.{length, take, drop, get_or, set}
+use lib.ListN.{length, drop, get_or, set}
 use Rattle.floor.specs.declared.Canister.{Canister}
 use Rattle.image.specs.Image.{canister_in}
 use Rattle.image_read.proofs.Places.{Placed, placed_turn, placed_tile}
-use mathlib.Core.Bool.{Bool}
-use lib.Dec.{ltb}
-use Rattle.laws.specs.Define.{all_of}
-use Rattle.floor.specs.declared.Layout.{Layout}
 
 pub record TilesPlaced (s starts : List ℕ) (c : ℕ) (out : List Canister) (t : ℕ) : Type 0 where
   pub below : t ≤ c
@@ -22,34 +18,27 @@ pub record CanistersPlaced (s starts : List ℕ) (c t at n : ℕ) (out : List Ca
   pub below : j ≤ n
   pub here : t < c
   pub few : c ≤ 64
+  pub count : n ≡ get_or s (at + 5) 0
   pub small : n ≤ 16
   pub room : at + 6 + 8 * n ≤ length s
   pub starts_length : length starts ≡ 64
   pub placed : Placed s starts c (16 * t + j) out
 
-pub record NamesTested (n : ℕ) (all : List Layout) (ok : Bool) (k : ℕ) : Type 0 where
-  pub below : k ≤ n
-  pub few : n ≤ 8
-  pub all_length : length all ≡ 8
-  pub tested : ok ≡ all_of (λ x. ltb 0 x.name) (take k all)
-
 -- one more canister of a tile, and the end of the tile
-module _ {s starts : List ℕ} {c t j : ℕ} {out : List Canister} (h : CanistersPlaced s starts c t (get_or starts t 0) (get_or s (get_or starts t 0 + 5) 0) out j) where
+module _ {s starts : List ℕ} {c t n j : ℕ} {out : List Canister} (h : CanistersPlaced s starts c t (get_or starts t 0) n out j) where
   abbrev at : ℕ
   at = get_or starts t 0
-
-  abbrev n : ℕ
-  n = get_or s (at + 5) 0
 
   pub canister_turn : (v : Canister) → j < n → v ≡ canister_in (drop (at + 6 + 8 * j) s) → CanistersPlaced s starts c t at n (set out (16 * t + j) v) (j + 1)
   canister_turn v l e = record {
     below = omega arith;
     here = h.here;
     few = h.few;
+    count = h.count;
     small = h.small;
     room = h.room;
     starts_length = h.starts_length;
-    placed = placed_turn s starts c t h.here h.few (omega arith) n refl h.small j out v l e h.placed;
+    placed = placed_turn s starts c t h.here h.few (omega arith) n h.count h.small j out v l e h.placed;
   }
 
   pub tile_end : n ≤ j → TilesPlaced s starts c out (t + 1)
@@ -57,5 +46,5 @@ module _ {s starts : List ℕ} {c t j : ℕ} {out : List Canister} (h : Canister
     below = omega arith;
     few = h.few;
     starts_length = h.starts_length;
-    placed = placed_tile s starts c t h.here h.few (omega arith) n refl h.small j out l h.below h.placed;
+    placed = placed_tile s starts c t h.here h.few (omega arith) n h.count h.small j out l h.below h.placed;
   }

@@ -1,3 +1,4 @@
+pub mod Exits
 pub mod Refusals
 pub mod Values
 pub mod Walk

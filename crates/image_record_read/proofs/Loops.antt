@@ -1,28 +1,20 @@
--- What holds at the heads of the loops: over a name's bytes; of the scans, over the layouts' records and over the tiles'; over the counts of what was delivered.
-use mathlib.Core.Path.{◌≡◌, refl, sym, ap, ◌∙◌}
+-- What holds at the heads of the loops: of the scans, over the layouts' records and over the tiles'; over the counts of what was delivered.
+use mathlib.Core.Path.{◌≡◌, sym, ap, ◌∙◌}
 use mathlib.Core.Logic.{◌≢◌}
-use mathlib.Core.Bool.{Bool, true, false, not}
+use mathlib.Core.Bool.{Bool, true, false}
 use mathlib.Core.List.{List}
-use Prim.Native.Nat.{ℕ, ◌+◌, ◌-◌, ◌*◌, ◌^◌, ◌≤◌, ◌<◌}
+use Prim.Native.Nat.{ℕ, ◌+◌, ◌-◌, ◌*◌, ◌≤◌, ◌<◌}
 use native.Mathlib.Omega.{arith}
-use borrow.Author.Tests.{not-true, not-false}
-use lib.ListN.{length, take, drop, set, length-set}
+use lib.ListN.{length, drop, set, length-set}
 use Rattle.floor.specs.declared.Layout.{Layout}
 use Rattle.floor.specs.declared.Tile.{Tile}
-use Rattle.floor.specs.Layouts.{name_number}
-use Rattle.image.specs.Image.{tiles_fault, record_fault, is_layout, layouts_fault}
+use Rattle.floor.specs.Memory.{head}
+use Rattle.image.specs.Image.{body_in, rest_in_of, tile_in, layout_in, tiles_fault, record_fault, is_layout, layouts_fault}
 use Rattle.image.proofs.Sizes.{layout_length}
-use Rattle.image_record_read.specs.InternalScan.{Starts, after, Holds, LayoutsAt}
-use Rattle.image_record_read.specs.declared.Found.{Found}
+use Rattle.image_record_read.specs.InternalScan.{Starts, after, LayoutsAt}
 use Rattle.image_record_read.proofs.Walk.{Tiled, Passed, LayoutsFilled, after_more, layouts_turn, passed_off, passed_on, passed_room, passed_stop, record_room, rest_at, start_at, starts_more, tiled_turn, tiles_on, tiles_stop}
 use Rattle.laws.specs.InternalFilled.{Upto, From}
 use Rattle.image_bytes.specs.Bytes.{le}
-
-pub record NameRead (s : List ℕ) (at n k : ℕ) : Type 0 where
-  pub below : k ≤ 8
-  pub inside : at + 8 ≤ length s
-  pub small : n < 2 ^ (8 * k)
-  pub named : n ≡ name_number (take k (drop at s))
 
 pub record LayoutsScanned (s : List ℕ) (from : ℕ) (layouts : List Layout) (at n : ℕ) : Type 0 where
   pub below : n ≤ 8
@@ -53,25 +45,25 @@ module _ {s : List ℕ} {from : ℕ} {layouts : List Layout} {at n : ℕ} (h : L
   here : is_layout (drop (from + layout_length * n) s) ≡ b
   here = ap (λ (k : ℕ). is_layout (drop k s)) (sym h.reached) ∙ sym e
 
-  pub layouts_off : not b ≡ true → (0 ≡ layouts_fault 8 (drop from s)) × (◌≡◌ {A = ℕ} 0 0 → LayoutsAt s from n layouts)
-  layouts_off q = let r = passed_off s from n h.passed layouts h.layouts_filled h.below (here ∙ not-true b q) in (sym r.0, λ z. r.1)
+  pub layouts_off : b ≡ false → (0 ≡ layouts_fault 8 (drop from s)) × LayoutsAt s from n layouts
+  layouts_off q = let r = passed_off s from n h.passed layouts h.layouts_filled h.below (here ∙ q) in (sym r.0, r.1)
 
-  module _ (q : not b ≡ false) (l : n < 8) (r : Found) (f : r.fault ≡ record_fault 5 0 (drop at s)) where
-    fault_here : r.fault ≡ record_fault 5 0 (drop (from + layout_length * n) s)
+  module _ (q : b ≡ true) (l : n < 8) (k : ℕ) (f : k ≡ record_fault 5 0 (drop at s)) where
+    fault_here : k ≡ record_fault 5 0 (drop (from + layout_length * n) s)
     fault_here = f ∙ ap (λ (k : ℕ). record_fault 5 0 (drop k s)) h.reached
 
-    pub layout_stop : r.fault ≢ 0 → r.fault ≡ layouts_fault 8 (drop from s)
-    layout_stop o = fault_here ∙ passed_stop s from n h.passed l (here ∙ not-false b q) (λ z. o (fault_here ∙ z))
+    pub layout_stop : k ≢ 0 → k ≡ layouts_fault 8 (drop from s)
+    layout_stop o = fault_here ∙ passed_stop s from n h.passed l (here ∙ q) (λ z. o (fault_here ∙ z))
 
-    pub layout_room : r.fault ≡ 0 → at + layout_length ≤ length s
+    pub layout_room : k ≡ 0 → at + layout_length ≤ length s
     layout_room z = omega (arith, h.reached, passed_room s from n h.passed (sym fault_here ∙ z))
 
-    pub layout_turn : r.fault ≡ 0 → Holds 5 0 (drop at s) r → LayoutsScanned s from (set layouts n r.layout) (at + layout_length) (n + 1)
-    layout_turn z H = record {
+    pub layout_turn : k ≡ 0 → (x : Layout) → x ≡ layout_in (body_in (drop at s)) → LayoutsScanned s from (set layouts n x) (at + layout_length) (n + 1)
+    layout_turn z x p = record {
       below = omega arith;
       reached = omega (arith, h.reached);
-      passed = passed_on s from n h.passed l (here ∙ not-false b q) (sym fault_here ∙ z);
-      layouts_filled = layouts_turn s from n at layouts r.layout l h.reached (H.layout refl) h.layouts_filled;
+      passed = passed_on s from n h.passed l (here ∙ q) (sym fault_here ∙ z);
+      layouts_filled = layouts_turn s from n at layouts x l h.reached p h.layouts_filled;
     }
 
 -- a turn over the tiles: a record that is refused, and one more tile
@@ -82,17 +74,17 @@ module _ {s : List ℕ} {from c : ℕ} {tiles : List Tile} {starts : List ℕ} {
   pub tile_room : k ≡ 0 → at + 4 + le 2 (drop at s) ≤ length s
   tile_room z = record_room s at 3 t h.inside (sym e ∙ z)
 
-  pub tile_turn : k ≡ 0 → c ≤ 64 → (r : Found) → Holds 3 t (drop at s) r → (n : ℕ) → n ≡ le 2 (drop at s) → TilesScanned s from c (set tiles t r.tile) (set starts t (at + 4)) (at + 4 + n) (t + 1)
-  tile_turn y few r H n q =
+  pub tile_turn : k ≡ 0 → c ≤ 64 → (x : Tile) → x ≡ head (tile_in (body_in (drop at s))) → (n to : ℕ) → n ≡ le 2 (drop at s) → to ≡ at + 4 + n → TilesScanned s from c (set tiles t x) (set starts t (at + 4)) to (t + 1)
+  tile_turn y few x H n to q u =
       let z = sym e ∙ y in
       let xs = drop from s in
       let m = tile_room y in
-      let p = rest_at s at n q in record {
+      let p : rest_in_of (drop at s) ≡ drop to s = rest_at s at n q ∙ ap (λ (k : ℕ). drop k s) (sym u) in record {
         below = omega arith;
         inside = omega arith;
         starts_length = simp length-set h.starts_length;
         reached = after_more t (drop at s) xs _ h.reached p;
         faults = rw (← p) (sym (tiles_on c t (drop at s) l z) ∙ h.faults);
         started = starts_more s xs starts t (at + 4) (omega arith) h.started (start_at s xs at t h.inside h.reached z);
-        tiled = tiled_turn c xs t tiles r.tile (drop at s) l (omega arith) h.reached (H.tile refl) h.tiled;
+        tiled = tiled_turn c xs t tiles x (drop at s) l (omega arith) h.reached H h.tiled;
       }

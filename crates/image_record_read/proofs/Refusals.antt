@@ -16,12 +16,15 @@ use Rattle.laws.proofs.SetBits.{bits_within}
 use Rattle.image_bytes.specs.Bytes.{le, field, width}
 use Rattle.image_bytes.proofs.FieldLaws.{le_one, field_in}
 use Rattle.floor.specs.declared.Settings.{Settings}
+use Rattle.floor.specs.declared.Counters.{Counters}
+use Rattle.floor.specs.declared.Layout.{Layout}
+use Rattle.floor.specs.declared.Tile.{Tile}
 use Rattle.floor.specs.Settings.{total, hoppers_of, size_tests, set_tests, measure_tests, settings_tests, settings_refusal}
 use Rattle.floor.specs.Memory.{head}
 use Rattle.check_settings.specs.InternalGroups.{sizes_wrong}
 use Rattle.check_settings.proofs.Groups.{sizes_first, few_tiles}
 use Rattle.image.specs.Image.{lowest, one_tile, hopper_count, byte_wrong, settings_widths, tile_widths, length_in, settings_in, counters_in, tile_in, layout_in, settings_faults, counters_faults, tile_faults, layout_faults, end_faults, own_faults, record_fault}
-use Rattle.image_record_read.specs.declared.Found.{Found}
+use Rattle.image_record_read.specs.declared.Record.TheVariants as R
 use Rattle.image_record_read.specs.InternalScan.{Holds}
 
 -- ---- the values
@@ -144,10 +147,17 @@ module _ (s : List ℕ) (at n : ℕ) where
     unfolding settings_faults
     tests_left z = three_tests (right_long h) (zero_byte (eqb n 28) r20 ∙ z) (byte_is r20 (eqb n 28) refl) _
 
--- what was read so far: the settings, and whether the hopper byte is wrong
-pub record SettingsFound (s : List ℕ) (at n : ℕ) (y : Settings) (wrong : Bool) : Type 0 where
+-- the length of record 1 is one of the two
+pub record Shaped (s : List ℕ) (at n : ℕ) : Type 0 where
   pub long : (n ≡ 20) ⊎ (n ≡ 28)
   pub room : at + 20 ≤ length s
+
+pub shaped : {s : List ℕ} {at n : ℕ} → at + n ≤ length s → (not (eqb n 20) && not (eqb n 28)) ≡ false → Shaped s at n
+shaped {s} {at} {n} h e = let l = lengths_in n e in record { long = l; room = room_20 at n (length s) h l }
+
+-- what was read so far: the settings, and whether the hopper byte is wrong
+pub record SettingsFound (s : List ℕ) (at n : ℕ) (y : Settings) (wrong : Bool) : Type 0 where
+  pub shape : Shaped s at n
   pub zero_byte : get_or s (at + 3) 0 ≡ 0
   pub settings : y ≡ settings_in n (drop at s)
   pub byte : wrong ≡ (not (eqb y.hoppers 0) && not (eqb (get_or s (at + 2) 0) (lowest y.hoppers)))
@@ -158,9 +168,15 @@ pub record SettingsSized (s : List ℕ) (at n : ℕ) (y : Settings) (wrong : Boo
   pub lowest : (eqb n 28 && wrong) ≡ false
   pub sizes : sizes_wrong y ≡ false
 
+pub settings_found : {s : List ℕ} {at n : ℕ} {y : Settings} {wrong : Bool} → Shaped s at n → get_or s (at + 3) 0 ≡ 0 → y ≡ settings_in n (drop at s) → wrong ≡ (not (eqb y.hoppers 0) && not (eqb (get_or s (at + 2) 0) (lowest y.hoppers))) → SettingsFound s at n y wrong
+settings_found h z e w = record { shape = h; zero_byte = z; settings = e; byte = w }
+
+pub settings_sized : {s : List ℕ} {at n : ℕ} {y : Settings} {wrong a : Bool} → SettingsFound s at n y wrong → (eqb n 28 && wrong) ≡ false → a ≡ sizes_wrong y → a ≡ false → SettingsSized s at n y wrong
+settings_sized F l e z = record { found = F; lowest = l; sizes = sym e ∙ z }
+
 module _ {s : List ℕ} {at n : ℕ} {y : Settings} {wrong : Bool} (F : SettingsFound s at n y wrong) where
   next : refusal (settings_faults n (drop at s)) ≡ cond (eqb n 28 && wrong) 11 (refusal (size_tests y ((eqb n 28 && ltb (hopper_count y) 2, 2) ∷ set_tests y (measure_tests y))))
-  next = rw (F.byte, F.settings) (tests_left s at n F.long F.room F.zero_byte)
+  next = rw (F.byte, F.settings) (tests_left s at n F.shape.long F.shape.room F.zero_byte)
 
   pub settings_lowest : (eqb n 28 && wrong) ≡ true → 11 ≡ refusal (settings_faults n (drop at s))
   settings_lowest e = sym (next ∙ rw e)
@@ -234,22 +250,16 @@ module _ (s : List ℕ) (at n t : ℕ) where
     tile_right e m w = rw (tile_tests r h, eq-eqb (get_or s at 0) t e, le-ltb 16 (get_or s (at + 5) 0) m, eq-eqb n (6 + 8 * get_or s (at + 5) 0) w)
 
 -- ---- a record of any kind
-abbrev RecordRead : ℕ → ℕ → List ℕ → Found → Type 0
-RecordRead due t xs r = (r.fault ≡ record_fault due t xs) × (r.fault ≡ 0 → Holds due t xs r)
-
-refused : {k : ℕ} (due t : ℕ) (xs : List ℕ) (r : Found) → k ≢ 0 → r.fault ≡ k → k ≡ record_fault due t xs → RecordRead due t xs r
-refused due t xs r n e q = (e ∙ q, λ z. absurd (n (sym e ∙ z)))
-
-module _ (s : List ℕ) (at due t : ℕ) (r : Found) where
+module _ (s : List ℕ) (at due t : ℕ) where
   cut : length (drop at s) < 4 + length_in (drop at s) → 9 ≡ record_fault due t (drop at s)
   unfolding refusal record_fault
   cut k = rw (lt-ltb (length (drop at s)) (4 + length_in (drop at s)) k)
 
-  pub record_bare : at ≤ length s → length s - at < 4 → r.fault ≡ 9 → RecordRead due t (drop at s) r
-  record_bare l h e = refused due t (drop at s) r (omega arith) e (cut (rw length-drop (omega arith)))
+  pub record_bare : at ≤ length s → length s - at < 4 → 9 ≡ record_fault due t (drop at s)
+  record_bare l h = cut (rw length-drop (omega arith))
 
-  pub record_cut : (n : ℕ) → n ≡ le 2 (drop at s) → at + 4 ≤ length s → length s - at - 4 < n → r.fault ≡ 9 → RecordRead due t (drop at s) r
-  record_cut n q l h e = refused due t (drop at s) r (omega arith) e (cut (rw length-drop (omega arith)))
+  pub record_cut : (n : ℕ) → n ≡ le 2 (drop at s) → at + 4 ≤ length s → length s - at - 4 < n → 9 ≡ record_fault due t (drop at s)
+  record_cut n q l h = cut (rw length-drop (omega arith))
 
 -- its first four bytes were read: n the length of its body, k its kind
 pub record Headed (s : List ℕ) (at n k : ℕ) : Type 0 where
@@ -257,7 +267,10 @@ pub record Headed (s : List ℕ) (at n k : ℕ) : Type 0 where
   pub kind : k ≡ le 2 (drop (at + 2) s)
   pub whole : at + 4 + n ≤ length s
 
-module _ {s : List ℕ} {at n k : ℕ} (h : Headed s at n k) (due t : ℕ) (r : Found) where
+pub headed : (s : List ℕ) (at n k : ℕ) → n ≡ le 2 (drop at s) → k ≡ le 2 (drop (at + 2) s) → at + 4 + n ≤ length s → Headed s at n k
+headed s at n k l e w = record { long = l; kind = e; whole = w }
+
+module _ {s : List ℕ} {at n k : ℕ} (h : Headed s at n k) (due t : ℕ) where
   abbrev xs : List ℕ
   xs = drop at s
 
@@ -267,13 +280,9 @@ module _ {s : List ℕ} {at n k : ℕ} (h : Headed s at n k) (due t : ℕ) (r : 
   enough : ltb (length xs) (4 + length_in xs) ≡ false
   enough = let k : 4 + length_in xs ≤ length xs = rw length-drop (omega (arith, h.long)) in le-ltb (length xs) (4 + length_in xs) k
 
-  pub record_other : k ≢ due → r.fault ≡ 10 → RecordRead due t xs r
+  pub record_other : k ≢ due → 10 ≡ record_fault due t xs
   unfolding refusal record_fault
-  record_other o e = refused due t xs r (omega arith) e (rw (enough, drop-drop 2 at s, ← h.kind, ne_eqb k due o))
-
-  -- kind m came where another was due
-  pub record_not : (m : ℕ) → k ≡ m → due ≢ m → r.fault ≡ 10 → RecordRead due t xs r
-  record_not m q o e = record_other (λ d. o (sym d ∙ q)) e
+  record_other o = rw (enough, drop-drop 2 at s, ← h.kind, ne_eqb k due o)
 
   own : k ≡ due → refusal (own_faults due t n b) ≡ record_fault due t xs
   unfolding refusal record_fault
@@ -282,42 +291,35 @@ module _ {s : List ℕ} {at n k : ℕ} (h : Headed s at n k) (due t : ℕ) (r : 
   body : b ≡ drop 4 xs
   body = sym (drop-drop 4 at s)
 
-  pub record_1 : k ≡ 1 → due ≡ 1 → (r.fault ≡ refusal (settings_faults n b)) × (r.fault ≡ 0 → r.settings ≡ settings_in n b) → RecordRead due t xs r
+  -- the own refusals of each kind, and what each holds
+  pub record_1 : k ≡ 1 → due ≡ 1 → refusal (settings_faults n b) ≡ record_fault due t xs
   unfolding own_faults
-  record_1 e d p =
-      let same : refusal (settings_faults n b) ≡ refusal (own_faults due t n b) = rw d in (
-        p.0 ∙ same ∙ own (e ∙ sym d),
-        λ z. record { settings = λ k. p.1 z ∙ rw (body, h.long); counters = λ k. absurd (omega arith); tile = λ k. absurd (omega arith); layout = λ k. absurd (omega arith) },
-      )
+  record_1 e d = let same : refusal (settings_faults n b) ≡ refusal (own_faults due t n b) = rw d in same ∙ own (e ∙ sym d)
 
-  pub record_2 : k ≡ 2 → due ≡ 2 → (r.fault ≡ refusal (counters_faults t n)) × (r.fault ≡ 0 → r.counters ≡ counters_in t b) → RecordRead due t xs r
-  unfolding own_faults
-  record_2 e d p =
-      let same : refusal (counters_faults t n) ≡ refusal (own_faults due t n b) = rw d in (
-        p.0 ∙ same ∙ own (e ∙ sym d),
-        λ z. record { settings = λ k. absurd (omega arith); counters = λ k. p.1 z ∙ rw body; tile = λ k. absurd (omega arith); layout = λ k. absurd (omega arith) },
-      )
+  pub holds_1 : due ≡ 1 → (x : Settings) → x ≡ settings_in n b → Holds due t xs (R.Settings x)
+  holds_1 d x e = (d, e ∙ rw (body, h.long))
 
-  pub record_3 : k ≡ 3 → due ≡ 3 → (r.fault ≡ refusal (tile_faults t n b)) × (r.fault ≡ 0 → r.tile ≡ head (tile_in b)) → RecordRead due t xs r
+  pub record_2 : k ≡ 2 → due ≡ 2 → refusal (counters_faults t n) ≡ record_fault due t xs
   unfolding own_faults
-  record_3 e d p =
-      let same : refusal (tile_faults t n b) ≡ refusal (own_faults due t n b) = rw d in (
-        p.0 ∙ same ∙ own (e ∙ sym d),
-        λ z. record { settings = λ k. absurd (omega arith); counters = λ k. absurd (omega arith); tile = λ k. p.1 z ∙ rw body; layout = λ k. absurd (omega arith) },
-      )
+  record_2 e d = let same : refusal (counters_faults t n) ≡ refusal (own_faults due t n b) = rw d in same ∙ own (e ∙ sym d)
 
-  pub record_4 : k ≡ 4 → due ≡ 4 → r.fault ≡ refusal (end_faults n) → RecordRead due t xs r
-  unfolding own_faults
-  record_4 e d p =
-      let same : refusal (end_faults n) ≡ refusal (own_faults due t n b) = rw d in (
-        p ∙ same ∙ own (e ∙ sym d),
-        λ z. record { settings = λ k. absurd (omega arith); counters = λ k. absurd (omega arith); tile = λ k. absurd (omega arith); layout = λ k. absurd (omega arith) },
-      )
+  pub holds_2 : due ≡ 2 → (x : Counters) → x ≡ counters_in t b → Holds due t xs (R.Counters x)
+  holds_2 d x e = (d, e ∙ rw body)
 
-  pub record_5 : k ≡ 5 → due ≡ 5 → (r.fault ≡ refusal (layout_faults n)) × (r.fault ≡ 0 → r.layout ≡ layout_in b) → RecordRead due t xs r
+  pub record_3 : k ≡ 3 → due ≡ 3 → refusal (tile_faults t n b) ≡ record_fault due t xs
   unfolding own_faults
-  record_5 e d p =
-      let same : refusal (layout_faults n) ≡ refusal (own_faults due t n b) = rw d in (
-        p.0 ∙ same ∙ own (e ∙ sym d),
-        λ z. record { settings = λ k. absurd (omega arith); counters = λ k. absurd (omega arith); tile = λ k. absurd (omega arith); layout = λ k. p.1 z ∙ rw body },
-      )
+  record_3 e d = let same : refusal (tile_faults t n b) ≡ refusal (own_faults due t n b) = rw d in same ∙ own (e ∙ sym d)
+
+  pub holds_3 : due ≡ 3 → (x : Tile) → x ≡ head (tile_in b) → Holds due t xs (R.Tile x)
+  holds_3 d x e = (d, e ∙ rw body)
+
+  pub record_4 : k ≡ 4 → due ≡ 4 → refusal (end_faults n) ≡ record_fault due t xs
+  unfolding own_faults
+  record_4 e d = let same : refusal (end_faults n) ≡ refusal (own_faults due t n b) = rw d in same ∙ own (e ∙ sym d)
+
+  pub record_5 : k ≡ 5 → due ≡ 5 → refusal (layout_faults n) ≡ record_fault due t xs
+  unfolding own_faults
+  record_5 e d = let same : refusal (layout_faults n) ≡ refusal (own_faults due t n b) = rw d in same ∙ own (e ∙ sym d)
+
+  pub holds_5 : due ≡ 5 → (x : Layout) → x ≡ layout_in b → Holds due t xs (R.Layout x)
+  holds_5 d x e = (d, e ∙ rw body)

@@ -1,17 +1,15 @@
 -- The values of a record whose body starts at a place, in the code's words.
 use mathlib.Core.Path.{◌≡◌, refl, sym, ap, ◌∙◌}
 use mathlib.Core.Bool.{Bool, true, false, cond}
-use mathlib.Core.List.{List, [], ◌∷◌, ◌++◌}
+use mathlib.Core.List.{List, ◌∷◌}
 use Prim.Native.Nat.{ℕ, zero, suc, ◌+◌, ◌*◌, ◌^◌, ◌≤◌, ◌<◌}
 use native.Mathlib.Omega.{arith}
-use native.Mathlib.Numerals.{add-one}
-use native.Mathlib.Nat.{add-zero, mul_assoc, mul_comm}
+use native.Mathlib.Nat.{add-zero}
 use native.Mathlib.Decide.{dec_le}
 use lib.Dec.{ltb}
-use lib.Pow.{pow-add}
 use borrow.Author.Tests.{lt-ltb, le-ltb, ltb-true, ltb-false}
-use lib.ListN.{length, take, drop, get_or, replicate, length-append, length-drop}
-use lib.Seq.{drop-drop, get_or-drop, take-suc}
+use lib.ListN.{length, take, drop, get_or, replicate}
+use lib.Seq.{drop-cons, drop-drop}
 use Rattle.laws.proofs.Tables.{filled}
 use Rattle.image_bytes.specs.Bytes.{le, fields_of, field}
 use Rattle.image_bytes.proofs.FieldLaws.{field_in}
@@ -70,27 +68,24 @@ module _ (s : List ℕ) (at : ℕ) where
         tile_byte s at 5 (omega arith) h refl refl,
       )
 
--- ---- a name, byte after byte
-weight_more : (k : ℕ) → 2 ^ (8 * (k + 1)) ≡ 256 * 2 ^ (8 * k)
-weight_more k = let e : 8 * (k + 1) ≡ 8 + 8 * k = omega arith in ap (λ (n : ℕ). 2 ^ n) e ∙ pow-add 2 8 (8 * k)
+-- ---- a name
+next : (s : List ℕ) (n at up : ℕ) → up ≡ at + 1 → at < length s → take (suc n) (drop at s) ≡ get_or s at 0 ∷ take n (drop up s)
+next s n at up e h = let k : up ≡ suc at = omega arith in rw (drop-cons s at 0 h, k)
 
-number_last : (l : List ℕ) (x : ℕ) → name_number (l ++ (x ∷ [])) ≡ name_number l * 256 + x
+pub name_code : (s : List ℕ) (at : ℕ) → at + 8 ≤ length s
+    → name_number (take 8 (drop at s)) ≡ get_or s at 0 * 2 ^ 56 + (get_or s (at + 1) 0 * 2 ^ 48 + (get_or s (at + 2) 0 * 2 ^ 40 + (get_or s (at + 3) 0 * 2 ^ 32 + (get_or s (at + 4) 0 * 2 ^ 24 + (get_or s (at + 5) 0 * 2 ^ 16 + (get_or s (at + 6) 0 * 2 ^ 8 + (get_or s (at + 7) 0 * 2 ^ 0 + 0)))))))
 unfolding name_number
-number_last [] x = omega arith
-number_last (y ∷ l) x =
-    let e : length (l ++ (x ∷ [])) ≡ length l + 1 = length-append l (x ∷ []) in
-    let q : 2 ^ (8 * length l) * y ≡ y * 2 ^ (8 * length l) = mul_comm (2 ^ (8 * length l)) y in
-    let p : y * (256 * 2 ^ (8 * length l)) ≡ 256 * (2 ^ (8 * length l) * y) = mul_comm y (256 * 2 ^ (8 * length l)) ∙ mul_assoc 256 (2 ^ (8 * length l)) y in
-    rw (e, weight_more (length l), number_last l x) (omega (arith, p, q))
-
-pub name_turn : (s : List ℕ) (at k n : ℕ) → at + k < length s → n ≡ name_number (take k (drop at s)) → n * 256 + get_or s (at + k) 0 ≡ name_number (take (k + 1) (drop at s))
-name_turn s at k n h e =
-    let m : k < length (drop at s) = rw length-drop (omega arith) in
-    rw (add-one, take-suc (drop at s) k 0 m, number_last (take k (drop at s)) (get_or (drop at s) k 0), get_or-drop at s k 0, e)
-
--- below the weight of the next byte
-pub name_fits : (k n x : ℕ) → x < 256 → n < 2 ^ (8 * k) → n * 256 + x < 2 ^ (8 * (k + 1))
-name_fits k n x h q = omega (arith, weight_more k)
+name_code s at h =
+    rw (
+      next s 7 at (at + 1) (omega arith) (omega arith),
+      next s 6 (at + 1) (at + 2) (omega arith) (omega arith),
+      next s 5 (at + 2) (at + 3) (omega arith) (omega arith),
+      next s 4 (at + 3) (at + 4) (omega arith) (omega arith),
+      next s 3 (at + 4) (at + 5) (omega arith) (omega arith),
+      next s 2 (at + 5) (at + 6) (omega arith) (omega arith),
+      next s 1 (at + 6) (at + 7) (omega arith) (omega arith),
+      next s 0 (at + 7) (at + 8) (omega arith) (omega arith),
+    )
 
 -- ---- the layouts
 pub layout_code : (s : List ℕ) (at : ℕ) → layout_in (drop at s) ≡ record { name = name_number (take 8 (drop at s)); set = le 8 (drop (at + 8) s) }

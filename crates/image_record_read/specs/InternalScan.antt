@@ -5,14 +5,16 @@ use Rattle.image_bytes.specs.Bytes.{field}
 use Rattle.floor.specs.declared.Layout.{Layout}
 use Rattle.floor.specs.Memory.{zero_layout, head}
 use Rattle.image.specs.Image.{tile_widths, length_in, body_in, rest_in_of, settings_in, counters_in, tile_in, layout_in, layouts_in, after_layouts}
-use Rattle.image_record_read.specs.declared.Found.{Found}
+use Rattle.image_record_read.specs.declared.Record.{Record}
+use Rattle.image_record_read.specs.declared.Record.TheVariants as R
 
--- r is what a record at the front of xs holds, where kind `due` is due; for kind 2, t is the number of hoppers
-pub record Holds (due t : ℕ) (xs : List ℕ) (r : Found) : Type 0 where
-  pub settings : due ≡ 1 → r.settings ≡ settings_in (length_in xs) (body_in xs)
-  pub counters : due ≡ 2 → r.counters ≡ counters_in t (body_in xs)
-  pub tile : due ≡ 3 → r.tile ≡ head (tile_in (body_in xs))
-  pub layout : due ≡ 5 → r.layout ≡ layout_in (body_in xs)
+-- what a record at the front of xs holds, where kind `due` is due; for kind 2, t is the number of hoppers
+abbrev pub Holds : ℕ → ℕ → List ℕ → Record → Type 0
+Holds due t xs (R.Settings x) = (due ≡ 1) × (x ≡ settings_in (length_in xs) (body_in xs))
+Holds due t xs (R.Counters x) = (due ≡ 2) × (x ≡ counters_in t (body_in xs))
+Holds due t xs (R.Tile x) = (due ≡ 3) × (x ≡ head (tile_in (body_in xs)))
+Holds due t xs R.End = due ≡ 4
+Holds due t xs (R.Layout x) = (due ≡ 5) × (x ≡ layout_in (body_in xs))
 
 -- place k of n layouts whose records begin at `from`
 unfoldable pub layout_from : List ℕ → ℕ → ℕ → ℕ → Layout

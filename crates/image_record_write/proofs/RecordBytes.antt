@@ -2,17 +2,18 @@
 use mathlib.Core.Path.{◌≡◌, refl, sym, ap, ◌∙◌}
 use mathlib.Core.Bool.{true, false}
 use mathlib.Core.List.{List, [], ◌∷◌, ◌++◌, append_assoc, append-nil}
-use Prim.Native.Nat.{ℕ, zero, suc, ◌+◌, ◌-◌, ◌*◌, ◌/◌, ◌%◌, ◌^◌, ◌≤◌, ◌<◌}
+use Prim.Native.Nat.{ℕ, zero, suc, ◌+◌, ◌*◌, ◌/◌, ◌≤◌, ◌<◌}
 use native.Mathlib.Omega.{arith}
 use native.Mathlib.Numerals.{add-one}
 use lib.ListN.{length, take, drop, get_or, replicate, length-append, length-drop, length-replicate}
 use lib.Seq.{length-take-le, take-suc, get_or-drop}
+use Rattle.std.specs.Int.{w64, to_be_bytes}
 use Rattle.image_bytes.specs.Bytes.{bytes, bytes_of}
 use Rattle.image_bytes.proofs.ByteLaws.{bytes_length, row_length}
 use Rattle.laws.specs.Define.{tab}
 use Rattle.laws.proofs.Tables.{tab_length}
 use Rattle.image_bytes.specs.InternalPut.{put}
-use Rattle.image_bytes.proofs.PutLaws.{put_two, bytes_one}
+use Rattle.image_bytes.proofs.PutLaws.{put_two}
 use Rattle.floor.specs.declared.Canister.{Canister}
 use Rattle.floor.specs.declared.Settings.{Settings}
 use Rattle.floor.specs.declared.Counters.{Counters}
@@ -22,7 +23,6 @@ use Rattle.floor.specs.Layouts.{letters}
 use Rattle.floor.specs.Memory.{state_from}
 use Rattle.image.specs.Image.{lowest, several, record_of, settings_body, counters_body, canisters_body, tile_body, layout_body}
 use Rattle.image.proofs.Sizes.{fours, settings_size, counters_size, canister_size, canisters_size, tile_size, layout_size}
-use Rattle.image.proofs.Layouts.{letters_length}
 use Rattle.image_record_write.specs.InternalParts.{canister_bytes, measures_bytes, head_bytes, tile_bytes}
 
 -- ---- lengths
@@ -113,24 +113,10 @@ tile_record_lem t h l e =
     let m : length (tile_body t (state_from h l)) ≡ 6 + 8 * h.count = tile_size t (state_from h l) ∙ rw e in
     rw (m, e) (simp (append_assoc, append-nil))
 
--- ---- the record of a layout: byte k of a name
-letters_at : (n k x : ℕ) → k < n → get_or (letters n x) k 0 ≡ x / 2 ^ (8 * (n - suc k)) % 256
+-- ---- the record of a layout: a name as std writes it
+pub letters_std : (x : ℕ) → to_be_bytes w64 x ≡ letters 8 x
 unfolding letters
-letters_at zero k x h = absurd (omega arith)
-letters_at (suc n) zero x h = let e : suc n - 1 ≡ n = omega arith in rw e
-letters_at (suc n) (suc k) x h = let e : suc n - suc (suc k) ≡ n - suc k = omega arith in rw e (letters_at n k x (omega arith))
-
-pub name_turn : (s₀ s s' : List ℕ) (at k x : ℕ) → k < 8 → at + 8 ≤ length s₀ → s ≡ put s₀ at (take k (letters 8 x)) → s' ≡ put s (at + k) (bytes 1 (x / 2 ^ (56 - 8 * k) % 256)) → s' ≡ put s₀ at (take (k + 1) (letters 8 x))
-name_turn s₀ s s' at k x h r p q =
-    let l : List ℕ = letters 8 x in
-    let n : length (take k l) ≡ k = length-take-le k l (omega (arith, letters_length 8 x)) in
-    let e : 8 * (8 - suc k) ≡ 56 - 8 * k = omega arith in
-    let b : bytes 1 (x / 2 ^ (56 - 8 * k) % 256) ≡ get_or l k 0 ∷ [] = bytes_one _ (omega arith) ∙ ap (λ (y : ℕ). y ∷ []) (sym (letters_at 8 k x h ∙ ap (λ (j : ℕ). x / 2 ^ j % 256) e)) in
-    rw (add-one, take-suc l k 0 (omega (arith, letters_length 8 x))) (put_two s₀ s s' at (at + k) (take k l) (get_or l k 0 ∷ []) (omega arith) (omega arith) p (q ∙ ap (put s (at + k)) b))
-
-pub name_all : (x : ℕ) → take 8 (letters 8 x) ≡ letters 8 x
-unfolding letters
-name_all x = refl
+letters_std x = let e : x / 1 ≡ x = omega arith in rw e
 
 pub layout_record : (x : Layout) → (bytes 2 16 ++ bytes 2 5) ++ (letters 8 x.name ++ bytes 8 x.set) ≡ record_of 5 (layout_body x)
 unfolding record_of layout_body

@@ -10,7 +10,7 @@ ghost use Rattle.image.specs.Image.{several, record_of, settings_body, counters_
 ghost use Rattle.image_record_write.specs.InternalParts.{canister_bytes, head_bytes, tile_bytes};
 
 use floor::{Canister, Counters, Layout, Settings, Tile};
-use image_bytes::{put_byte, put_u16, put_u32, put_u64};
+use image_bytes::LittleEndian;
 use sets::lowest;
 
 // Two numbers of two bytes, as a record's length and kind.
@@ -18,8 +18,8 @@ pub fn put_pair(s: &mut [u8], at: usize, x: u16, y: u16)
     requires { at + 4 ≤ length s.old }
     ensures { s.new ≡ put s.old at (bytes 2 x ++ bytes 2 y) }
 {
-    put_u16(s, at, x);
-    put_u16(s, at + 2, y);
+    x.put_at(s, at);
+    y.put_at(s, at + 2);
 }
 
 // Three bytes.
@@ -27,9 +27,9 @@ fn put_three(s: &mut [u8], at: usize, x: u8, y: u8, z: u8)
     requires { at + 3 ≤ length s.old }
     ensures { s.new ≡ put s.old at (bytes 1 x ++ (bytes 1 y ++ bytes 1 z)) }
 {
-    put_byte(s, at, x);
-    put_byte(s, at + 1, y);
-    put_byte(s, at + 2, z);
+    x.put_at(s, at);
+    y.put_at(s, at + 1);
+    z.put_at(s, at + 2);
 }
 
 // U, l, r and v, two bytes each, then the fill set.
@@ -39,7 +39,7 @@ fn put_measures(s: &mut [u8], at: usize, x: Settings)
 {
     put_pair(s, at, x.width, x.length);
     put_pair(s, at + 4, x.gap, x.travel);
-    put_u64(s, at + 8, x.sources);
+    x.sources.put_at(s, at + 8);
 }
 
 // The first 24 bytes of record 1, whose body has n bytes.
@@ -47,10 +47,9 @@ fn put_head(s: &mut [u8], at: usize, x: Settings, n: u16)
     requires { at + 24 ≤ length s.old }
     ensures { s.new ≡ put s.old at (head_bytes x n) }
 {
-    let low = lowest(x.hoppers);
     put_pair(s, at, n, 1);
-    put_three(s, at + 4, x.columns, x.rows, low);
-    put_byte(s, at + 7, 0);
+    put_three(s, at + 4, x.columns, x.rows, lowest(x.hoppers));
+    0u8.put_at(s, at + 7);
     put_measures(s, at + 8, x);
 }
 
@@ -61,7 +60,7 @@ pub fn put_settings(s: &mut [u8], at: usize, x: Settings, more: bool)
 {
     if more {
         put_head(s, at, x, 28);
-        put_u64(s, at + 24, x.hoppers);
+        x.hoppers.put_at(s, at + 24);
     } else {
         put_head(s, at, x, 20);
     }
@@ -73,8 +72,8 @@ fn put_top(s: &mut [u8], at: usize, n: u16, x: u32, y: u32)
     ensures { s.new ≡ put s.old at ((bytes 2 n ++ bytes 2 2) ++ (bytes 4 x ++ bytes 4 y)) }
 {
     put_pair(s, at, n, 2);
-    put_u32(s, at + 4, x);
-    put_u32(s, at + 8, y);
+    x.put_at(s, at + 4);
+    y.put_at(s, at + 8);
 }
 
 // Record 2, with the counters of h hoppers.
@@ -82,13 +81,9 @@ pub fn put_counters(s: &mut [u8], at: usize, x: Counters, h: u8)
     requires { (at + 12 + 4 * h ≤ length s.old) × (h ≤ 4) }
     ensures { s.new ≡ put s.old at (record_of 2 (counters_body h x)) }
 {
-    put_top(s, at, 8 + 4 * (h as u16), x.last, x.booked);
-    let d = x.delivered;
-    let n = h as usize;
-    let mut k = 0usize;
-    while k < n {
-        put_u32(s, at + 12 + 4 * k, d[k]);
-        k = k + 1;
+    put_top(s, at, 8 + 4 * u16::from(h), x.last, x.booked);
+    for (k, count) in x.delivered[..usize::from(h)].iter().enumerate() {
+        count.put_at(s, at + 12 + 4 * k);
     }
 }
 
@@ -97,12 +92,7 @@ fn put_name(s: &mut [u8], at: usize, x: u64)
     requires { at + 8 ≤ length s.old }
     ensures { s.new ≡ put s.old at (letters 8 x) }
 {
-    let mut k = 0u8;
-    while k < 8 {
-        let rest = x >> (56 - 8 * k);
-        put_byte(s, at + k as usize, (rest % 256) as u8);
-        k = k + 1;
-    }
+    s[at..at + 8].copy_from_slice(&x.to_be_bytes());
 }
 
 // The record of a layout.
@@ -112,7 +102,7 @@ pub fn put_layout(s: &mut [u8], at: usize, x: Layout)
 {
     put_pair(s, at, 16, 5);
     put_name(s, at + 4, x.name);
-    put_u64(s, at + 12, x.set);
+    x.set.put_at(s, at + 12);
 }
 
 // A canister.
@@ -120,9 +110,9 @@ pub fn put_canister(s: &mut [u8], at: usize, c: Canister)
     requires { at + 8 ≤ length s.old }
     ensures { s.new ≡ put s.old at (canister_bytes c) }
 {
-    put_u32(s, at, c.number);
-    put_u16(s, at + 4, c.a);
-    put_u16(s, at + 6, c.b);
+    c.number.put_at(s, at);
+    c.a.put_at(s, at + 4);
+    c.b.put_at(s, at + 6);
 }
 
 // The record of tile t before its canisters.
@@ -130,7 +120,7 @@ pub fn put_tile(s: &mut [u8], at: usize, t: u8, h: Tile)
     requires { (at + 10 ≤ length s.old) × (h.count ≤ 16) }
     ensures { s.new ≡ put s.old at (tile_bytes t h) }
 {
-    put_pair(s, at, 6 + 8 * (h.count as u16), 3);
+    put_pair(s, at, 6 + 8 * u16::from(h.count), 3);
     put_three(s, at + 4, t, h.running, h.distance);
     put_three(s, at + 7, h.next.code, h.token.code, h.count);
 }

@@ -50,21 +50,15 @@ pub record CanistersPut (s₀ : List ℕ) (all : List Canister) (at t n : ℕ) (
   pub buffer_length : length s ≡ length s₀
   pub written : s ≡ put s₀ (at + tile_front) (canisters_body (take k (drop (16 * t) all)))
 
-pub record LayoutsPut (s₀ : List ℕ) (from n : ℕ) (all : List Layout) (s : List ℕ) (k : ℕ) : Type 0 where
-  pub below : k ≤ n
-  pub few : n ≤ 8
-  pub all_length : length all ≡ 8
-  pub room : from + layout_length * n ≤ length s₀
+pub record LayoutsPut (s₀ : List ℕ) (from : ℕ) (all : List Layout) (s : List ℕ) (k : ℕ) : Type 0 where
+  pub room : from + layout_length * length all ≤ length s₀
   pub buffer_length : length s ≡ length s₀
   pub written : s ≡ put s₀ from (layouts_bytes (take k all))
 
 -- a turn over the layouts
-pub layout_turn : {s₀ : List ℕ} {from n : ℕ} {all : List Layout} {s : List ℕ} {k : ℕ} → LayoutsPut s₀ from n all s k → k < n → (s' : List ℕ) → length s' ≡ length s
-    → s' ≡ put s (from + layout_length * k) (record_of 5 (layout_body (get_or all k zero_layout))) → LayoutsPut s₀ from n all s' (k + 1)
-layout_turn {s₀} {from} {n} {all} {s} {k} h l s' e p = record {
-  below = omega arith;
-  few = h.few;
-  all_length = h.all_length;
+pub layout_turn : {s₀ : List ℕ} {from : ℕ} {all : List Layout} {s : List ℕ} {k : ℕ} → LayoutsPut s₀ from all s k → k < length all → (s' : List ℕ) → length s' ≡ length s
+    → s' ≡ put s (from + layout_length * k) (record_of 5 (layout_body (get_or all k zero_layout))) → LayoutsPut s₀ from all s' (k + 1)
+layout_turn {s₀} {from} {all} {s} {k} h l s' e p = record {
   room = h.room;
   buffer_length = e ∙ h.buffer_length;
   written = layouts_turn s₀ s s' from k all (omega arith) (omega arith) h.written p;

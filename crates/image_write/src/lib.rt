@@ -15,30 +15,25 @@ use image_record_write::{
 use sets::size;
 
 // How many of the eight places hold a layout.
-fn layout_count(all: [Layout; 8]) -> usize
-    ensures { (result ≡ length (used_layouts all)) × (result ≤ 8) }
+fn layout_count(layouts: [Layout; 8]) -> usize
+    ensures { (result ≡ length (used_layouts layouts)) × (result ≤ 8) }
 {
-    let mut k = 0usize;
-    while k < 8 {
-        let x = all[k];
+    // A loop: the proof of `position` and `unwrap_or` didn't close.
+    for (k, x) in layouts.iter().enumerate() {
         if x.name == 0 {
             return k;
         }
-        k = k + 1;
     }
-    k
+    8
 }
 
-// The records of the first n layouts.
-fn put_layouts(s: &mut [u8], from: usize, all: [Layout; 8], n: usize)
-    requires { (n ≤ 8) × (from + 20 * n ≤ length s.old) }
-    ensures { s.new ≡ put s.old from (layouts_bytes (take n all)) }
+// The records of the layouts.
+fn put_layouts(s: &mut [u8], from: usize, layouts: &[Layout])
+    requires { from + 20 * length layouts.now ≤ length s.old }
+    ensures { s.new ≡ put s.old from (layouts_bytes layouts.now) }
 {
-    let mut k = 0usize;
-    while k < n {
-        let x = all[k];
-        put_layout(s, from + 20 * k, x);
-        k = k + 1;
+    for (k, x) in layouts.iter().enumerate() {
+        put_layout(s, from + 20 * k, *x);
     }
 }
 
@@ -48,19 +43,15 @@ fn put_tiles(s: &mut [u8], from: usize, tiles: [Tile; 64], all: [Canister; 1024]
     ensures { (result ≡ from + length (upto tiles all c)) × (s.new ≡ put s.old from (upto tiles all c)) }
 {
     let mut at = from;
-    let mut t = 0usize;
-    while t < c {
-        let h = tiles[t];
-        put_tile(s, at, t as u8, h);
-        let n = h.count as usize;
-        let mut k = 0usize;
-        while k < n {
-            let x = all[16 * t + k];
-            put_canister(s, at + 10 + 8 * k, x);
-            k = k + 1;
+    // By number: t and k give the place among the 1,024.
+    for t in 0..c {
+        let head = tiles[t];
+        put_tile(s, at, t as u8, head);
+        let n = usize::from(head.count);
+        for k in 0..n {
+            put_canister(s, at + 10 + 8 * k, all[16 * t + k]);
         }
         at = at + 10 + 8 * n;
-        t = t + 1;
     }
     at
 }
@@ -69,10 +60,7 @@ fn put_tiles(s: &mut [u8], from: usize, tiles: [Tile; 64], all: [Canister; 1024]
 fn first_length(h: u8) -> usize
     ensures { result ≡ cond (ltb 1 h) 32 24 }
 {
-    if 1 < h {
-        return 32;
-    }
-    24
+    if 1 < h { 32 } else { 24 }
 }
 
 // The front of an image, the records of kinds 1, 2 and 5, where there are h hoppers. The answer is the place after it.
@@ -83,9 +71,9 @@ fn put_front(s: &mut [u8], x: Settings, y: Counters, all: [Layout; 8], h: u8) ->
     let second = first_length(h);
     put_settings(s, 0, x, 1 < h);
     put_counters(s, second, y, h);
-    let third = second + 12 + 4 * (h as usize);
+    let third = second + 12 + 4 * usize::from(h);
     let filled = layout_count(all);
-    put_layouts(s, third, all, filled);
+    put_layouts(s, third, &all[..filled]);
     third + 20 * filled
 }
 
@@ -94,19 +82,13 @@ pub fn image_length(f: Floor) -> u32
     requires { well_formed f ≡ true }
     ensures { result ≡ length (encode (view f)) }
 {
-    let tiles = f.tiles;
-    let settings = f.settings;
-    let c = settings.tile_count();
-    let h = size(settings.hoppers);
+    let c = f.settings.tile_count();
+    let h = size(f.settings.hoppers);
     let first = first_length(h);
-    let layouts = f.layouts;
-    let filled = layout_count(layouts);
-    let mut n = first as u32 + 16 + 4 * (h as u32) + 20 * (filled as u32);
-    let mut t = 0usize;
-    while t < c {
-        let head = tiles[t];
-        n = n + 10 + 8 * (head.count as u32);
-        t = t + 1;
+    let filled = layout_count(f.layouts);
+    let mut n = first as u32 + 16 + 4 * u32::from(h) + 20 * (filled as u32);
+    for head in &f.tiles[..c] {
+        n = n + 10 + 8 * u32::from(head.count);
     }
     n
 }
@@ -116,14 +98,16 @@ pub fn write_image(f: Floor, buffer: &mut [u8])
     requires { (well_formed f ≡ true) × (length (encode (view f)) ≤ length buffer.old) }
     ensures { buffer.new ≡ put buffer.old 0 (encode (view f)) }
 {
-    let settings = f.settings;
-    let counters = f.counters;
-    let tiles = f.tiles;
-    let all = f.canisters;
-    let layouts = f.layouts;
+    let Floor {
+        settings,
+        counters,
+        tiles,
+        canisters,
+        layouts,
+    } = f;
     let c = settings.tile_count();
     let h = size(settings.hoppers);
     let front = put_front(buffer, settings, counters, layouts, h);
-    let end = put_tiles(buffer, front, tiles, all, c);
+    let end = put_tiles(buffer, front, tiles, canisters, c);
     put_pair(buffer, end, 0, 4);
 }

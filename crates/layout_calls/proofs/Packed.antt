@@ -15,6 +15,9 @@ use Rattle.floor.specs.declared.Tile.{Tile}
 use Rattle.floor.specs.declared.Layout.{Layout}
 use Rattle.floor.specs.declared.Floor.{Floor}
 use Rattle.floor.specs.declared.Answer.{Answer}
+use Rattle.floor.specs.declared.refusal.Refusal.{Refusal}
+use Rattle.floor.specs.declared.refusal.Refusal.TheVariants as R
+use Rattle.floor.specs.Numbers.{refusal_number}
 use Rattle.floor.specs.Settings.{total}
 use Rattle.floor.specs.Layouts.{name_ok, set_below, set_of, keep_in, forget_in}
 use Rattle.floor.specs.Model.{TileState, no_tile_of, tile_of, runs, runs_of_of}
@@ -28,6 +31,7 @@ use Rattle.floor.proofs.SoundLayouts.{Rises, sound_layouts_of}
 use Rattle.floor.proofs.Named.{pack_relaid, recalled_head, pack_recalled}
 use Rattle.layout_parts.specs.InternalPlaces.{put_in, ran_in, recall_head, recall_at}
 use Rattle.layout_parts.proofs.Places.{some_name, set_used, keep_used, forget_used}
+use Rattle.floor.proofs.Refusing.{refusing}
 
 -- ---- the set of what passes depends on what passes alone
 set_same : (p q : ℕ → Bool) (n : ℕ) → ((t : ℕ) → t < n → p t ≡ q t) → set_below p n ≡ set_below q n
@@ -37,7 +41,7 @@ set_same p q (suc n) h = rw (h n (omega arith), set_same p q n (λ t l. h t (ome
 
 -- ---- one tile's head after a recall
 head_recalled : (set t : ℕ) (x : TileState) → recall_head set t (head x) ≡ head (recall_tile set t x)
-unfolding recall_head recall_tile stopped repaired head
+unfolding recall_tile stopped repaired head
 head_recalled set t x = go (bit set t) (runs x)
   where
     go : (b r : Bool) → cond b (cond r (head x) (head (repaired x))) (cond r (head (stopped x)) (head x)) ≡ head (cond b (cond r x (repaired x)) (cond r (stopped x) x))
@@ -108,64 +112,59 @@ module _ (f : Floor) (w : well_formed f ≡ true) where
       ∙ pack_recalled f w set ∙ ap (λ (k : ℕ). pack (recalled (view f) k)) s
 
 -- ---- the answers, by what the code read: whether the floor is well formed, the name's number, the refusal
-module _ (f : Floor) (name : ℕ) (well : Bool) (ew : well ≡ well_formed f) where
-  pub keep_malformed : well ≡ false → ◌≡◌ {A = Answer} (record { refusal = 30; floor = f }) (keep_answer f name)
-  unfolding keep_answer
-  keep_malformed h = answer_malformed f (keep_tests (view f).layouts name) (kept_under (view f) name) (sym ew ∙ h)
-
-  pub forget_malformed : well ≡ false → ◌≡◌ {A = Answer} (record { refusal = 30; floor = f }) (forget_answer f name)
-  unfolding forget_answer
-  forget_malformed h = answer_malformed f (name_held_tests (view f).layouts name) (forgotten (view f) name) (sym ew ∙ h)
-
-  pub recall_malformed : well ≡ false → ◌≡◌ {A = Answer} (record { refusal = 30; floor = f }) (recall_answer f name)
-  unfolding recall_answer
-  recall_malformed h = answer_malformed f (name_held_tests (view f).layouts name) (recalled (view f) (set_of (view f).layouts name)) (sym ew ∙ h)
-
-  module _ (h : well ≡ true) (n : ℕ) (en : n ≡ name) (m : ℕ) where
-    module _ (e : m ≡ refusal (keep_tests (used_layouts f.layouts) n)) where
-      pub keep_refused : m ≢ 0 → ◌≡◌ {A = Answer} (record { refusal = m; floor = f }) (keep_answer f name)
-      unfolding keep_answer
-      keep_refused z = answer_refused f (keep_tests (view f).layouts n) (kept_under (view f) n) (sym ew ∙ h) m (e ∙ keep_same f (sym ew ∙ h) n) z ∙ ap (keep_answer f) en
-
-      pub keep_accepted : m ≡ 0 → (set : ℕ) → set ≡ set_below (ran_in f.tiles) (total f.settings) → (ls : List Layout) → ls ≡ put_in (record { name = n; set = set }) f.layouts
-          → ◌≡◌ {A = Answer} (record { refusal = m; floor = relaid f ls }) (keep_answer f name)
-      unfolding keep_answer
-      keep_accepted z set s ls l =
-          let w = sym ew ∙ h in
-          answer_accepted f (keep_tests (view f).layouts n) (kept_under (view f) n) w m (e ∙ keep_same f w n) z _
-          (kept_pack f w n set (keep_named (used_layouts f.layouts) n (sym e ∙ z)) s ls l)
-          ∙ ap (keep_answer f) en
-
-    module _ (e : m ≡ refusal (name_held_tests (used_layouts f.layouts) n)) where
-      pub forget_refused : m ≢ 0 → ◌≡◌ {A = Answer} (record { refusal = m; floor = f }) (forget_answer f name)
-      unfolding forget_answer
-      forget_refused z = answer_refused f (name_held_tests (view f).layouts n) (forgotten (view f) n) (sym ew ∙ h) m (e ∙ name_held_same f (sym ew ∙ h) n) z ∙ ap (forget_answer f) en
-
-      pub forget_accepted : m ≡ 0 → (ls : List Layout) → ls ≡ layout_places 8 (forget_in n f.layouts)
-          → ◌≡◌ {A = Answer} (record { refusal = m; floor = relaid f ls }) (forget_answer f name)
-      unfolding forget_answer
-      forget_accepted z ls l =
-          let w = sym ew ∙ h in
-          answer_accepted f (name_held_tests (view f).layouts n) (forgotten (view f) n) w m (e ∙ name_held_same f w n) z _
-          (forgotten_pack f w n (name_held_named (used_layouts f.layouts) n (sym e ∙ z)) ls l)
-          ∙ ap (forget_answer f) en
-
-      pub recall_refused : m ≢ 0 → ◌≡◌ {A = Answer} (record { refusal = m; floor = f }) (recall_answer f name)
-      unfolding recall_answer
-      recall_refused z = answer_refused f (name_held_tests (view f).layouts n) (recalled (view f) (set_of (view f).layouts n)) (sym ew ∙ h) m (e ∙ name_held_same f (sym ew ∙ h) n) z ∙ ap (recall_answer f) en
-
-      pub recall_accepted : m ≡ 0 → (set : ℕ) → set ≡ set_of f.layouts n → (ts : List Tile) → ts ≡ tab 64 (recall_at f.settings f.tiles set)
-          → ◌≡◌ {A = Answer} (record { refusal = m; floor = retiled f ts }) (recall_answer f name)
-      unfolding recall_answer
-      recall_accepted z set s ts l =
-          let w = sym ew ∙ h in
-          answer_accepted f (name_held_tests (view f).layouts n) (recalled (view f) (set_of (view f).layouts n)) w m (e ∙ name_held_same f w n) z _
-          (recalled_pack f w n set (name_held_named (used_layouts f.layouts) n (sym e ∙ z)) s ts l)
-          ∙ ap (recall_answer f) en
-
-module _ (f : Floor) (well : Bool) (ew : well ≡ well_formed f) (h : well ≡ true) where
-  pub layouts_fit_lem : layouts_fit f.layouts ≡ true
-  layouts_fit_lem = memory_fits f (sym ew ∙ h)
+module _ (f : Floor) (w : true ≡ well_formed f) where
+  pub places_fit : layouts_fit f.layouts ≡ true
+  places_fit = memory_fits f (sym w)
 
   pub tiles_few : total f.settings ≤ 64
-  tiles_few = well_few f (sym ew ∙ h)
+  tiles_few = well_few f (sym w)
+
+module _ (f : Floor) (name : ℕ) where
+  pub keep_malformed : false ≡ well_formed f → ◌≡◌ {A = Answer} (record { refusal = 30; floor = f }) (keep_answer f name)
+  unfolding keep_answer
+  keep_malformed w = answer_malformed f (keep_tests (view f).layouts name) (kept_under (view f) name) (sym w)
+
+  pub forget_malformed : false ≡ well_formed f → ◌≡◌ {A = Answer} (record { refusal = 30; floor = f }) (forget_answer f name)
+  unfolding forget_answer
+  forget_malformed w = answer_malformed f (name_held_tests (view f).layouts name) (forgotten (view f) name) (sym w)
+
+  pub recall_malformed : false ≡ well_formed f → ◌≡◌ {A = Answer} (record { refusal = 30; floor = f }) (recall_answer f name)
+  unfolding recall_answer
+  recall_malformed w = answer_malformed f (name_held_tests (view f).layouts name) (recalled (view f) (set_of (view f).layouts name)) (sym w)
+
+  module _ (w : true ≡ well_formed f) (n : ℕ) (en : n ≡ name) where
+    pub keep_refused : (why : Refusal) → refusal_number why ≡ refusal (keep_tests (used_layouts f.layouts) n) → ◌≡◌ {A = Answer} (record { refusal = refusal_number why; floor = f }) (keep_answer f name)
+    unfolding keep_answer
+    keep_refused why e = answer_refused f (keep_tests (view f).layouts n) (kept_under (view f) n) (sym w) _ (e ∙ keep_same f (sym w) n) (refusing why) ∙ ap (keep_answer f) en
+
+    pub forget_refused : (why : Refusal) → refusal_number why ≡ refusal (name_held_tests (used_layouts f.layouts) n) → ◌≡◌ {A = Answer} (record { refusal = refusal_number why; floor = f }) (forget_answer f name)
+    unfolding forget_answer
+    forget_refused why e = answer_refused f (name_held_tests (view f).layouts n) (forgotten (view f) n) (sym w) _ (e ∙ name_held_same f (sym w) n) (refusing why) ∙ ap (forget_answer f) en
+
+    pub recall_refused : (why : Refusal) → refusal_number why ≡ refusal (name_held_tests (used_layouts f.layouts) n) → ◌≡◌ {A = Answer} (record { refusal = refusal_number why; floor = f }) (recall_answer f name)
+    unfolding recall_answer
+    recall_refused why e = answer_refused f (name_held_tests (view f).layouts n) (recalled (view f) (set_of (view f).layouts n)) (sym w) _ (e ∙ name_held_same f (sym w) n) (refusing why) ∙ ap (recall_answer f) en
+
+    pub keep_accepted : 0 ≡ refusal (keep_tests (used_layouts f.layouts) n) → (set : ℕ) → set ≡ set_below (ran_in f.tiles) (total f.settings) → (ls : List Layout) → ls ≡ put_in (record { name = n; set = set }) f.layouts
+        → ◌≡◌ {A = Answer} (record { refusal = 0; floor = relaid f ls }) (keep_answer f name)
+    unfolding keep_answer
+    keep_accepted e set s ls l =
+        answer_accepted f (keep_tests (view f).layouts n) (kept_under (view f) n) (sym w) 0 (e ∙ keep_same f (sym w) n) refl _
+        (kept_pack f (sym w) n set (keep_named (used_layouts f.layouts) n (sym e)) s ls l)
+        ∙ ap (keep_answer f) en
+
+    pub forget_accepted : 0 ≡ refusal (name_held_tests (used_layouts f.layouts) n) → (ls : List Layout) → ls ≡ layout_places 8 (forget_in n f.layouts)
+        → ◌≡◌ {A = Answer} (record { refusal = 0; floor = relaid f ls }) (forget_answer f name)
+    unfolding forget_answer
+    forget_accepted e ls l =
+        answer_accepted f (name_held_tests (view f).layouts n) (forgotten (view f) n) (sym w) 0 (e ∙ name_held_same f (sym w) n) refl _
+        (forgotten_pack f (sym w) n (name_held_named (used_layouts f.layouts) n (sym e)) ls l)
+        ∙ ap (forget_answer f) en
+
+    pub recall_accepted : 0 ≡ refusal (name_held_tests (used_layouts f.layouts) n) → (set : ℕ) → set ≡ set_of f.layouts n → (ts : List Tile) → ts ≡ tab 64 (recall_at f.settings f.tiles set)
+        → ◌≡◌ {A = Answer} (record { refusal = 0; floor = retiled f ts }) (recall_answer f name)
+    unfolding recall_answer
+    recall_accepted e set s ts l =
+        answer_accepted f (name_held_tests (view f).layouts n) (recalled (view f) (set_of (view f).layouts n)) (sym w) 0 (e ∙ name_held_same f (sym w) n) refl _
+        (recalled_pack f (sym w) n set (name_held_named (used_layouts f.layouts) n (sym e)) s ts l)
+        ∙ ap (recall_answer f) en

@@ -1,5 +1,6 @@
 // A floor with two layouts, and what makes them malformed.
 use floor::{Floor, Layout};
+use malformed_calls::refused;
 use trials_tally::{Tally, floors};
 
 // The names A and B as numbers; their first letter stands in the highest byte.
@@ -9,94 +10,70 @@ const B: u64 = 4755801206503243776;
 
 // Under A every tile of the floor runs, under B all but tile 4.
 pub fn sound_floor(f: Floor) -> Floor {
-    let all = floors::kept(f, 65);
-    let answer = calls::stop(all, 4);
-    floors::kept(answer.floor, 66)
+    floors::kept(calls::stop(floors::kept(f, b'A'), 4).floor, b'B')
 }
 
 // The calls accept it.
-pub fn accepted(rt: &impl Print, t: Tally, f: Floor) -> Tally {
-    let keep = calls::keep(f, floors::name(67));
-    let forget = calls::forget(f, floors::name(65));
-    let recall = calls::recall(f, floors::name(65));
-    let other = calls::recall(f, floors::name(67));
-    let layouts = f.layouts;
-    let first = layouts[0];
-    let second = layouts[1];
-    let gave = [
-        keep.refusal as u64,
-        forget.refusal as u64,
-        recall.refusal as u64,
-        other.refusal as u64,
-        first.set,
-        second.set,
-    ];
-    trials_tally::trial(
-        rt,
-        t,
-        b"the floor with two layouts: accepted",
-        gave,
-        [0, 0, 0, 45, 63, 47],
-    )
+fn accepted(tally: &mut Tally<impl Print>, f: Floor) {
+    let a = floors::name(b'A');
+    let c = floors::name(b'C');
+    tally.trial(
+        "the floor with two layouts: accepted",
+        (
+            calls::keep(f, c).refusal,
+            calls::forget(f, a).refusal,
+            calls::recall(f, a).refusal,
+            calls::recall(f, c).refusal,
+            f.layouts[0].set,
+            f.layouts[1].set,
+        ),
+        (0, 0, 0, 45, 63, 47),
+    );
 }
 
-// The two in the other order.
-fn unsorted(f: Floor) -> Floor {
-    let mut g = f;
-    g.layouts[0] = Layout { name: B, set: 47 };
-    g.layouts[1] = Layout { name: A, set: 63 };
-    g
-}
-
-// The first place free, the second used.
-fn hole(f: Floor) -> Floor {
-    let mut g = f;
-    g.layouts[0] = Layout::ZERO;
-    g
+fn order(tally: &mut Tally<impl Print>, f: &Floor) {
+    refused(tally, f, "layouts not by rising name", |g| {
+        g.layouts[0] = Layout { name: B, set: 47 };
+        g.layouts[1] = Layout { name: A, set: 63 };
+    });
+    refused(
+        tally,
+        f,
+        "a name twice",
+        |g| g.layouts[2] = Layout { name: B, set: 63 },
+    );
+    refused(
+        tally,
+        f,
+        "a free place before a layout",
+        |g| g.layouts[0] = Layout::ZERO,
+    );
 }
 
 // A third place that has a set of the floor, and no name or a bad one.
-fn third(f: Floor, name: u64) -> Floor {
-    let mut g = f;
-    g.layouts[2] = Layout {
-        name: name,
-        set: 63,
-    };
-    g
-}
-
-fn damaged_set(f: Floor, kind: u8) -> Floor {
-    let mut g = f;
-    match kind {
-        6 => g.layouts[1].set = 45,
-        7 => g.layouts[1].set = 111,
-        _ => g.layouts[1].set = 0,
-    }
-    g
-}
-
-pub fn damaged(f: Floor, kind: u8) -> Floor {
-    match kind {
-        0 => unsorted(f),
-        1 => third(f, B),
-        2 => hole(f),
-        3 => third(f, 6989586621679009792),
-        4 => third(f, 4827931368308604928),
-        5 => third(f, 0),
-        _ => damaged_set(f, kind),
+fn names(tally: &mut Tally<impl Print>, f: &Floor) {
+    for (why, name) in [
+        ("a small letter in a name", 6989586621679009792),
+        ("a letter after a zero in a name", 4827931368308604928),
+        ("a set without a name", 0),
+    ] {
+        refused(tally, f, why, |g| g.layouts[2] = Layout { name, set: 63 });
     }
 }
 
-pub fn name(rt: &impl Print, kind: u8) {
-    match kind {
-        0 => trials_tally::text(rt, b"layouts not by rising name"),
-        1 => trials_tally::text(rt, b"a name twice"),
-        2 => trials_tally::text(rt, b"a free place before a layout"),
-        3 => trials_tally::text(rt, b"a small letter in a name"),
-        4 => trials_tally::text(rt, b"a letter after a zero in a name"),
-        5 => trials_tally::text(rt, b"a set without a name"),
-        6 => trials_tally::text(rt, b"a layout with the second hopper stopped"),
-        7 => trials_tally::text(rt, b"a layout with a bit for no tile"),
-        _ => trials_tally::text(rt, b"a layout of no tile"),
+fn sets(tally: &mut Tally<impl Print>, f: &Floor) {
+    for (why, set) in [
+        ("a layout with the second hopper stopped", 45),
+        ("a layout with a bit for no tile", 111),
+        ("a layout of no tile", 0),
+    ] {
+        refused(tally, f, why, |g| g.layouts[1].set = set);
     }
+}
+
+pub fn all(tally: &mut Tally<impl Print>, f: &Floor) {
+    accepted(tally, *f);
+    order(tally, f);
+    names(tally, f);
+    sets(tally, f);
 }

@@ -1,4 +1,3 @@
 pub mod PrintedText
 pub mod Front
-pub mod Loops
 pub mod Samples

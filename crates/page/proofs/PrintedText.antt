@@ -2,23 +2,21 @@
 use mathlib.Core.Path.{◌≡◌, sym, ap, ◌∙◌}
 use mathlib.Core.Logic.{◌≢◌}
 use mathlib.Core.Bool.{true, false}
-use mathlib.Core.List.{List, [], ◌∷◌, ◌++◌}
+use mathlib.Core.List.{List, [], ◌∷◌}
 use Prim.Native.Nat.{ℕ, ◌+◌, ◌/◌, ◌%◌, ◌≤◌, ◌<◌}
 use native.Mathlib.Omega.{arith}
-use native.Mathlib.Numerals.{add-one}
 use lib.Dec.{eqb}
 use borrow.Author.Tests.{lt-ltb, le-ltb, eq-eqb, ne_eqb}
-use lib.ListN.{length, take, drop, get_or, set}
-use lib.Seq.{take-suc, take-append_seam, length-take-le}
+use lib.ListN.{length, take, drop, set}
+use lib.Seq.{take-append_seam}
 use Rattle.image_bytes.specs.InternalPut.{put}
-use Rattle.image_bytes.proofs.PutLaws.{put_one, put_two}
 use Rattle.floor.specs.Memory.{view}
 use Rattle.floor.specs.Well.{well_formed}
 use Rattle.image.specs.declared.Written.{Written}
 use Rattle.image.specs.Image.{load_answer}
 use Rattle.image.proofs.Promises.{loaded_well}
 use Rattle.floor.specs.declared.Answer.{Answer}
-use Rattle.page_call.specs.Page.{digit, page, page_answer, paged}
+use Rattle.page_call.specs.Page.{page, page_answer, paged}
 use Rattle.page_call.proofs.Writing.{page_size, page_small, page_whole}
 use Rattle.page.specs.Printed.{decimal, refused_text, printed}
 
@@ -26,21 +24,19 @@ use Rattle.page.specs.Printed.{decimal, refused_text, printed}
 abbrev pub line : List ℕ → List ℕ
 line l = 114 ∷ 101 ∷ 102 ∷ 117 ∷ 115 ∷ 101 ∷ 100 ∷ 32 ∷ l
 
-pub one_digit : (n : ℕ) → n < 10 → line (digit n ∷ 10 ∷ []) ≡ refused_text n
+-- what the code writes of it, with n below ten and from ten on: d is the text after the word
+pub line_one : (d : List ℕ) (n : ℕ) → 3 ≤ length d → n < 10 → take 10 (set (set (line d) 8 (48 + n)) 9 10) ≡ refused_text n
 unfolding refused_text decimal
-one_digit n h = rw (lt-ltb n 10 h)
+line_one [] n l h = absurd (omega arith)
+line_one (a ∷ []) n l h = absurd (omega arith)
+line_one (a ∷ b ∷ d) n l h = rw (lt-ltb n 10 h)
 
-pub two_digits : (n : ℕ) → 10 ≤ n → line (digit (n / 10) ∷ digit (n % 10) ∷ 10 ∷ []) ≡ refused_text n
+pub line_two : (d : List ℕ) (n : ℕ) → 3 ≤ length d → 10 ≤ n → take 11 (set (set (set (line d) 8 (48 + n / 10)) 9 (48 + n % 10)) 10 10) ≡ refused_text n
 unfolding refused_text decimal
-two_digits n h = rw (le-ltb n 10 h)
-
--- a byte more of it
-pub front_turn : (s₀ s l : List ℕ) (k : ℕ) → k < length l → length l ≤ length s₀ → length s ≡ length s₀ → s ≡ put s₀ 0 (take k l)
-    → set s k (get_or l k 0) ≡ put s₀ 0 (take (k + 1) l)
-front_turn s₀ s l k h r e p =
-    let n : length (take k l) ≡ k = length-take-le k l (omega arith) in
-    let q : take (k + 1) l ≡ take k l ++ (get_or l k 0 ∷ []) = rw add-one (take-suc l k 0 h) in
-    rw q (put_two s₀ s (set s k (get_or l k 0)) 0 k (take k l) (get_or l k 0 ∷ []) (omega (arith, n)) (omega (arith, n)) p (put_one s k (get_or l k 0) (omega arith)))
+line_two [] n l h = absurd (omega arith)
+line_two (a ∷ []) n l h = absurd (omega arith)
+line_two (a ∷ b ∷ []) n l h = absurd (omega arith)
+line_two (a ∷ b ∷ c ∷ d) n l h = rw (le-ltb n 10 h)
 
 -- what was put to the front is there
 put_front_is : (s t xs : List ℕ) (k : ℕ) → k ≡ length xs → t ≡ put s 0 xs → take k t ≡ xs
@@ -49,13 +45,12 @@ put_front_is s t xs k e p = rw (p, e) (take-append_seam xs (drop (0 + length xs)
 
 -- ---- what the code made of the answer r: the line of a refusal, or the page; t is the text s after it
 module _ (xs s t : List ℕ) (r : Answer) (e : r ≡ load_answer xs) (room : 528 ≤ length s) (kept : length t ≡ length s) where
-  pub tell_refused : (l : List ℕ) (k : ℕ) → r.refusal ≢ 0 → length l ≡ 11 → (k ≤ 11) × (take k l ≡ refused_text r.refusal) → t ≡ put s 0 (take k l)
-      → (k ≤ length t) × (take k t ≡ printed xs)
+  pub tell_refused : (k : ℕ) → r.refusal ≢ 0 → (k ≤ 11) × (take k t ≡ refused_text r.refusal) → (k ≤ length t) × (take k t ≡ printed xs)
   unfolding printed
-  tell_refused l k n h q p =
+  tell_refused k n q =
       let few = q.0 in
       let d : eqb (load_answer xs).refusal 0 ≡ false = rw e at (ne_eqb r.refusal 0 n) in
-      (omega arith, put_front_is s t (take k l) k (sym (length-take-le k l (omega arith))) p ∙ q.1 ∙ rw (e, d))
+      (omega arith, q.1 ∙ rw (e, d))
 
   pub tell_page : (w : Written) → r.refusal ≡ 0 → (w ≡ page_answer r.floor (length s)) × (t ≡ paged r.floor s)
       → (w.length ≤ length t) × (take w.length t ≡ printed xs)

@@ -2,65 +2,23 @@
 #![tactic(auto)]
 
 ghost use Rattle.std.specs.Prelude.{◌≡◌, ◌≤◌, length, take};
-ghost use Rattle.image_bytes.specs.InternalPut.{put};
 ghost use Rattle.page.specs.Printed.{refused_text, printed};
 
-// A line of text, and how long it is.
-#[derive(Clone, Copy)]
-struct Line {
-    bytes: [u8; 11],
-    length: usize,
-}
-
-fn refused(n: u8) -> Line
-    ensures { (result.length ≤ 11) × (take result.length result.bytes ≡ refused_text n) }
+// The line of a refusal by number n, at the front of a text; gives its length.
+fn put_refused(text: &mut [u8], n: u8) -> usize
+    requires { 11 ≤ length text.old }
+    ensures { (result ≤ 11) × (take result text.new ≡ refused_text n) }
 {
+    text[..8].copy_from_slice(b"refused ");
     if n < 10 {
-        return Line {
-            bytes: [
-                b'r',
-                b'e',
-                b'f',
-                b'u',
-                b's',
-                b'e',
-                b'd',
-                b' ',
-                48 + n,
-                10,
-                0,
-            ],
-            length: 10,
-        };
+        text[8] = b'0' + n;
+        text[9] = b'\n';
+        return 10;
     }
-    Line {
-        bytes: [
-            b'r',
-            b'e',
-            b'f',
-            b'u',
-            b's',
-            b'e',
-            b'd',
-            b' ',
-            48 + n / 10,
-            48 + n % 10,
-            10,
-        ],
-        length: 11,
-    }
-}
-
-// The first n bytes of a line, to the front of a text.
-fn put_front(text: &mut [u8], line: [u8; 11], n: usize)
-    requires { (n ≤ 11) × (11 ≤ length text.old) }
-    ensures { text.new ≡ put text.old 0 (take n line) }
-{
-    let mut k: usize = 0;
-    while k < n {
-        text[k] = line[k];
-        k += 1;
-    }
+    text[8] = b'0' + n / 10;
+    text[9] = b'0' + n % 10;
+    text[10] = b'\n';
+    11
 }
 
 // What is printed for the bytes of an image, at the front of a text that has room for the longest page; gives its length.
@@ -70,13 +28,9 @@ fn tell(bytes: &[u8], text: &mut [u8]) -> usize
 {
     let loaded = image_calls::load(bytes);
     if loaded.refusal != 0 {
-        let said = refused(loaded.refusal);
-        let line = said.bytes;
-        put_front(text, line, said.length);
-        return said.length;
+        return put_refused(text, loaded.refusal);
     }
-    let floor = loaded.floor;
-    let written = page_call::page(floor, text);
+    let written = page_call::page(loaded.floor, text);
     written.length as usize
 }
 
@@ -84,13 +38,11 @@ fn tell(bytes: &[u8], text: &mut [u8]) -> usize
 fn main(rt: HostRuntime) {
     let mut bytes = image_input::room();
     let mut file = rt.stdin();
-    let input = image_input::read_input(&mut file, &mut bytes);
-    if input.failed {
+    let Ok(n) = image_input::read_input(&mut file, &mut bytes) else {
         let _ = rt.eprint("page: standard input can't be read\n");
         return;
-    }
-    let n = input.length;
-    let mut text = [0u8; 528];
+    };
+    let mut text = [0; 528];
     let k = tell(&bytes[..n], &mut text);
     let _ = rt.write_all(&text[..k]);
 }

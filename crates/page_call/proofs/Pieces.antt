@@ -150,6 +150,22 @@ pub on_grid : (k w r h : ℕ) → k < w → w ≤ 8 → r < h → h ≤ 8 → k 
 on_grid k w r h a b c d = let a' : k ≤ 7 = omega arith in
     let m : k * h ≤ 7 * 8 = mul-le-mul a' d in omega (arith, m)
 
+pub letter_west : (k : ℕ) → k ≡ 1 → 87 ≡ letter k
+unfolding letter
+letter_west k e = rw e
+
+pub letter_south : (k : ℕ) → k ≡ 2 → 83 ≡ letter k
+unfolding letter
+letter_south k e = rw e
+
+pub letter_north : (k : ℕ) → k ≡ 3 → 78 ≡ letter k
+unfolding letter
+letter_north k e = rw e
+
+pub letter_east : (k : ℕ) → k ≡ 4 → 69 ≡ letter k
+unfolding letter
+letter_east k e = rw e
+
 pub letter_rest : (k : ℕ) → k ≢ 1 → k ≢ 2 → k ≢ 3 → k ≢ 4 → 45 ≡ letter k
 unfolding letter
 letter_rest zero a b c d = refl

@@ -7,9 +7,9 @@ ghost use Rattle.floor.specs.Memory.{zero_tile};
 ghost use Rattle.page_call.specs.Page as P;
 
 use check_floor::well_formed;
-use floor::{DISTANCE_NONE, EAST, Floor, NORTH, SOUTH, Side, Tile, WEST, refusals};
+use floor::{DISTANCE_NONE, Floor, Refusal, Side, Tile};
 use image::Written;
-use image_bytes::put_byte;
+use image_bytes::LittleEndian;
 
 // Two bytes at a place.
 fn put_pair(s: &mut [u8], at: usize, x: u8, y: u8)
@@ -46,12 +46,11 @@ fn put_two(s: &mut [u8], at: usize, n: u8)
 fn letter(side: Side) -> u8
     ensures { result ≡ P.letter side.code }
 {
-    let k = side.code;
-    match k {
-        WEST => b'W',
-        SOUTH => b'S',
-        NORTH => b'N',
-        EAST => b'E',
+    match side {
+        Side::WEST => b'W',
+        Side::SOUTH => b'S',
+        Side::NORTH => b'N',
+        Side::EAST => b'E',
         _ => b'-',
     }
 }
@@ -77,10 +76,9 @@ fn put_cell(s: &mut [u8], at: usize, h: Tile)
     ensures { s.new ≡ put s.old at (P.cell h) }
 {
     put_two(s, at, h.count);
-    let arrow = letter(h.next);
-    put_three(s, at + 2, b' ', arrow, b' ');
+    put_three(s, at + 2, b' ', letter(h.next), b' ');
     put_distance(s, at + 5, h);
-    put_byte(s, at + 7, b'|');
+    b'|'.put_at(s, at + 7);
 }
 
 // The cells of row r of a floor of w columns and h rows.
@@ -88,11 +86,9 @@ fn put_cells(s: &mut [u8], at: usize, tiles: [Tile; 64], w: usize, h: usize, r: 
     requires { (w ≤ 8) × (h ≤ 8) × (r < h) × (at + 8 * w ≤ length s.old) }
     ensures { s.new ≡ put s.old at (P.cells (λ t. get_or tiles t zero_tile) w h r) }
 {
-    let mut k = 0usize;
-    while k < w {
+    for k in 0..w {
         let tile = tiles[k * h + r];
         put_cell(s, at + 8 * k, tile);
-        k = k + 1;
     }
 }
 
@@ -101,9 +97,9 @@ fn put_line(s: &mut [u8], at: usize, tiles: [Tile; 64], w: usize, h: usize, r: u
     requires { (w ≤ 8) × (h ≤ 8) × (r < h) × (at + (8 * w + 2) ≤ length s.old) }
     ensures { s.new ≡ put s.old at (P.line (λ t. get_or tiles t zero_tile) w h r) }
 {
-    put_byte(s, at, b'|');
+    b'|'.put_at(s, at);
     put_cells(s, at + 1, tiles, w, h, r);
-    put_byte(s, at + 1 + 8 * w, 10);
+    b'\n'.put_at(s, at + 1 + 8 * w);
 }
 
 // The lines, north row first.
@@ -111,10 +107,8 @@ fn put_lines(s: &mut [u8], tiles: [Tile; 64], w: usize, h: usize)
     requires { (w ≤ 8) × (h ≤ 8) × (h * (8 * w + 2) ≤ length s.old) }
     ensures { s.new ≡ put s.old 0 (P.lines (λ t. get_or tiles t zero_tile) w h) }
 {
-    let mut k = 0usize;
-    while k < h {
+    for k in 0..h {
         put_line(s, k * (8 * w + 2), tiles, w, h, h - 1 - k);
-        k = k + 1;
     }
 }
 
@@ -124,22 +118,15 @@ pub fn page(floor: Floor, buffer: &mut [u8]) -> Written
 {
     let well = well_formed(floor);
     if !well {
-        return Written {
-            refusal: refusals::MALFORMED,
-            length: 0,
-        };
+        return Written::refused(Refusal::Malformed);
     }
     let w = floor.settings.columns as usize;
     let h = floor.settings.rows as usize;
     let n = h * (8 * w + 2);
     if buffer.len() < n {
-        return Written {
-            refusal: refusals::SHORT_PAGE,
-            length: 0,
-        };
+        return Written::refused(Refusal::ShortPage);
     }
-    let tiles = floor.tiles;
-    put_lines(buffer, tiles, w, h);
+    put_lines(buffer, floor.tiles, w, h);
     Written {
         refusal: 0,
         length: n as u32,

@@ -10,7 +10,10 @@ use Rattle.laws.specs.Define.{all_of, filter}
 use Rattle.laws.proofs.Tests.{and_yes}
 use Rattle.plan.specs.declared.Entry.{Entry}
 use Rattle.plan.proofs.Stages.{booked_number_byte}
-use Rattle.plan.specs.Entries.{waits, booked_number, predecessors, done, present, after_predecessors, ready, entry_fits}
+use Rattle.plan.specs.declared.Stage as D
+use Rattle.plan.specs.declared.Stage.TheVariants as V
+use Rattle.plan.specs.Staged.{shown}
+use Rattle.plan.specs.Entries.{stage_of, number_in, waits, booked_number, predecessors, done, present, after_predecessors, ready, entry_fits}
 
 -- ---- the number held, as the code tests for it
 pub booked_number_code : (e : Entry) → cond (not (eqb e.stage 0) && not (eqb e.stage 2)) (e.number ∷ []) [] ≡ booked_number e
@@ -20,6 +23,12 @@ booked_number_code e = sym (booked_number_byte e ∙ flip (eqb e.stage 0) (eqb e
     flip true b = refl
     flip false true = refl
     flip false false = refl
+
+-- a stage that the code found not to be a booked one
+pub unbooked : (s : D.Stage) (e : Entry) → shown s ≡ stage_of e → ((n : ℕ) → s ≡ V.Booked n → ⊥) → booked_number e ≡ []
+unbooked V.Waiting e h n = ap number_in (sym h)
+unbooked (V.Booked k) e h n = absurd (n k refl)
+unbooked V.Delivered e h n = ap number_in (sym h)
 
 -- ---- the predecessors
 pub both_pass : (p : ℕ → Bool) (e : Entry) → ((eqb e.first 0 || p e.first) && (eqb e.second 0 || p e.second)) ≡ all_of p (predecessors e)

@@ -1,14 +1,12 @@
 -- The lengths of a plan's arrays, from holding the value.
-use mathlib.Core.Path.{◌≡◌, sym, ◌∙◌}
+use mathlib.Core.Path.{◌≡◌}
 use mathlib.Core.List.{List}
-use lib.ListN.{length, length-map}
+use lib.ListN.{length}
 use mir.Val.{Val}
 use denote.Laws.{Is}
 use denote.Struct.Declared.{row}
-use denote.Struct.Field.{bool-field}
 use Rattle.plan.specs.declared.Plan.{Plan}
 use Rattle.plan.specs.contracts.Plan.{the_type}
-use Rattle.plan.specs.contracts.Entry.{the_field as entry-field}
 use Rattle.plan_check.specs.declared.Labels.{Labels}
 use Rattle.plan_check.specs.contracts.Labels.{the_type as labels-type}
 

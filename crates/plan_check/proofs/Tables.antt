@@ -1,14 +1,14 @@
 -- The passes over a plan's entries: what a table of labels shows after k of them, and the numbers held by them.
 use mathlib.Core.Path.{◌≡◌, refl, sym, ap, ◌∙◌}
-use mathlib.Core.Bool.{Bool, true, false, cond, not, ◌&&◌, ◌||◌}
+use mathlib.Core.Bool.{Bool, true, false, not, ◌&&◌, ◌||◌}
 use mathlib.Core.List.{List, [], ◌∷◌, ◌++◌, append_assoc, append-nil}
-use Prim.Native.Nat.{ℕ, ◌+◌, ◌≤◌, ◌<◌}
+use Prim.Native.Nat.{ℕ, ◌+◌, ◌<◌}
 use native.Mathlib.Omega.{arith}
 use native.Mathlib.Numerals.{add-one}
 use native.Mathlib.Decide.{ℕ_discrete}
 use lib.Dec.{eqb}
 use lib.ListN.{length, get_or, set, take, replicate, get_or-replicate}
-use lib.Seq.{take-suc, take-suc-set, take-set-le, get_or-set_same, get_or-set_other}
+use lib.Seq.{take-suc, take-suc-set, get_or-set_same, get_or-set_other}
 use borrow.Author.Tests.{eq-eqb, ne_eqb}
 use Rattle.laws.specs.Define.{all_of, any_of, pairs_of}
 use Rattle.laws.specs.InternalFilled.{Upto}
@@ -16,7 +16,6 @@ use Rattle.laws.proofs.Tests.{and_yes, or_assoc, or_no}
 use Rattle.laws.proofs.Tables.{all_more, pairs_zero, pairs_more}
 use Rattle.plan.specs.declared.Entry.{Entry}
 use Rattle.plan.specs.Entries.{was_delivered, booked_number, done, present, booked_numbers}
-use Rattle.plan_check.proofs.Entries.{booked_number_code}
 
 -- what would be read beyond the entries
 abbrev pub zero_entry : Entry
@@ -122,16 +121,9 @@ pub booked_number_none : (l : List Entry) (items : List ℕ) → take 0 items �
 unfolding booked_numbers
 booked_number_none l items = refl
 
--- the next number is written in any case, and counted where it is held
-pub booked_number_turn : (l : List Entry) (k m next : ℕ) (items : List ℕ) → k < length l → m < length items → next ≡ m + length (booked_number (entry_at l k)) → take m items ≡ booked_numbers (take k l)
-    → (next ≤ m + 1) × (take next (set items m (entry_at l k).number) ≡ booked_numbers (take (k + 1) l))
-booked_number_turn l k m next items h s e t = go (not (eqb (entry_at l k).stage 0) && not (eqb (entry_at l k).stage 2)) (booked_number_code (entry_at l k))
-  where
-    go : (b : Bool) → cond b ((entry_at l k).number ∷ []) [] ≡ booked_number (entry_at l k)
-        → (next ≤ m + 1) × (take next (set items m (entry_at l k).number) ≡ booked_numbers (take (k + 1) l))
-    go true q =
-        let n : next ≡ m + 1 = e ∙ ap (λ (w : List ℕ). m + length w) (sym q) in
-        (omega arith, rw (n, booked_number_more l k h, sym q, add-one m, take-suc-set items m (entry_at l k).number s, t))
-    go false q =
-        let n : next ≡ m = e ∙ ap (λ (w : List ℕ). m + length w) (sym q) ∙ omega arith in
-        (omega arith, rw (n, booked_number_more l k h, sym q, take-set-le m items m (entry_at l k).number (omega arith), t) (sym (append-nil (booked_numbers (take k l)))))
+-- the next entry holds n, or no number
+pub numbers_in : (l : List Entry) (k m n : ℕ) (items : List ℕ) → k < length l → m < length items → booked_number (entry_at l k) ≡ n ∷ [] → take m items ≡ booked_numbers (take k l) → take (m + 1) (set items m n) ≡ booked_numbers (take (k + 1) l)
+numbers_in l k m n items h s q t = rw (booked_number_more l k h, q, add-one m, take-suc-set items m n s, t)
+
+pub numbers_out : (l : List Entry) (k m : ℕ) (items : List ℕ) → k < length l → booked_number (entry_at l k) ≡ [] → take m items ≡ booked_numbers (take k l) → take m items ≡ booked_numbers (take (k + 1) l)
+numbers_out l k m items h q t = rw (booked_number_more l k h, q, t) (sym (append-nil (booked_numbers (take k l))))

@@ -1,33 +1,26 @@
 // Whether a plan is sound, and whether its labels fit, on any bytes: the tests 30 and 47.
 #![tactic(auto)]
 
-ghost use Rattle.std.specs.Prelude.{◌≡◌, true, false, cond, not, ◌&&◌, ◌||◌, [], ◌∷◌, ◌+◌, ◌≤◌, eqb, leb, ltb, length, take};
+ghost use Rattle.std.specs.Prelude.{◌≡◌, false, not, ◌&&◌, ◌||◌, ◌≤◌, eqb, leb, ltb, length, take};
 ghost use Rattle.laws.specs.Define.{all_of, pairs_of};
 ghost use Rattle.laws.specs.InternalFilled.{Upto};
 ghost use Rattle.plan.specs.Entries as E;
-ghost use Rattle.plan.specs.Entries.{used, done, present, booked_numbers, plan_sound, plan_fits};
+ghost use Rattle.plan.specs.Entries.{done, present, booked_numbers, plan_sound, plan_fits};
 
-use plan::{Entry, Plan};
+use plan::{Entry, Plan, Stage};
 
-// Whether an entry waits. Every stage byte but those of waiting and delivered is that of a booked one.
+// Whether an entry waits.
 pub fn waits(e: Entry) -> bool
     ensures { result ≡ E.waits e }
 {
-    e.stage == plan::WAITING
+    matches!(e.stage(), Stage::Waiting)
 }
 
 // Whether an entry is delivered.
 fn was_delivered(e: Entry) -> bool
     ensures { result ≡ E.was_delivered e }
 {
-    e.stage == plan::DELIVERED
-}
-
-// Whether an entry is booked, and so holds a number.
-pub fn holds(e: Entry) -> bool
-    ensures { cond result (e.number ∷ []) [] ≡ E.booked_number e }
-{
-    (e.stage != plan::WAITING) & (e.stage != plan::DELIVERED)
+    matches!(e.stage(), Stage::Delivered)
 }
 
 // Whether an entry's predecessors pass, from what is known of the two labels; 0 names none.
@@ -38,90 +31,60 @@ pub fn both(e: Entry, first: bool, second: bool) -> bool
 }
 
 // For each label, whether no entry that has it is undelivered.
-pub fn done_table(plan: Plan) -> [bool; 256]
-    requires { plan.count ≤ 64 }
-    ensures { Upto 256 (done (used plan)) false result }
+pub fn done_table(entries: &[Entry]) -> [bool; 256]
+    ensures { Upto 256 (done entries.now) false result }
 {
-    let n = plan.count as usize;
-    let mut table = [true; 256];
-    for k in 0usize..n {
-        let e = plan.entries[k];
+    let mut done = [true; 256];
+    for e in entries {
         let label = e.label as usize;
-        let before = table[label];
-        let own = was_delivered(e);
-        table[label] = before & own;
+        done[label] = done[label] & was_delivered(*e);
     }
-    table
+    done
 }
 
 // Whether every entry past waiting has its predecessors delivered.
-fn after_predecessors(plan: Plan) -> bool
-    requires { plan.count ≤ 64 }
-    ensures { result ≡ all_of (E.after_predecessors (used plan)) (used plan) }
+fn after_predecessors(entries: &[Entry]) -> bool
+    ensures { result ≡ all_of (E.after_predecessors entries.now) entries.now }
 {
-    let table = done_table(plan);
-    let n = plan.count as usize;
+    let done = done_table(entries);
     let mut ok = true;
-    for k in 0usize..n {
-        let e = plan.entries[k];
-        let first = table[e.first as usize];
-        let second = table[e.second as usize];
-        let after = both(e, first, second);
-        let waiting = waits(e);
-        ok = ok & (waiting | after);
+    for e in entries {
+        ok &= waits(*e) | both(*e, done[e.first as usize], done[e.second as usize]);
     }
     ok
 }
 
-// The numbers of booked entries, in the order of the plan: the first `count` of them.
+// The numbers of booked entries, in the order of the plan: the first `count` of them. Its memory is fixed: no heap.
 #[derive(Clone, Copy)]
 pub struct Numbers {
     pub items: [u32; 64],
     pub count: usize,
 }
 
-// One more where the entry is booked.
-fn counted(m: usize, e: Entry) -> usize
-    requires { m ≤ 64 }
-    ensures { result ≡ m + length (E.booked_number e) }
-{
-    let booked = holds(e);
-    if booked {
-        return m + 1;
-    }
-    m
-}
-
 // The numbers that booked entries hold, in the order of the entries.
-pub fn booked_numbers(plan: Plan) -> Numbers
-    requires { plan.count ≤ 64 }
-    ensures { (result.count ≤ 64) × (take result.count result.items ≡ booked_numbers (used plan)) }
+pub fn booked_numbers(entries: &[Entry]) -> Numbers
+    requires { length entries.now ≤ 64 }
+    ensures { (result.count ≤ 64) × (take result.count result.items ≡ booked_numbers entries.now) }
 {
-    let n = plan.count as usize;
-    let mut items = [0u32; 64];
-    let mut m: usize = 0;
-    for k in 0usize..n {
-        let e = plan.entries[k];
-        items[m] = e.number;
-        m = counted(m, e);
+    let mut items = [0; 64];
+    let mut count = 0;
+    for e in entries {
+        if let Stage::Booked(number) = e.stage() {
+            items[count] = number;
+            count += 1;
+        }
     }
-    Numbers {
-        items: items,
-        count: m,
-    }
+    Numbers { items, count }
 }
 
-// Whether the first n numbers differ, every two of them.
-fn all_differ(items: [u32; 64], n: usize) -> bool
-    requires { n ≤ 64 }
-    ensures { result ≡ pairs_of (λ x y. not (eqb x y)) (take n items) }
+// Whether the numbers differ, every two of them.
+fn all_differ(numbers: &[u32]) -> bool
+    ensures { result ≡ pairs_of (λ x y. not (eqb x y)) numbers.now }
 {
     let mut ok = true;
-    for j in 0usize..n {
-        let y = items[j];
-        for i in 0usize..j {
-            let x = items[i];
-            ok = ok & (x != y);
+    for (j, y) in numbers.iter().enumerate() {
+        for x in &numbers[..j] {
+            ok &= x != y;
         }
     }
     ok
@@ -134,14 +97,14 @@ pub fn sound(plan: Plan) -> bool
     if plan::MAX_ENTRIES < plan.count {
         return false;
     }
-    let ordered = after_predecessors(plan);
-    let numbers = booked_numbers(plan);
-    let items = numbers.items;
-    let differing = all_differ(items, numbers.count);
-    ordered & differing
+    let entries = plan.used();
+    let ordered = after_predecessors(entries);
+    let numbers = booked_numbers(entries);
+    ordered & all_differ(&numbers.items[..numbers.count])
 }
 
-// The labels of a plan: for each label, whether an entry has it; and whether no two entries have one.
+// The labels of a plan: for each label, whether an entry has it; and whether no two entries have one. No Option: its clause
+// gives the table where two entries have one label too.
 #[derive(Clone, Copy)]
 pub struct Labels {
     pub present: [bool; 256],
@@ -149,24 +112,17 @@ pub struct Labels {
 }
 
 // One pass over the entries.
-fn labels_in(plan: Plan) -> Labels
-    requires { plan.count ≤ 64 }
-    ensures { Upto 256 (present (used plan)) false result.present × (result.differing ≡ pairs_of (λ x y. not (eqb x.label y.label)) (used plan)) }
+fn labels_in(entries: &[Entry]) -> Labels
+    ensures { Upto 256 (present entries.now) false result.present × (result.differing ≡ pairs_of (λ x y. not (eqb x.label y.label)) entries.now) }
 {
-    let n = plan.count as usize;
-    let mut table = [false; 256];
-    let mut ok = true;
-    for k in 0usize..n {
-        let e = plan.entries[k];
+    let mut present = [false; 256];
+    let mut differing = true;
+    for e in entries {
         let label = e.label as usize;
-        let again = table[label];
-        ok = ok & !again;
-        table[label] = true;
+        differing &= !present[label];
+        present[label] = true;
     }
-    Labels {
-        present: table,
-        differing: ok,
-    }
+    Labels { present, differing }
 }
 
 // Whether one entry's labels fit, from whether its predecessors' labels are present.
@@ -187,16 +143,11 @@ pub fn fits(plan: Plan) -> bool
     requires { plan.count ≤ 64 }
     ensures { result ≡ plan_fits plan }
 {
-    let labels = labels_in(plan);
-    let table = labels.present;
-    let n = plan.count as usize;
+    let entries = plan.used();
+    let Labels { present, differing } = labels_in(entries);
     let mut ok = true;
-    for k in 0usize..n {
-        let e = plan.entries[k];
-        let first = table[e.first as usize];
-        let second = table[e.second as usize];
-        let one = entry_fits(e, first, second);
-        ok = ok & one;
+    for e in entries {
+        ok &= entry_fits(*e, present[e.first as usize], present[e.second as usize]);
     }
-    ok & labels.differing
+    ok & differing
 }

@@ -1,12 +1,13 @@
 -- A pass that changes each used entry by itself, and what a report makes of one.
 use mathlib.Core.Path.{◌≡◌, refl, sym, ap, ◌∙◌}
 use mathlib.Core.Bool.{Bool, true, false, cond, not, ◌&&◌, ◌||◌, true≢false, false≢true}
-use mathlib.Core.List.{List, [], ◌∷◌, ◌++◌, map}
-use Prim.Native.Nat.{ℕ, zero, suc, ◌+◌, ◌<◌}
+use mathlib.Core.List.{List, [], ◌∷◌, ◌++◌, map, append-nil}
+use Prim.Native.Nat.{ℕ, zero, suc, ◌+◌, ◌≤◌, ◌<◌}
 use native.Mathlib.Omega.{arith}
 use native.Mathlib.Numerals.{add-one}
 use lib.Dec.{eqb}
-use lib.ListN.{length, get_or, set, take, drop}
+use lib.ListN.{length, get_or, set, take, drop, drop_of_length-le}
+use lib.Seq.{take_all}
 use Rattle.laws.specs.Define.{any_of}
 use Rattle.plan.specs.declared.Entry.{Entry}
 use Rattle.plan.specs.Entries.{booked_number, delivered_as, reported}
@@ -23,6 +24,9 @@ map_step {A} (suc k) g (x ∷ l) z h = ap (λ (r : List A). g x ∷ r) (map_step
 
 pub map_turn : {A : Type 0} (k : ℕ) (g : A → A) (l now : List A) (z v : A) → k < length l → now ≡ map_upto k g l → v ≡ g (get_or now k z) → set now k v ≡ map_upto (k + 1) g l
 map_turn k g l now z v h e q = rw (q, e, add-one k) (map_step k g l z h)
+
+pub map_all : {A : Type 0} (k : ℕ) (g : A → A) (l : List A) → length l ≤ k → map_upto k g l ≡ map g l
+map_all k g l h = rw (take_all k l h, drop_of_length-le l h) (append-nil (map g l))
 
 -- an entry whose number is listed or not
 pub reported_code : (l : List ℕ) (e : Entry) {r : Entry} {b : Bool} → b ≡ any_of (eqb e.number) l → r ≡ cond (any_of (λ n. b) (booked_number e)) (delivered_as e) e → r ≡ reported l e

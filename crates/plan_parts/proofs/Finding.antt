@@ -1,28 +1,42 @@
--- The entry asked for, found by a pass from the last entry to the first.
-use mathlib.Core.Path.{◌≡◌, refl, ◌∙◌}
-use mathlib.Core.Bool.{Bool, false, cond, ◌&&◌, ◌||◌}
-use mathlib.Core.List.{List}
-use Prim.Native.Nat.{ℕ, suc, ◌≤◌, ◌<◌}
+-- The entry of a label: its tile, and whether it is ready.
+use mathlib.Core.Path.{◌≡◌, refl}
+use mathlib.Core.Bool.{Bool, true, false, cond, ◌&&◌, ◌||◌}
+use mathlib.Core.List.{List, [], ◌∷◌}
+use denote.Ref.{Bor}
+use Prim.Native.Nat.{ℕ, ◌+◌, ◌<◌}
 use lib.Dec.{eqb}
-use lib.ListN.{length, drop, drop_of_length-le}
-use lib.Seq.{drop-cons}
+use lib.ListN.{length, take}
+use Rattle.std.specs.Prelude.{Option, None, Some}
+use Rattle.std.specs.List.{find}
+use Rattle.std.specs.Option.{option_map, option_map_or}
 use Rattle.laws.specs.Define.{any_of}
 use Rattle.plan.specs.declared.Entry.{Entry}
 use Rattle.plan.specs.Entries.{ready}
 use Rattle.plan.specs.Plans.{tile_for}
-use Rattle.plan_check.proofs.Tables.{zero_entry, entry_at}
+use Rattle.plan_check.proofs.Tables.{zero_entry, entry_at, any_more}
 use Rattle.plan_parts.proofs.Lowest.{ready_in}
 
--- what is known from place n on: the tile of the label, and whether it is ready
-abbrev pub Found : List Entry → ℕ → ℕ → ℕ → Bool → Type 0
-Found es label n tile ok = (tile ≡ tile_for (drop n es) label) × (ok ≡ ready_in es (drop n es) label)
-
-pub found_none : (es : List Entry) (label n : ℕ) → length es ≤ n → Found es label n 0 false
-unfolding tile_for any_of
-found_none es label n h = rw (drop_of_length-le es h) (refl, refl)
+-- no entry was looked at yet
+pub found_none : (es : List Entry) (label : ℕ) → false ≡ ready_in es (take 0 es) label
+unfolding any_of
+found_none es label = refl
 
 -- x is the entry at place k
-pub found_turn : (es : List Entry) (label k n : ℕ) (x : Entry) {tile next : ℕ} {ok y : Bool} → k < length es → n ≡ suc k → entry_at es k ≡ x → Found es label n tile ok
-    → next ≡ cond (eqb x.label label) x.tile tile → y ≡ ready es x → Found es label k next ((eqb x.label label && y) || ok)
-unfolding tile_for any_of
-found_turn es label k n x h e q f t w = (t ∙ rw (drop-cons es k zero_entry h, q, f.0, e), rw (drop-cons es k zero_entry h, q, f.1, e, w))
+pub found_turn : (es : List Entry) (label k : ℕ) {ok own y : Bool} → k < length es → ok ≡ ready_in es (take k es) label
+    → own ≡ eqb (entry_at es k).label label → y ≡ ready es (entry_at es k) → (ok || (own && y)) ≡ ready_in es (take (k + 1) es) label
+found_turn es label k h f o w = rw (any_more (λ e. eqb e.label label && ready es e) es k zero_entry h, f, o, w)
+
+-- ---- the tile: of the first entry that has the label
+pub tile_read : (r : Option (Bor Entry)) → option_map_or (λ (e : Bor Entry). e.now.tile) r 0 ≡ option_map_or (λ (e : Entry). e.tile) (option_map (λ (e : Bor Entry). e.now) r) 0
+tile_read None = refl
+tile_read (Some e) = refl
+
+pub tile_found : (es : List Entry) (label : ℕ) → option_map_or (λ (e : Entry). e.tile) (find (λ e. eqb e.label label) es) 0 ≡ tile_for es label
+unfolding tile_for
+tile_found [] label = refl
+tile_found (e ∷ es) label = go (eqb e.label label) (tile_found es label)
+  where
+    go : (b : Bool) → option_map_or (λ (e : Entry). e.tile) (find (λ e. eqb e.label label) es) 0 ≡ tile_for es label
+        → option_map_or (λ (e : Entry). e.tile) (cond b (Some e) (find (λ e. eqb e.label label) es)) 0 ≡ cond b e.tile (tile_for es label)
+    go true h = refl
+    go false h = h

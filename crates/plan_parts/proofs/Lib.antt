@@ -1,3 +1,4 @@
+pub mod Chains
 pub mod Sized
 pub mod Lowest
 pub mod Finding

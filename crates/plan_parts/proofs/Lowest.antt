@@ -7,6 +7,8 @@ use native.Mathlib.Omega.{arith}
 use lib.Dec.{leb, ltb, eqb}
 use lib.ListN.{length, take}
 use borrow.Author.Tests.{eq-eqb, ne_eqb, ltb-true, ltb-false, leb-true}
+use Rattle.std.proofs.Common.{min}
+use Rattle.std.proofs.lemmas.Bool.Decides.{nat_tests}
 use Rattle.laws.specs.Define.{tab, all_of, any_of, first_of}
 use Rattle.laws.proofs.Tests.{and_left, or_left, or_right, and_no}
 use Rattle.laws.proofs.Tables.{all_at}
@@ -76,6 +78,17 @@ lowest_turn es l k {b} {r} h s L w d = go (ready es (entry_at l k)) (ltb (entry_
     go false t p q = stays (e ∙ rw p) (λ j m. rw p (and_no (eqb (entry_at l k).label j)))
 
 -- ---- its end
+lower_min : (x b : ℕ) → min x b ≡ cond (ltb x b) x b
+lower_min x b = grind (arith, nat_tests)
+
+pub lowest_in : (es l : List Entry) (k : ℕ) {b r : ℕ} {y : Bool} → k < length l → 1 ≤ (entry_at l k).label → Lowest es (take k l) b
+    → y ≡ ready es (entry_at l k) → y ≡ true → r ≡ min (entry_at l k).label b → Lowest es (take (k + 1) l) r
+lowest_in es l k {b} h s L w y q = lowest_turn es l k h s L w (rw y (q ∙ lower_min (entry_at l k).label b))
+
+pub lowest_out : (es l : List Entry) (k : ℕ) {b r : ℕ} {y : Bool} → k < length l → 1 ≤ (entry_at l k).label → Lowest es (take k l) b
+    → y ≡ ready es (entry_at l k) → y ≡ false → r ≡ b → Lowest es (take (k + 1) l) r
+lowest_out es l k h s L w y q = lowest_turn es l k h s L w (rw y q)
+
 module _ (p : Plan) {b : ℕ} (L : Lowest (used p) (used p) b) where
   pub lowest_none : b ≡ 65 → 0 ≡ offered p
   unfolding offered ready_label

@@ -1,14 +1,13 @@
 -- The lengths of a report's arrays, from holding the value.
-use mathlib.Core.Path.{◌≡◌, sym, ◌∙◌}
+use mathlib.Core.Path.{◌≡◌}
 use mathlib.Core.List.{List}
-use lib.ListN.{length, length-map}
+use lib.ListN.{length}
 use mir.Val.{Val}
 use denote.Laws.{Is}
 use denote.Struct.Declared.{row}
-use denote.Struct.Field.{u32-field}
 use Rattle.floor.specs.declared.Delivery.{Delivery}
 use Rattle.floor.specs.declared.Report.{Report}
-use Rattle.floor.specs.contracts.Delivery.{the_type as delivery-type, the_field as delivery-field}
+use Rattle.floor.specs.contracts.Delivery.{the_type as delivery-type}
 use Rattle.floor.specs.contracts.Report.{the_type as report-type}
 
 pub numbers_length : (d : Delivery) (vs : List Val) → Is (row delivery-type) d vs → length d.numbers ≡ 4

@@ -1,5 +1,5 @@
 -- One tile of Signal, branch by branch: the sides that want, the side chosen, the gap, the outcome.
-use mathlib.Core.Path.{◌≡◌, refl, sym, ap, ◌∙◌}
+use mathlib.Core.Path.{◌≡◌, refl, sym}
 use mathlib.Core.Logic.{◌≢◌}
 use mathlib.Core.Bool.{Bool, true, false, cond}
 use mathlib.Core.List.{List, [], ◌∷◌, ◌++◌}
@@ -10,8 +10,8 @@ use lib.ListN.{length, get_or, take}
 use lib.Seq.{take-suc}
 use native.Mathlib.Numerals.{add-one}
 use borrow.Author.Tests.{lt-ltb, eq-eqb, ne_eqb}
+use Rattle.std.specs.Ordering.{nat_cmp, ord_max}
 use Rattle.laws.specs.Define.{bit, first_of}
-use Rattle.laws.proofs.Tables.{ended}
 use Rattle.floor.specs.declared.Canister.{Canister}
 use Rattle.floor.specs.declared.Settings.{Settings}
 use Rattle.floor.specs.Memory.{zero_canister}
@@ -21,21 +21,20 @@ use Rattle.floor.specs.Signal.{Signal, requests, lack, missing, waiting, signal_
 use Rattle.floor.proofs.SideTables.{set_of, set_of_lem}
 
 -- ---- the sides that want: one side's bit where the neighbour there shows the opposite side
-wants_opposite : (k : ℕ) → 1 ≤ k → k ≤ 4 → 1 * 2 ^ (k - 1) % 2 ^ 8 ≡ cond (eqb (opposite k) (opposite k)) (2 ^ (k - 1)) 0
-unfolding opposite
-wants_opposite zero h g = absurd (omega arith)
-wants_opposite (suc zero) h g = refl
-wants_opposite (suc (suc zero)) h g = refl
-wants_opposite (suc (suc (suc zero))) h g = refl
-wants_opposite (suc (suc (suc (suc zero)))) h g = refl
-wants_opposite (suc (suc (suc (suc (suc k))))) h g = absurd (omega arith)
+one_bit : (k : ℕ) → 1 ≤ k → k ≤ 4 → 1 * 2 ^ (k - 1) % 2 ^ 8 ≡ 2 ^ (k - 1)
+one_bit zero h g = absurd (omega arith)
+one_bit (suc zero) h g = refl
+one_bit (suc (suc zero)) h g = refl
+one_bit (suc (suc (suc zero))) h g = refl
+one_bit (suc (suc (suc (suc zero)))) h g = refl
+one_bit (suc (suc (suc (suc (suc k))))) h g = absurd (omega arith)
 
-module _ (k shown facing : ℕ) (o : facing ≡ opposite k) where
-  pub wants_bit : 1 ≤ k → k ≤ 4 → shown ≡ facing → 1 * 2 ^ (k - 1) % 2 ^ 8 ≡ cond (eqb shown (opposite k)) (2 ^ (k - 1)) 0
-  wants_bit h g e = rw (e ∙ o) (wants_opposite k h g)
+module _ (k shown facing : ℕ) (o : facing ≡ opposite k) {b : Bool} (t : b ≡ eqb shown facing) where
+  pub wants_bit : 1 ≤ k → k ≤ 4 → b ≡ true → 1 * 2 ^ (k - 1) % 2 ^ 8 ≡ cond (eqb shown (opposite k)) (2 ^ (k - 1)) 0
+  wants_bit h g y = rw (← o, ← t, y) (one_bit k h g)
 
-  pub wants_none : shown ≢ facing → 0 ≡ cond (eqb shown (opposite k)) (2 ^ (k - 1)) 0
-  wants_none n = rw (ne_eqb shown (opposite k) (λ e. n (e ∙ sym o)))
+  pub wants_none : b ≡ false → 0 ≡ cond (eqb shown (opposite k)) (2 ^ (k - 1)) 0
+  wants_none n = rw (← o, ← t, n)
 
 pub requests_of : {x : ℕ} (w so n e : ℕ) → x ≡ set_of (eqb w 4) (eqb so 3) (eqb n 2) (eqb e 1) → (x < 16) × (in_set x ≡ requests w so n e)
 unfolding requests
@@ -91,13 +90,13 @@ module _ (s : Settings) (k : ℕ) (c : Canister) (d r : ℕ) (e : d ≡ spacing 
   unfolding lack
   lack_south h q = rw (q, e, h)
 
-  pub lack_north : k ≡ 3 → r ≡ c.b + s.length + d - s.width → r ≡ lack s k c
+  pub lack_north : k ≡ 3 → r ≡ c.b + (s.length + d) - s.width → r ≡ lack s k c
   unfolding lack
-  lack_north h q = rw (q, e, h)
+  lack_north h q = rw (q, e, h) (omega arith)
 
-  pub lack_east : k ≡ 4 → r ≡ c.a + s.length + d - s.width → r ≡ lack s k c
+  pub lack_east : k ≡ 4 → r ≡ c.a + (s.length + d) - s.width → r ≡ lack s k c
   unfolding lack
-  lack_east h q = rw (q, e, h)
+  lack_east h q = rw (q, e, h) (omega arith)
 
 pub lack_none : (s : Settings) (k : ℕ) (c : Canister) → k ≢ 1 → k ≢ 2 → k ≢ 3 → k ≢ 4 → 0 ≡ lack s k c
 unfolding lack
@@ -109,47 +108,22 @@ lack_none s (suc (suc (suc (suc zero)))) c w so n e = absurd (e refl)
 lack_none s (suc (suc (suc (suc (suc k))))) c w so n e = refl
 
 -- ---- the worst canister's: at first none, then one canister after another
-missing_zero : (s : Settings) (k : ℕ) (l : List Canister) → 0 ≡ missing s k (take 0 l)
+pub missing_zero : (s : Settings) (k : ℕ) → 0 ≡ missing s k []
 unfolding missing
-missing_zero s k l = refl
+missing_zero s k = refl
 
 missing_snoc : (s : Settings) (k : ℕ) (l : List Canister) (c : Canister) → missing s k (l ++ (c ∷ [])) ≡ max (missing s k l) (lack s k c)
 unfolding missing
 missing_snoc s k [] c = omega arith
 missing_snoc s k (x ∷ l) c = omega (arith, missing_snoc s k l c)
 
-module _ (s : Settings) (side : ℕ) (l : List Canister) (k w : ℕ) (e : w ≡ missing s side (take k l)) where
-  missing_step : (one r : ℕ) → k < length l → one ≡ lack s side (get_or l k zero_canister) → r ≡ max w one → r ≡ missing s side (take (k + 1) l)
-  missing_step one r h q m = rw (m, e, q, add-one, take-suc l k zero_canister h) (sym (missing_snoc s side (take k l) (get_or l k zero_canister)))
+-- what `max` of numbers gives
+greater : (a b : ℕ) → ord_max nat_cmp a b ≡ max a b
+greater a b = grind arith
 
-  missing_end : (n : ℕ) → n ≤ k → k ≤ n → w ≡ missing s side (take n l)
-  missing_end n lo hi = ended (λ (k : ℕ). missing s side (take k l)) lo hi e
-
--- ---- the loop over a tile's canisters, the first n of the list: k of them are seen
-pub record LackFound (s : Settings) (side n : ℕ) (l : List Canister) (worst k : ℕ) : Type 0 where
-  pub below : k ≤ n
-  pub few : n ≤ 16
-  pub items_length : n ≤ length l
-  pub found : worst ≡ missing s side (take k l)
-
-pub lacks_start : (s : Settings) (side n : ℕ) (l : List Canister) → n ≤ 16 → n ≤ length l → LackFound s side n l 0 0
-lacks_start s side n l h z = record { below = omega arith; few = h; items_length = z; found = missing_zero s side l }
-
-module _ {s : Settings} {side n : ℕ} {l : List Canister} {worst k : ℕ} (p : LackFound s side n l worst k) where
-  pub turn_in : k < n → k < 16
-  turn_in turn = omega (arith, p.few)
-
-  -- c is the one that is read
-  pub lacks_turn : k < n → {c : Canister} → c ≡ get_or l k zero_canister → {one r : ℕ} → one ≡ lack s side c → r ≡ max worst one → LackFound s side n l r (k + 1)
-  lacks_turn turn at {one} {r} q m = record {
-    below = omega arith;
-    few = p.few;
-    items_length = p.items_length;
-    found = missing_step s side l k worst p.found one r (omega (arith, p.items_length)) (q ∙ ap (lack s side) at) m;
-  }
-
-  pub lacks_all : n ≤ k → worst ≡ missing s side (take n l)
-  lacks_all over = missing_end s side l k worst p.found n over p.below
+pub missing_step : (s : Settings) (side : ℕ) (l : List Canister) (k : ℕ) {w one r : ℕ} → w ≡ missing s side (take k l) → k < length l → one ≡ lack s side (get_or l k zero_canister) → r ≡ ord_max nat_cmp w one
+    → r ≡ missing s side (take (k + 1) l)
+missing_step s side l k {w} {one} e h q m = rw (m, greater w one, e, q, add-one, take-suc l k zero_canister h) (sym (missing_snoc s side (take k l) (get_or l k zero_canister)))
 
 -- nothing is missing at the side none
 missing_none : (s : Settings) (l : List Canister) → missing s 0 l ≡ 0

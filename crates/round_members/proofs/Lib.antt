@@ -1,5 +1,5 @@
 pub mod Carrying
 pub mod Crossing
 pub mod Inserting
-pub mod Loops
 pub mod Partitioning
+pub mod Sized

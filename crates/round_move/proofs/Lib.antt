@@ -1,5 +1,4 @@
 pub mod Pass
-pub mod Sizes
 pub mod Turn
 pub mod Lift
 pub mod Loops

@@ -8,7 +8,7 @@ use Rattle.laws.specs.Define.{tab}
 use Rattle.laws.proofs.Tables.{tab_same}
 use Rattle.floor.specs.declared.Canister.{Canister}
 use Rattle.floor.specs.declared.Delivery.{Delivery}
-use Rattle.floor.specs.declared.Members.{Members}
+use Rattle.round_members.specs.declared.Members.{Members}
 use Rattle.floor.specs.Model.{numbers}
 use Rattle.floor.specs.Memory.{zero_canister}
 use Rattle.floor.specs.Calls.{delivery_of}

@@ -1,3 +1,2 @@
 pub mod Delivered
 pub mod Ways
-pub mod Loops

@@ -1,18 +1,18 @@
 -- A tile's way, as the code tells it.
-use mathlib.Core.Path.{◌≡◌, sym}
-use mathlib.Core.Logic.{◌≢◌}
+use mathlib.Core.Path.{◌≡◌}
+use mathlib.Core.Bool.{Bool, true, false}
+use lib.Dec.{eqb}
 use Prim.Native.Nat.{ℕ}
-use borrow.Author.Tests.{eq-eqb, ne_eqb}
 use Rattle.floor.specs.Sides.{opposite}
 use Rattle.floor.specs.Move.{way_of}
 
-module _ (next ahead facing : ℕ) (o : facing ≡ opposite ahead) where
-  -- the arrow faces the grant
-  pub goes : next ≡ facing → next ≡ way_of next ahead
+-- b: whether the arrow faces the grant
+module _ (next ahead facing : ℕ) (o : facing ≡ opposite ahead) {b : Bool} (t : b ≡ eqb next facing) where
+  pub goes : b ≡ true → next ≡ way_of next ahead
   unfolding way_of
-  goes e = rw (sym o, eq-eqb next facing e)
+  goes e = rw (← o, ← t, e)
 
   -- another arrow
-  pub stays : next ≢ facing → 0 ≡ way_of next ahead
+  pub stays : b ≡ false → 0 ≡ way_of next ahead
   unfolding way_of
-  stays n = rw (sym o, ne_eqb next facing n)
+  stays e = rw (← o, ← t, e)

@@ -1,4 +1,3 @@
 pub mod Passes
 pub mod RouteLaws
 pub mod RouteFloor
-pub mod Loops

@@ -6,7 +6,8 @@ use Prim.Native.Nat.{ℕ, zero, suc, ◌+◌, ◌-◌, ◌%◌, ◌≤◌, ◌<�
 use native.Mathlib.Omega.{arith}
 use native.Mathlib.Decide.{dec_le, ℕ_discrete}
 use lib.Dec.{leb, ltb}
-use lib.ListN.{length, get_or, set, replicate, length-set, get_or-replicate}
+use lib.ListN.{length, get_or, set, take, replicate, length-set, get_or-replicate}
+use Rattle.std.proofs.lemmas.List.{get_or-take, length-take-le}
 use lib.Seq.{get_or-set_same, get_or-set_other}
 use borrow.Author.Tests.{ltb-true, lt-ltb, le-ltb}
 use Rattle.laws.proofs.Tables.{upto_turn, rest_turn, tab_off}
@@ -59,8 +60,22 @@ module _ {A : Type 0} (read : A → ℕ) (x : A) where
   shows_near s g z d k t h few p e = rw e (p (neighbour s k t) (omega (arith, neighbour_le s k t h)))
 
 -- what is read there stands within the array
+pub near_in : (s : Settings) (k t : ℕ) {u : ℕ} → t < total s → total s ≤ 64 → u ≡ neighbour s k t → u ≤ 64
+near_in s k t h few e = omega (arith, e, neighbour_le s k t h)
+
 pub near_read : (s : Settings) (k t : ℕ) {u : ℕ} → t < total s → total s ≤ 64 → u ≡ neighbour s k t → u < 65
 near_read s k t h few e = omega (arith, e, neighbour_le s k t h)
+
+-- ---- a loop over the first n of an array: its elements are the array's, and it ends behind them
+module _ {A : Type 0} (l : List A) (n : ℕ) (m : n ≤ length l) where
+  pub front_in : {t : ℕ} → t < length (take n l) → t < n
+  front_in h = omega (arith, length-take-le n l m)
+
+  pub front_read : (t : ℕ) (z : A) → t < length (take n l) → get_or (take n l) t z ≡ get_or l t z
+  front_read t z h = get_or-take n l t z (front_in h)
+
+  pub front_end : (t : ℕ) → length (take n l) ≤ t → t ≤ length (take n l) → t ≡ n
+  front_end t lo hi = omega (arith, length-take-le n l m)
 
 -- ---- a loop that makes the tiles anew, one after another
 module _ (g : ℕ → Tile) (old : List Tile) where

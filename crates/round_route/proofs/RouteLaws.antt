@@ -2,10 +2,9 @@
 use mathlib.Core.Path.{◌≡◌, refl, sym, ap, ◌∙◌}
 use mathlib.Core.Bool.{Bool, true, false, not, ◌||◌}
 use mathlib.Core.List.{List}
-use Prim.Native.Nat.{ℕ, zero, suc, ◌+◌, ◌≤◌, ◌<◌}
-use native.Mathlib.Omega.{arith}
+use Prim.Native.Nat.{ℕ, zero, suc, ◌≤◌, ◌<◌}
 use lib.Dec.{eqb}
-use lib.ListN.{get_or, set}
+use lib.ListN.{get_or}
 use Rattle.laws.specs.Define.{bit}
 use Rattle.laws.specs.InternalFilled.{Upto}
 use Rattle.floor.specs.declared.Settings.{Settings}
@@ -14,8 +13,8 @@ use Rattle.floor.specs.Settings.{total, is_hopper}
 use Rattle.floor.specs.Grid.{neighbour}
 use Rattle.floor.specs.Memory.{zero_tile}
 use Rattle.floor.specs.Route.{Heading, nearest, lies_at, kept, onward, heading_of}
-use Rattle.round_route.proofs.Passes.{shows_near, near_read, redone_turn, redone_end}
-use Rattle.round_route.specs.InternalRouted.{Redone, within, distance_in, headed, routed_tile, routed_at}
+use Rattle.round_route.proofs.Passes.{shows_near}
+use Rattle.round_route.specs.InternalRouted.{within, distance_in, headed, routed_tile, routed_at}
 
 -- ---- the distance beyond a side, side by side
 module _ (w s n e d : ℕ) where
@@ -65,27 +64,14 @@ module _ (s : Settings) (t : ℕ) (h : Tile) (w so n e : ℕ) (x : Bool) (p : x 
   unfolding routed_tile heading_of is_hopper
   tile_on_lem q near d k e o = rw (sym p, q, sym e) (ap (headed h) o)
 
--- ---- the pass: a tile of the floor, its neighbours, and what was read of them in the old distances d
-module _ (s : Settings) (t all : ℕ) (a : all ≡ total s) (h : t < all) where
-  pub tile_in_lem : t < total s
-  tile_in_lem = omega arith
-
-  module _ (few : total s ≤ 64) where
-    pub near_in : (k u : ℕ) → u ≡ neighbour s k t → u < 65
-    near_in k u e = near_read s k t tile_in_lem few e
-
-    pub routed_read : (ts : List Tile) (d : List ℕ) → Upto 65 (within (total s) (distance_in ts) 255) 0 d → (r : Tile) (w so n e : ℕ)
-        → w ≡ neighbour s 1 t → so ≡ neighbour s 2 t → n ≡ neighbour s 3 t → e ≡ neighbour s 4 t
-        → r ≡ routed_tile s t (get_or ts t zero_tile) (get_or d w 0) (get_or d so 0) (get_or d n 0) (get_or d e 0) → r ≡ routed_at s ts t
-    unfolding routed_at
-    routed_read ts d u r w so n e p q o i v =
-        v ∙ rw (near 1 p, near 2 q, near 3 o, near 4 i)
-      where
-        near : (k : ℕ) {x : ℕ} → x ≡ neighbour s k t → get_or d x 0 ≡ within (total s) (distance_in ts) 255 (neighbour s k t)
-        near k e = shows_near (λ n. n) 0 s (distance_in ts) 255 d k t tile_in_lem few u e
-
-pub routed_turn : (s : Settings) (ts out : List Tile) (t : ℕ) (r : Tile) → t < 64 → Redone t (routed_at s ts) ts out → r ≡ routed_at s ts t → Redone (t + 1) (routed_at s ts) ts (set out t r)
-routed_turn s ts = redone_turn (routed_at s ts) ts
-
-pub routed_end : (s : Settings) (ts out : List Tile) (t all : ℕ) → all ≡ total s → all ≤ t → t ≤ all → Redone t (routed_at s ts) ts out → Redone (total s) (routed_at s ts) ts out
-routed_end s ts out t all a lo hi r = redone_end (routed_at s ts) ts out t (total s) (omega arith) r
+-- ---- the pass: its neighbours, and what was read of them in the old distances d
+module _ (s : Settings) (ts : List Tile) (t : ℕ) (h : t < total s) (few : total s ≤ 64) where
+  pub routed_read : (d : List ℕ) → Upto 65 (within (total s) (distance_in ts) 255) 0 d → (x r : Tile) (w so n e : ℕ) → x ≡ get_or ts t zero_tile
+      → w ≡ get_or d (neighbour s 1 t) 0 → so ≡ get_or d (neighbour s 2 t) 0 → n ≡ get_or d (neighbour s 3 t) 0 → e ≡ get_or d (neighbour s 4 t) 0
+      → r ≡ routed_tile s t x w so n e → r ≡ routed_at s ts t
+  unfolding routed_at
+  routed_read d u x r w so n e i p q o j v =
+      v ∙ rw (i, p ∙ near 1, q ∙ near 2, o ∙ near 3, j ∙ near 4)
+    where
+      near : (k : ℕ) → get_or d (neighbour s k t) 0 ≡ within (total s) (distance_in ts) 255 (neighbour s k t)
+      near k = shows_near (λ n. n) 0 s (distance_in ts) 255 d k t h few u refl

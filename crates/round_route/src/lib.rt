@@ -1,14 +1,50 @@
 // Route, the first step of a round: "Distance = 1 + the least old distance among the neighbours".
 #![tactic(auto)]
 
-ghost use Rattle.std.specs.Prelude.{◌≡◌, ◌≤◌};
+ghost use Rattle.std.specs.Prelude.{◌≡◌, ◌≤◌, ◌<◌, slice_index_or};
 ghost use Rattle.laws.specs.InternalFilled.{Upto};
 ghost use Rattle.floor.specs.Settings.{total, Ranged};
+ghost use Rattle.floor.specs.Grid.{neighbour};
 ghost use Rattle.floor.specs.Route as R;
 ghost use Rattle.round_route.specs.InternalRouted.{Redone, heading, within, distance_in, routed_tile, routed_at};
 
-use floor::{DISTANCE_NONE, EAST, NORTH, SOUTH, Settings, Side, Tile, WEST};
+use floor::{DISTANCE_NONE, Settings, Side, Tile};
 use sets::holds;
+
+// What the four neighbours of a tile show.
+#[derive(Clone, Copy)]
+pub struct Around<T> {
+    pub west: T,
+    pub south: T,
+    pub north: T,
+    pub east: T,
+}
+
+// What a tile shows, by its number; the last place of the table is that of no tile.
+fn at<T: Copy>(table: &[T; 65], u: usize) -> T
+    requires { u ≤ 64 }
+    ensures { (none : T) → result ≡ slice_index_or table.now u none }
+{
+    table[u]
+}
+
+impl<T: Copy> Around<T> {
+    // What the neighbours of tile t show.
+    pub fn of(s: Settings, t: usize, table: &[T; 65]) -> Around<T>
+        requires { Ranged s × (t < total s) }
+        ensures west { (none : T) → result.west ≡ slice_index_or table.now (neighbour s 1 t) none }
+        ensures south { (none : T) → result.south ≡ slice_index_or table.now (neighbour s 2 t) none }
+        ensures north { (none : T) → result.north ≡ slice_index_or table.now (neighbour s 3 t) none }
+        ensures east { (none : T) → result.east ≡ slice_index_or table.now (neighbour s 4 t) none }
+    {
+        Around {
+            west: at(table, Side::WEST.neighbour(s, t)),
+            south: at(table, Side::SOUTH.neighbour(s, t)),
+            north: at(table, Side::NORTH.neighbour(s, t)),
+            east: at(table, Side::EAST.neighbour(s, t)),
+        }
+    }
+}
 
 // A distance, and the side that it was read on.
 #[derive(Clone, Copy)]
@@ -17,138 +53,118 @@ pub struct Heading {
     pub side: Side,
 }
 
-// The nearer of two; the earlier one where they are as near.
-fn nearer(b: Heading, distance: u8, side: Side) -> Heading
-    ensures { heading result ≡ R.nearer (heading b) distance side.code }
-{
-    if distance < b.distance {
-        return Heading {
-            distance: distance,
-            side: side,
-        };
-    }
-    b
-}
-
-// The neighbour of least old distance. Ties: west, south, north, east.
-fn nearest(west: u8, south: u8, north: u8, east: u8) -> Heading
-    ensures { heading result ≡ R.nearest west south north east }
-{
-    let first = Heading {
-        distance: west,
-        side: Side::WEST,
-    };
-    nearer(
-        nearer(nearer(first, south, Side::SOUTH), north, Side::NORTH),
-        east,
-        Side::EAST,
-    )
-}
-
-// Whether the neighbour on that side is at that distance; on side none there is no neighbour.
-fn lies_at(west: u8, south: u8, north: u8, east: u8, distance: u8, side: Side) -> bool
-    ensures { result ≡ R.lies_at west south north east distance side.code }
-{
-    let k = side.code;
-    match k {
-        WEST => west == distance,
-        SOUTH => south == distance,
-        NORTH => north == distance,
-        EAST => east == distance,
-        _ => false,
-    }
-}
-
-// The nearest neighbour: the one that the present arrow, own, faces if it is among the nearest.
-fn kept(own: Side, west: u8, south: u8, north: u8, east: u8) -> Heading
-    ensures { heading result ≡ R.kept own.code west south north east }
-{
-    let b = nearest(west, south, north, east);
-    if lies_at(west, south, north, east, b.distance, own) {
-        return Heading {
-            distance: b.distance,
-            side: own,
-        };
-    }
-    b
-}
-
-// One more than the least; at the number of tiles or more it is none. None, 255, is tested first: one more is no byte.
-fn onward(all: u8, b: Heading) -> Heading
-    requires { all ≤ 64 }
-    ensures { heading result ≡ R.onward all (heading b) }
-{
-    let least = b.distance;
-    if least < DISTANCE_NONE {
-        let next = least + 1;
-        if next < all {
-            let side = b.side;
-            return Heading {
-                distance: next,
-                side: side,
-            };
-        }
-    }
-    Heading {
+impl Heading {
+    // No arrow.
+    const NONE: Heading = Heading {
         distance: DISTANCE_NONE,
         side: Side::NONE,
+    };
+
+    // The nearer of two; the earlier one where they are as near.
+    fn nearer(self, distance: u8, side: Side) -> Heading
+        ensures { heading result ≡ R.nearer (heading self) distance side.code }
+    {
+        if distance < self.distance {
+            return Heading { distance, side };
+        }
+        self
+    }
+
+    // One more than the least; at the number of tiles or more it is none. None, 255, is tested first: one more is no
+    // byte.
+    fn onward(self, all: u8) -> Heading
+        requires { all ≤ 64 }
+        ensures { heading result ≡ R.onward all (heading self) }
+    {
+        if self.distance < DISTANCE_NONE && self.distance + 1 < all {
+            return Heading {
+                distance: self.distance + 1,
+                ..self
+            };
+        }
+        Heading::NONE
+    }
+}
+
+impl Around<u8> {
+    // The neighbour of least old distance. Ties: west, south, north, east.
+    fn nearest(self) -> Heading
+        ensures { heading result ≡ R.nearest self.west self.south self.north self.east }
+    {
+        let first = Heading {
+            distance: self.west,
+            side: Side::WEST,
+        };
+        first
+            .nearer(self.south, Side::SOUTH)
+            .nearer(self.north, Side::NORTH)
+            .nearer(self.east, Side::EAST)
+    }
+
+    // Whether the neighbour on that side is at that distance; on side none there is no neighbour.
+    fn lies_at(self, distance: u8, side: Side) -> bool
+        ensures { result ≡ R.lies_at self.west self.south self.north self.east distance side.code }
+    {
+        match side {
+            Side::WEST => self.west == distance,
+            Side::SOUTH => self.south == distance,
+            Side::NORTH => self.north == distance,
+            Side::EAST => self.east == distance,
+            _ => false,
+        }
+    }
+
+    // The nearest neighbour: the one that the present arrow, own, faces if it is among the nearest.
+    fn kept(self, own: Side) -> Heading
+        ensures { heading result ≡ R.kept own.code self.west self.south self.north self.east }
+    {
+        let near = self.nearest();
+        if self.lies_at(near.distance, own) {
+            return Heading { side: own, ..near };
+        }
+        near
     }
 }
 
 // One tile, from its own old arrow and its four neighbours' old distances. A hopper and a stopped tile stay as they are.
-fn route_tile(s: Settings, t: usize, tile: Tile, west: u8, south: u8, north: u8, east: u8) -> Tile
+fn route_tile(s: Settings, t: usize, tile: Tile, around: Around<u8>) -> Tile
     requires { total s ≤ 64 }
-    ensures { result ≡ routed_tile s t tile west south north east }
+    ensures { result ≡ routed_tile s t tile around.west around.south around.north around.east }
 {
-    let hopper = holds(s.hoppers, t);
-    let still = hopper | (tile.running != 1);
-    if still {
+    if holds(s.hoppers, t) | (tile.running != 1) {
         return tile;
     }
     // C in a byte, for [5]
     let all = s.columns * s.rows;
-    let own = tile.next;
-    let near = kept(own, west, south, north, east);
-    let b = onward(all, near);
-    let next = b.side;
-    let token = tile.token;
+    let Heading { distance, side } = around.kept(tile.next).onward(all);
     Tile {
-        running: tile.running,
-        distance: b.distance,
-        next: next,
-        token: token,
-        count: tile.count,
+        distance,
+        next: side,
+        ..tile
     }
 }
 
 // The tiles' distances; none at the number of no tile.
-fn distances(s: Settings, tiles: [Tile; 64]) -> [u8; 65]
+fn distances(s: Settings, tiles: &[Tile; 64]) -> [u8; 65]
     requires { total s ≤ 64 }
-    ensures { Upto 65 (within (total s) (distance_in tiles) 255) 0 result }
+    ensures { Upto 65 (within (total s) (distance_in tiles.now) 255) 0 result }
 {
-    let all = s.tile_count();
     let mut d = [DISTANCE_NONE; 65];
-    for t in 0usize..all {
-        let tile = tiles[t];
+    for (t, tile) in tiles[..s.tile_count()].iter().enumerate() {
         d[t] = tile.distance;
     }
     d
 }
 
 // All tiles together: the neighbours' distances are the old ones.
-pub fn route_pass(s: Settings, tiles: [Tile; 64]) -> [Tile; 64]
+pub fn route_pass(s: Settings, tiles: &[Tile; 64]) -> [Tile; 64]
     requires { Ranged s }
-    ensures { Redone (total s) (routed_at s tiles) tiles result }
+    ensures { Redone (total s) (routed_at s tiles.now) tiles.now result }
 {
-    let all = s.tile_count();
     let d = distances(s, tiles);
-    let mut out = tiles;
-    for t in 0usize..all {
-        let west = d[Side::WEST.neighbour(s, t)];
-        let south = d[Side::SOUTH.neighbour(s, t)];
-        let north = d[Side::NORTH.neighbour(s, t)];
-        let east = d[Side::EAST.neighbour(s, t)];
-        out[t] = route_tile(s, t, tiles[t], west, south, north, east);
+    let mut out = *tiles;
+    for (t, tile) in tiles[..s.tile_count()].iter().enumerate() {
+        out[t] = route_tile(s, t, *tile, Around::of(s, t, &d));
     }
     out
 }

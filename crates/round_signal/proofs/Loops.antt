@@ -1,5 +1,5 @@
--- What holds at the heads of Signal's loops: over the tiles; over the tiles again, why each stood; what each shows. The first is a loop of
--- `run_round`, so that its turns are laws here, one for each way out of it.
+-- What holds at the heads of Signal's loops: over the tiles; over the tiles again, why each stood. The first is a loop of
+-- `signal_pass` of round_move, so that its turns are laws here, one for each way out of it.
 use mathlib.Core.Path.{◌≡◌, refl, ap, ◌∙◌, subst, fun_ext}
 use mathlib.Core.Logic.{◌≢◌}
 use mathlib.Core.Bool.{Bool}
@@ -7,7 +7,7 @@ use mathlib.Core.List.{List}
 use Prim.Native.Nat.{ℕ, ◌+◌, ◌*◌, ◌^◌, ◌≤◌, ◌<◌}
 use native.Mathlib.Omega.{arith}
 use lib.Dec.{eqb}
-use lib.ListN.{length, take, drop, get_or, set, replicate, length-drop}
+use lib.ListN.{length, take, drop, get_or, set, replicate}
 use Rattle.laws.specs.InternalFilled.{Filled}
 use Rattle.laws.proofs.Tables.{filled_none, filled_turn, filled_skip, filled_all}
 use Rattle.floor.specs.declared.Canister.{Canister}
@@ -18,10 +18,10 @@ use Rattle.floor.specs.Settings.{total, Ranged}
 use Rattle.floor.specs.Grid.{around}
 use Rattle.floor.specs.Memory.{zero_tile}
 use Rattle.floor.specs.Sides.{in_set, following, chosen}
-use Rattle.floor.specs.Signal.{Signal, requests, signal_by}
+use Rattle.floor.specs.Signal.{Signal, requests, missing, signal_by}
 use Rattle.round_route.specs.InternalRouted.{Redone}
 use Rattle.round_route.proofs.Passes.{redone_none, redone_turn, redone_end}
-use Rattle.round_grants.proofs.SignalLaws.{LackFound, lacks_start, lacks_all, signal_stopped, signal_none, signal_grants, signal_stays}
+use Rattle.round_grants.proofs.SignalLaws.{signal_stopped, signal_none, signal_grants, signal_stays}
 use Rattle.round_signal.specs.InternalSignalling as M
 use Rattle.round_signal.proofs.FloorSignals as F
 use Rattle.round_signal.proofs.PassLaws.{signal_read, filled_within}
@@ -45,23 +45,10 @@ pub record Signalled (s : Settings) (tiles : List Tile) (canisters : List Canist
   pub turned : Filled 65 (F.turn_side s tiles canisters) M.no_side t turns
   pub lacking : Filled 65 (F.lack_at s tiles canisters) 0 t lacks
 
-pub record Reasoned (s : Settings) (tiles : List Tile) (all : ℕ) (turns : List Side) (lacks reasons missing : List ℕ) (i : ℕ) : Type 0 where
-  pub below : i ≤ all
-  pub whole : all ≡ total s
-  pub ranged : Ranged s
-  pub tiles_length : length tiles ≡ 64
-  pub turns_length : length turns ≡ 65
-  pub lacks_length : length lacks ≡ 65
-  pub slight : (u : ℕ) → get_or lacks u 0 < 2 ^ 16
-  pub stood : Filled 64 (M.reason_by s tiles (M.side_in turns) (λ u. get_or lacks u 0)) 0 i reasons
-  pub lacking : Filled 64 (M.lack_by s tiles (M.side_in turns) (λ u. get_or lacks u 0)) 0 i missing
-
-pub record Shown (tiles : List Tile) (all : ℕ) (d : List Side) (t : ℕ) : Type 0 where
-  pub below : t ≤ all
-  pub few : all ≤ 64
-  pub tiles_length : length tiles ≡ 64
-  pub shows_length : length d ≡ 65
-  pub shown : M.ShownUpto tiles t d
+-- why each of the first i tiles stood, and the millimetres missing beside that
+abbrev pub Reasoned : Settings → List Tile → List Side → List ℕ → List ℕ → List ℕ → ℕ → Type 0
+Reasoned s tiles turns lacks reasons missing i =
+    Filled 64 (M.reason_by s tiles (M.side_in turns) (λ u. get_or lacks u 0)) 0 i reasons × Filled 64 (M.lack_by s tiles (M.side_in turns) (λ u. get_or lacks u 0)) 0 i missing
 
 -- ---- the tiles
 pub signalled_start : (s : Settings) (tiles : List Tile) (canisters : List Canister) → Asked s tiles canisters → {all : ℕ} → all ≡ total s
@@ -96,9 +83,6 @@ module _ {s : Settings} {tiles : List Tile} {canisters : List Canister} {all : �
 
     pub own_few : tile.count ≤ 16
     own_few = p.asked.roomy t on
-
-    pub lacks_first : (side : ℕ) → LackFound s side tile.count (drop (16 * t) canisters) 0 0
-    lacks_first side = lacks_start s side tile.count (drop (16 * t) canisters) own_few (rw length-drop (omega (arith, here, own_few, p.asked.canisters_length)))
 
     -- ---- show: what the tiles show; each way out of the loop gives the tile's signal, x
     module _ (show : List Side) (shows : M.ShownUpto tiles (total s) show) where
@@ -147,16 +131,16 @@ module _ {s : Settings} {tiles : List Tile} {canisters : List Canister} {all : �
             (λ u. filled_skip 65 (F.turn_side s tiles canisters) M.no_side t turns u p.turned) no_lack
 
         -- n is missing there
-        module _ (some : k.code ≢ 0) {n j : ℕ} (found : LackFound s k.code tile.count (drop (16 * t) canisters) n j) (over : tile.count ≤ j) where
+        module _ (some : k.code ≢ 0) {n : ℕ} (found : n ≡ missing s k.code own) where
           pub grants_turn : (after : ℕ) → n ≡ 0 → after ≡ following (in_set sides) k.code → v ≡ M.tokened tile after
               → Signalled s tiles canisters all (set out t v) (set grants t k.code) (set turns t k) lacks (t + 1)
           grants_turn after z f w =
-              next _ (signal_grants s tile.running tile.token.code own wants r sides q k.code e some n (lacks_all found over) after z f) w
+              next _ (signal_grants s tile.running tile.token.code own wants r sides q k.code e some n found after z f) w
               (λ g. filled_turn 64 (F.grant_at s tiles canisters) 0 t grants k.code here g p.granted) (turn_to k) no_lack
 
           pub waits_turn : n ≢ 0 → v ≡ M.tokened tile k.code → Signalled s tiles canisters all (set out t v) grants (set turns t k) (set lacks t n) (t + 1)
           waits_turn z w =
-              next _ (signal_stays s tile.running tile.token.code own wants r sides q k.code e some n (lacks_all found over) z) w no_grant (turn_to k)
+              next _ (signal_stays s tile.running tile.token.code own wants r sides q k.code e some n found z) w no_grant (turn_to k)
               (λ l. filled_turn 65 (F.lack_at s tiles canisters) 0 t lacks n (omega (arith, here)) l p.lacking)
 
   -- the end of the pass

@@ -24,9 +24,9 @@ use Rattle.round_signal.specs.InternalSignalling.{no_side, side_in, shown_in, Sh
 use Rattle.round_signal.proofs.FloorSignals.{signal_at_lem}
 
 -- ---- the sides that want, from what the neighbours show
-pub wants_near : (s : Settings) (t : ℕ) (show : List Side) {p : ℕ → Bool} {w so n e : ℕ} → w ≡ neighbour s 1 t → so ≡ neighbour s 2 t → n ≡ neighbour s 3 t → e ≡ neighbour s 4 t
-    → p ≡ requests (side_in show w) (side_in show so) (side_in show n) (side_in show e) → p ≡ around s (side_in show) t requests
-wants_near s t show ew es en ee q = q ∙ (λ i. requests (side_in show (ew i)) (side_in show (es i)) (side_in show (en i)) (side_in show (ee i)))
+pub wants_around : (s : Settings) (t : ℕ) (show : List Side) {p : ℕ → Bool} {w so n e : Side} → w ≡ get_or show (neighbour s 1 t) no_side → so ≡ get_or show (neighbour s 2 t) no_side
+    → n ≡ get_or show (neighbour s 3 t) no_side → e ≡ get_or show (neighbour s 4 t) no_side → p ≡ requests w.code so.code n.code e.code → p ≡ around s (side_in show) t requests
+wants_around s t show ew es en ee q = q ∙ (λ i. requests (ew i).code (es i).code (en i).code (ee i).code)
 
 -- ---- the tile's signal from what all tiles show and from its block
 module _ (s : Settings) (ts : List Tile) (cs : List Canister) (t : ℕ) where

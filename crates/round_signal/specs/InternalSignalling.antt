@@ -1,9 +1,11 @@
 -- Signal in memory: what the tiles show, a tile with its new token, and why each tile stood.
-use Rattle.std.specs.Prelude.{◌≡◌, true, cond, not, List, [], ◌∷◌, ℕ, ◌<◌, ltb, eqb, get_or}
+use Rattle.std.specs.Prelude.{◌≡◌, true, cond, not, List, [], ◌∷◌, ℕ, ◌<◌, ltb, eqb, get_or, Option, Some, None}
 use Rattle.laws.specs.Define.{refusal}
 use Rattle.floor.specs.declared.Settings.{Settings}
 use Rattle.floor.specs.declared.Side.{Side}
 use Rattle.floor.specs.declared.Tile.{Tile}
+use Rattle.floor.specs.declared.reason.Reason.{Reason}
+use Rattle.floor.specs.Numbers.{reason_number}
 use Rattle.floor.specs.Sides.{opposite}
 use Rattle.floor.specs.Grid.{neighbour}
 use Rattle.floor.specs.Memory.{zero_tile}
@@ -31,6 +33,11 @@ tokened h k = record { running = h.running; distance = h.distance; next = h.next
 -- why a tile stood, as far as it tells by itself, else 0; and from the turn and the millimetres missing of the tile that its arrow leads to
 unfoldable pub own_reason : Tile → ℕ
 own_reason h = refusal ((not (eqb h.running 1), 1) ∷ (eqb h.count 0, 2) ∷ (eqb h.next.code 0, 3) ∷ [])
+
+-- the number of a reason that a tile tells by itself, 0 where it tells none
+abbrev pub told : Option Reason → ℕ
+told None = 0
+told (Some why) = reason_number why
 
 unfoldable pub ahead_reason : ℕ → ℕ → ℕ → ℕ
 ahead_reason next turn lack = refusal ((not (eqb next (opposite turn)), 4) ∷ (ltb 0 lack, 5) ∷ (true, 6) ∷ [])

@@ -34,7 +34,7 @@ pub fn full(n: u8) -> u64
     ensures { result ≡ 2 ^ n - 1 }
 {
     if n == 64 {
-        return 18446744073709551615;
+        return u64::MAX;
     }
     (1 << n) - 1
 }
@@ -64,7 +64,7 @@ pub fn holds(s: u64, t: usize) -> bool
 pub fn size(s: u64) -> u8
     ensures { result ≡ length (bits_below s 64) }
 {
-    u64::count_ones(s) as u8
+    s.count_ones() as u8
 }
 
 // Whether some tile is in both sets.
@@ -85,7 +85,7 @@ pub fn minus(s: u64, other: u64) -> u64
 pub fn lowest(s: u64) -> u8
     ensures { result ≡ get_or (bits_below s 64) 0 64 }
 {
-    u64::trailing_zeros(s) as u8
+    s.trailing_zeros() as u8
 }
 
 // The set of one tile; a number that is no tile's gives the empty set.

@@ -1,3 +1,4 @@
+pub mod Faults
 pub mod Rate
 pub mod Window
 pub mod Lists

@@ -2,15 +2,28 @@
 #![tactic(auto)]
 
 ghost use Rattle.std.specs.Prelude.{◌≡◌, ◌≤◌};
+ghost use Rattle.throughput.specs.Faults.{fault_number};
 ghost use Rattle.throughput.specs.Rate.{rate_of, rate_sound, deliveries_of};
 ghost use Rattle.throughput.specs.Lists.{zero_throughput};
 ghost use Rattle.throughput.specs.Window.{rates_sound, rates_in_order, record_sound, lower, higher, closed_by, feed_answer, values_of, feed_values};
 
-// "A record is 30 if …"
-pub const UNSOUND: u8 = 30;
+// Why a record or a count is refused, by the papers' numbers. It stands here, because this crate knows no floor.
+#[derive(Clone, Copy, PartialEq, Eq)]
+pub enum Fault {
+    // "A record is 30 if …"
+    Unsound = 30,
 
-// "41, a count above 4, checked after 30"
-pub const COUNT_TOO_HIGH: u8 = 41;
+    // "41, a count above 4, checked after 30"
+    CountTooHigh = 41,
+}
+
+impl From<Fault> for u8 {
+    ghost from_gives = { λ why n. n ≡ fault_number why };
+
+    fn from(why: Fault) -> u8 {
+        why as u8
+    }
+}
 
 // The last, least and greatest closed rates; the open window's rounds and deliveries; whether a window has closed: 0 for no,
 // any other byte for yes.
@@ -25,7 +38,8 @@ pub struct Throughput {
     pub closed: u8,
 }
 
-// What feeding a round tells: the open window's rounds so far, or the closed window's rate, or the refusal's number.
+// What feeding a round tells: the open window's rounds so far, or the closed window's rate, or the refusal's number, which
+// the definition `feed_answer` holds.
 #[derive(Clone, Copy)]
 pub enum Fed {
     Open(u16),
@@ -84,66 +98,39 @@ fn rate_sound(x: f64) -> bool
     false
 }
 
-// Whether each of the three is a count's rate.
+// Whether each of the three is a count's rate. Nested from the right, as the definition is: plainer to prove.
 fn rates_sound(last: f64, least: f64, greatest: f64) -> bool
     ensures { result ≡ rates_sound last least greatest }
 {
-    let a = rate_sound(last);
-    if !a {
-        return false;
-    }
-    let b = rate_sound(least);
-    if !b {
-        return false;
-    }
-    rate_sound(greatest)
+    rate_sound(last) && (rate_sound(least) && rate_sound(greatest))
 }
 
 // Whether they stand in order, and are 0 before the first close.
 fn rates_in_order(last: f64, least: f64, greatest: f64, closed: u8) -> bool
     ensures { result ≡ rates_in_order last least greatest closed }
 {
-    if least <= last {
-        if last <= greatest {
-            if closed != 0 {
-                return true;
-            }
-            if last == 0.0 {
-                if least == 0.0 {
-                    return greatest == 0.0;
-                }
-            }
-        }
-    }
-    false
+    least <= last
+        && (last <= greatest && (closed != 0 || (last == 0.0 && (least == 0.0 && greatest == 0.0))))
 }
 
 // Whether a record is sound.
 fn sound(t: Throughput) -> bool
     ensures { result ≡ record_sound t }
 {
-    let rounds = t.rounds;
-    if rounds >= 256 {
-        return false;
-    }
-    if t.deliveries > 4 * rounds {
-        return false;
-    }
-    let a = rates_sound(t.last, t.least, t.greatest);
-    if !a {
-        return false;
-    }
-    rates_in_order(t.last, t.least, t.greatest, t.closed)
+    t.rounds < 256
+        && (t.deliveries <= 4 * t.rounds
+            && (rates_sound(t.last, t.least, t.greatest)
+                && rates_in_order(t.last, t.least, t.greatest, t.closed)))
 }
 
-// The lesser of two rates.
+// The lesser of two rates, by `<`, as `lower` says; `min` of std may give either zero.
 fn lesser(a: f64, b: f64) -> f64
     ensures { result ≡ lower a b }
 {
     if a < b { a } else { b }
 }
 
-// The greater of two rates.
+// The greater of two rates, by `<`, as `higher` says.
 fn greater(a: f64, b: f64) -> f64
     ensures { result ≡ higher a b }
 {
@@ -164,12 +151,10 @@ fn close(t: Throughput, x: f64) -> Throughput
             closed: 1,
         };
     }
-    let least = lesser(t.least, x);
-    let greatest = greater(t.greatest, x);
     Throughput {
         last: x,
-        least: least,
-        greatest: greatest,
+        least: lesser(t.least, x),
+        greatest: greater(t.greatest, x),
         rounds: 0,
         deliveries: 0,
         closed: 1,
@@ -183,14 +168,14 @@ pub fn feed(throughput: Throughput, count: u32) -> Feeding
     let good = sound(throughput);
     if !good {
         return Feeding {
-            throughput: throughput,
-            fed: Fed::Refused(UNSOUND),
+            throughput,
+            fed: Fed::Refused(u8::from(Fault::Unsound)),
         };
     }
     if count > 4 {
         return Feeding {
-            throughput: throughput,
-            fed: Fed::Refused(COUNT_TOO_HIGH),
+            throughput,
+            fed: Fed::Refused(u8::from(Fault::CountTooHigh)),
         };
     }
     let deliveries = throughput.deliveries + count as u16;
@@ -199,20 +184,16 @@ pub fn feed(throughput: Throughput, count: u32) -> Feeding
         let rounds = before + 1;
         return Feeding {
             throughput: Throughput {
-                last: throughput.last,
-                least: throughput.least,
-                greatest: throughput.greatest,
-                rounds: rounds,
-                deliveries: deliveries,
-                closed: throughput.closed,
+                rounds,
+                deliveries,
+                ..throughput
             },
             fed: Fed::Open(rounds),
         };
     }
     let x = rate(deliveries);
-    let closed = close(throughput, x);
     Feeding {
-        throughput: closed,
+        throughput: close(throughput, x),
         fed: Fed::Closed(x),
     }
 }
@@ -221,25 +202,24 @@ pub fn feed(throughput: Throughput, count: u32) -> Feeding
 fn values_of(feeding: Feeding) -> FedValues
     ensures { result ≡ values_of feeding }
 {
-    let throughput = feeding.throughput;
-    let fed = feeding.fed;
+    let Feeding { throughput, fed } = feeding;
     match fed {
         Fed::Open(k) => FedValues {
-            throughput: throughput,
+            throughput,
             rate: 0.0,
             rounds: k,
             kind: FED_OPEN,
             refusal: 0,
         },
         Fed::Closed(x) => FedValues {
-            throughput: throughput,
+            throughput,
             rate: x,
             rounds: 0,
             kind: FED_CLOSED,
             refusal: 0,
         },
         Fed::Refused(n) => FedValues {
-            throughput: throughput,
+            throughput,
             rate: 0.0,
             rounds: 0,
             kind: FED_REFUSED,
@@ -252,8 +232,7 @@ fn values_of(feeding: Feeding) -> FedValues
 pub fn feed_values(throughput: Throughput, count: u32) -> FedValues
     ensures { result ≡ feed_values throughput count }
 {
-    let feeding = feed(throughput, count);
-    values_of(feeding)
+    values_of(feed(throughput, count))
 }
 
 // The all-zero record: no window has closed, and the open one has no rounds.
@@ -274,10 +253,8 @@ pub fn empty() -> Throughput
 pub fn deliveries_of(rate: f64) -> u16
     ensures { result ≡ deliveries_of rate }
 {
-    let good = rate_sound(rate);
-    if good {
-        let y = rate * 256.0;
-        let n = std::num::truncating_f64_to_u64(y);
+    if rate_sound(rate) {
+        let n = std::num::truncating_f64_to_u64(rate * 256.0);
         return n as u16;
     }
     0

@@ -1,170 +1,117 @@
 // A full floor: 8 x 8 tiles, sixteen canisters on each but the hopper.
-ghost use Rattle.std.specs.Prelude.{◌<◌};
-
-use floor::{Floor, Settings};
-use trials_tally::floors::wide;
-use trials_tally::{Tally, floors, trial};
+use floor::{Delivery, Floor, Rounded, Settings};
+use trials_tally::{Tally, floors};
 
 // d = 30 and (100 - 10) div 30 = 3: four places along each axis. The hopper is tile 27.
 fn wide_floor() -> Floor {
-    let s = Settings {
+    calls::fresh(Settings {
         columns: 8,
         rows: 8,
-        hoppers: 134217728,
-        sources: 18446744073575333887,
+        hoppers: 1 << 27,
+        sources: !(1 << 27),
         width: 100,
         length: 10,
         gap: 20,
         travel: 9,
-    };
-    let answer = calls::fresh(s);
-    answer.floor
+    })
+    .floor
 }
 
-// The floor so far, and how many bookings were accepted.
-#[derive(Clone, Copy)]
-struct Filling {
-    floor: Floor,
-    accepted: u64,
-}
-
-// Books number n, from 1 on: its tile and its place follow from n - 1. The sixteen for the hopper are left out.
-fn book_next(f: Filling, k: u32) -> Filling
-    requires { k < 1024 }
-{
-    let tile = k / 16;
-    if tile == 27 {
-        return f;
+// The wide floor with the numbers from 1 on booked, sixteen on each tile but the hopper, and how many were accepted. A
+// number's tile and place follow from how many there are before it.
+fn filled() -> (Floor, u32) {
+    let mut f = wide_floor();
+    let mut accepted: u32 = 0;
+    for k in 0..1024u16 {
+        let tile = k / 16;
+        if tile != 27 {
+            let answer = floors::book(
+                f,
+                u32::from(tile),
+                u32::from(k) + 1,
+                k % 4 * 30,
+                k / 4 % 4 * 30,
+            );
+            accepted += u32::from(answer.refusal == 0);
+            f = answer.floor;
+        }
     }
-    let a = (k % 4 * 30) as u16;
-    let b = (k / 4 % 4 * 30) as u16;
-    let floor = f.floor;
-    let answer = floors::book(floor, tile, k + 1, a, b);
-    let next = answer.floor;
-    let mut accepted = f.accepted;
-    if answer.refusal == 0 {
-        accepted = std::num::wrapping_add_u64(accepted, 1);
-    }
-    Filling {
-        floor: next,
-        accepted: accepted,
-    }
-}
-
-fn filled() -> Filling {
-    let start = wide_floor();
-    let mut f = Filling {
-        floor: start,
-        accepted: 0,
-    };
-    let mut k: u32 = 0;
-    while k < 1024 {
-        f = book_next(f, k);
-        k += 1;
-    }
-    f
+    (f, accepted)
 }
 
 // Where rounds lead: the floor, how many numbers were reported, their sum, and how many rounds it took.
 #[derive(Clone, Copy)]
 struct Emptying {
     floor: Floor,
-    reported: u64,
+    reported: u32,
     sum: u64,
-    rounds: u64,
-}
-
-fn sum4(xs: [u32; 4]) -> u64 {
-    wide(xs[0]) + wide(xs[1]) + wide(xs[2]) + wide(xs[3])
+    rounds: u32,
 }
 
 // At most `most` rounds, until `due` numbers are reported.
-fn emptied(f: Floor, due: u64, most: u32) -> Emptying {
+fn emptied(floor: Floor, due: u32, most: u16) -> Emptying {
     let mut e = Emptying {
-        floor: f,
+        floor,
         reported: 0,
         sum: 0,
         rounds: 0,
     };
-    let mut k: u32 = 0;
-    while k < most {
+    for _ in 0..most {
         if due <= e.reported {
-            return e;
+            break;
         }
-        let floor = e.floor;
-        let answer = calls::round(floor);
-        let report = answer.report;
-        let first = report.deliveries[0];
-        let delivered = first.numbers;
-        let after = answer.floor;
-        e.floor = after;
-        e.reported = std::num::wrapping_add_u64(e.reported, first.count as u64);
-        e.sum = std::num::wrapping_add_u64(e.sum, sum4(delivered));
-        e.rounds = std::num::wrapping_add_u64(e.rounds, 1);
-        k += 1;
+        let Rounded { floor, report, .. } = calls::round(e.floor);
+        let Delivery { numbers, count } = report.deliveries[0];
+        let [x, y, z, w] = numbers;
+        e = Emptying {
+            floor,
+            reported: e.reported + u32::from(count),
+            sum: e.sum + u64::from(x) + u64::from(y) + u64::from(z) + u64::from(w),
+            rounds: e.rounds + 1,
+        };
     }
     e
 }
 
-// How many the one hopper has taken in.
-fn came(f: Floor) -> u64 {
-    let c = f.counters;
-    wide(c.delivered[0])
-}
-
 // 1,008 bookings, then 34 on each of three full tiles.
-fn fills(rt: &impl Print, t: Tally, f: Filling) -> Tally {
-    let floor = f.floor;
-    let gave = [
-        f.accepted,
-        floors::booking(floor, 0, 2000, 45, 45),
-        floors::booking(floor, 26, 2000, 0, 0),
-        floors::booking(floor, 63, 2000, 90, 89),
-        floors::held(floor, 0, 63),
-        floor.counters.booked as u64,
-    ];
-    trial(
-        rt,
-        t,
-        b"8 x 8: 1008 canisters booked, the next is 34",
-        gave,
-        [1008, 34, 34, 34, 16, 1008],
-    )
+fn fills(tally: &mut Tally<impl Print>, f: Floor, accepted: u32) {
+    tally.trial(
+        "8 x 8: 1008 canisters booked, the next is 34",
+        (
+            accepted,
+            floors::booking(f, 0, 2000, 45, 45),
+            floors::booking(f, 26, 2000, 0, 0),
+            floors::booking(f, 63, 2000, 90, 89),
+            floors::held(f, 0, 63),
+            f.counters.booked,
+        ),
+        (1008, 34, 34, 34, 16, 1008),
+    );
 }
 
 // All numbers come out, each once: 1 to 1024 without 433 to 448 have the sum 517,752. The 100 and the 3,690 rounds are
 // also what the second implementation gives (host/oracle/tests/suite/full.rs).
-pub fn all(rt: &impl Print, t: Tally) -> Tally {
-    let f = filled();
-    let next = fills(rt, t, f);
-    let floor = f.floor;
-    let some = emptied(floor, 1008, 100);
-    let some_floor = some.floor;
-    let came_some = came(some_floor);
-    let first = [some.rounds, some.reported, came_some, 0, 0, 0];
-    let then = trial(
-        rt,
-        next,
-        b"8 x 8: the first hundred rounds",
-        first,
-        [100, 100, 100, 0, 0, 0],
+pub fn all(tally: &mut Tally<impl Print>) {
+    let (f, accepted) = filled();
+    fills(tally, f, accepted);
+    let some = emptied(f, 1008, 100);
+    tally.trial(
+        "8 x 8: the first hundred rounds",
+        (some.rounds, some.reported, some.floor.counters.delivered[0]),
+        (100, 100, 100),
     );
-    let e = emptied(floor, 1008, 60000);
-    let last_floor = e.floor;
-    let came_all = came(last_floor);
-    let gave = [
-        e.reported,
-        e.sum,
-        came_all,
-        e.floor.counters.booked as u64,
-        e.floor.counters.last as u64,
-        e.rounds,
-    ];
-    trial(
-        rt,
-        then,
-        b"8 x 8: all delivered, each once",
-        gave,
-        [1008, 517752, 1008, 1008, 1024, 3690],
-    )
+    let e = emptied(f, 1008, 60000);
+    let counters = e.floor.counters;
+    tally.trial(
+        "8 x 8: all delivered, each once",
+        (
+            e.reported,
+            e.sum,
+            counters.delivered[0],
+            counters.booked,
+            counters.last,
+            e.rounds,
+        ),
+        (1008, 517752, 1008, 1008, 1024, 3690),
+    );
 }

@@ -7,8 +7,8 @@ mod small;
 use trials_tally::Tally;
 
 fn main(rt: HostRuntime) {
-    let start = Tally { good: 0, bad: 0 };
-    let a = small::all(&rt, start);
-    let b = full::all(&rt, a);
-    trials_tally::end(&rt, b);
+    let mut tally = Tally::new(&rt);
+    small::all(&mut tally);
+    full::all(&mut tally);
+    tally.end();
 }

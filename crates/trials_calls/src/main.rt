@@ -10,10 +10,10 @@ mod windows;
 use trials_tally::Tally;
 
 fn main(rt: HostRuntime) {
-    let start = Tally { good: 0, bad: 0 };
-    let a = anywhere::all(&rt, start);
-    let b = lists::all(&rt, a);
-    let c = windows::all(&rt, b);
-    let d = pages::all(&rt, c);
-    trials_tally::end(&rt, d);
+    let mut tally = Tally::new(&rt);
+    anywhere::all(&mut tally);
+    lists::all(&mut tally);
+    windows::all(&mut tally);
+    pages::all(&mut tally);
+    tally.end();
 }

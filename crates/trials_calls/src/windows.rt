@@ -1,99 +1,79 @@
 // Throughput ([2]): windows of 256 rounds, through the compiled calls.
 use floor::Floor;
-use throughput::{FedValues, Throughput};
-use trials_tally::{Tally, floors, trial};
+use throughput::{FedValues, Throughput, deliveries_of, feed_values};
+use trials_tally::{Tally, floors};
 
 // What the last of n feeds of this count tells; n is at least 1.
 fn fed(t: Throughput, count: u32, n: u16) -> FedValues {
-    let mut told = throughput::feed_values(t, count);
-    let mut k: u16 = 1;
-    while k < n {
-        told = throughput::feed_values(told.throughput, count);
-        k += 1;
-    }
-    told
+    (1..n).fold(feed_values(t, count), |told, _| {
+        feed_values(told.throughput, count)
+    })
 }
 
-fn after(t: Throughput, count: u32, n: u16) -> Throughput {
-    let told = fed(t, count, n);
-    told.throughput
-}
-
-// The deliveries of a rate.
-fn of(rate: f64) -> u64 {
-    throughput::deliveries_of(rate) as u64
-}
-
-fn first(rt: &impl Print, t: Tally) -> Tally {
-    let none = throughput::empty();
-    let open = fed(none, 1, 255);
-    let closed = throughput::feed_values(open.throughput, 1);
+fn first(tally: &mut Tally<impl Print>) {
+    let open = fed(throughput::empty(), 1, 255);
+    let closed = feed_values(open.throughput, 1);
     let r = closed.throughput;
-    let next = trial(
-        rt,
-        t,
-        b"throughput: 255 rounds are open, the 256th closes with rate 1",
-        [
-            open.kind as u64,
-            open.rounds as u64,
-            closed.kind as u64,
-            of(closed.rate),
-            r.rounds as u64,
-            r.closed as u64,
-        ],
-        [1, 255, 2, 256, 0, 1],
+    tally.trial(
+        "throughput: 255 rounds are open, the 256th closes with rate 1",
+        (
+            open.kind,
+            open.rounds,
+            closed.kind,
+            deliveries_of(closed.rate),
+            r.rounds,
+            r.closed,
+        ),
+        (1, 255, 2, 256, 0, 1),
     );
-    let least = after(r, 0, 256);
-    let most = after(least, 4, 256);
-    trial(
-        rt,
-        next,
-        b"throughput: the first close sets all three; then none, then four a round",
+    let least = fed(r, 0, 256).throughput;
+    let most = fed(least, 4, 256).throughput;
+    tally.trial(
+        "throughput: the first close sets all three; then none, then four a round",
         [
-            of(r.least),
-            of(r.greatest),
-            of(least.greatest),
-            of(most.last),
-            of(most.least),
-            of(most.greatest),
-        ],
+            r.least,
+            r.greatest,
+            least.greatest,
+            most.last,
+            most.least,
+            most.greatest,
+        ]
+        .map(deliveries_of),
         [256, 256, 256, 1024, 0, 1024],
-    )
+    );
 }
 
-// The refusal of a count for a record, and 1 where the open window came back.
-fn refusal(t: Throughput, count: u32) -> u64 {
-    let told = throughput::feed_values(t, count);
+// The refusal of a count for a record, and whether the open window came back.
+fn refusal(t: Throughput, count: u32) -> (u8, bool) {
+    let told = feed_values(t, count);
     let r = told.throughput;
-    let same = (r.rounds == t.rounds) & (r.deliveries == t.deliveries) & (r.closed == t.closed);
-    if same {
-        told.refusal as u64 * 10 + 1
-    } else {
-        told.refusal as u64 * 10
-    }
+    (
+        told.refusal,
+        (r.rounds, r.deliveries, r.closed) == (t.rounds, t.deliveries, t.closed),
+    )
 }
 
 // A record with this last rate, least 0 and greatest 4.
 fn rated(last: f64, closed: u8) -> Throughput {
-    let mut r = throughput::empty();
-    r.last = last;
-    r.greatest = 4.0;
-    r.closed = closed;
-    r
+    Throughput {
+        last,
+        greatest: 4.0,
+        closed,
+        ..throughput::empty()
+    }
 }
 
 fn window(rounds: u16, deliveries: u16) -> Throughput {
-    let mut r = throughput::empty();
-    r.rounds = rounds;
-    r.deliveries = deliveries;
-    r
+    Throughput {
+        rounds,
+        deliveries,
+        ..throughput::empty()
+    }
 }
 
-fn refusals(rt: &impl Print, t: Tally) -> Tally {
-    let next = trial(
-        rt,
-        t,
-        b"throughput: 41 for 5, 260 and 65540, 30 before it and by the open window",
+fn refusals(tally: &mut Tally<impl Print>) {
+    tally.trial(
+        "throughput: 41 for 5, 260 and 65540, 30 before it and by the open window",
         [
             refusal(throughput::empty(), 5),
             refusal(throughput::empty(), 260),
@@ -102,12 +82,17 @@ fn refusals(rt: &impl Print, t: Tally) -> Tally {
             refusal(window(1, 4), 0),
             refusal(throughput::empty(), 65540),
         ],
-        [411, 411, 301, 301, 0, 411],
+        [
+            (41, true),
+            (41, true),
+            (30, true),
+            (30, true),
+            (0, false),
+            (41, true),
+        ],
     );
-    trial(
-        rt,
-        next,
-        b"throughput: 30 for -0, 1/512, 1025/256, 5, a rate before the first close; 1/256 accepted",
+    tally.trial(
+        "throughput: 30 for -0, 1/512, 1025/256, 5, a rate before the first close; 1/256 accepted",
         [
             refusal(rated(-0.0, 1), 0),
             refusal(rated(0.001953125, 1), 0),
@@ -116,67 +101,46 @@ fn refusals(rt: &impl Print, t: Tally) -> Tally {
             refusal(rated(0.0, 0), 0),
             refusal(rated(0.00390625, 1), 0),
         ],
-        [301, 301, 301, 301, 301, 0],
-    )
-}
-
-// A floor, and the record that follows its first hopper.
-#[derive(Clone, Copy)]
-struct Following {
-    floor: Floor,
-    throughput: Throughput,
-}
-
-fn next_round(f: Following) -> Following {
-    let floor = f.floor;
-    let answer = calls::round(floor);
-    let report = answer.report;
-    let taken = report.deliveries[0];
-    let told = throughput::feed_values(f.throughput, taken.count as u32);
-    let next = answer.floor;
-    let after = told.throughput;
-    Following {
-        floor: next,
-        throughput: after,
-    }
-}
-
-fn followed(f: Floor, n: u16) -> Throughput {
-    let none = throughput::empty();
-    let mut s = Following {
-        floor: f,
-        throughput: none,
-    };
-    let mut k: u16 = 0;
-    while k < n {
-        s = next_round(s);
-        k += 1;
-    }
-    s.throughput
-}
-
-fn joined(rt: &impl Print, t: Tally) -> Tally {
-    let one = floors::booked(floors::fresh(2, 1, 1, 1), 0, 5, 0, 0);
-    let two = floors::booked(one, 0, 6, 0, 40);
-    let r = followed(two, 260);
-    trial(
-        rt,
-        t,
-        b"W 2, two canisters: a window of 256 rounds with 2 deliveries, then 4 rounds",
         [
-            of(r.last),
-            of(r.least),
-            of(r.greatest),
-            r.rounds as u64,
-            r.deliveries as u64,
-            r.closed as u64,
+            (30, true),
+            (30, true),
+            (30, true),
+            (30, true),
+            (30, true),
+            (0, false),
         ],
-        [2, 2, 2, 4, 0, 1],
-    )
+    );
 }
 
-pub fn all(rt: &impl Print, t: Tally) -> Tally {
-    let a = first(rt, t);
-    let b = refusals(rt, a);
-    joined(rt, b)
+// The record that followed the floor's first hopper for n rounds.
+fn followed(mut f: Floor, n: u16) -> Throughput {
+    let mut record = throughput::empty();
+    for _ in 0..n {
+        let answer = calls::round(f);
+        let count = answer.report.deliveries[0].count;
+        record = feed_values(record, u32::from(count)).throughput;
+        f = answer.floor;
+    }
+    record
+}
+
+fn joined(tally: &mut Tally<impl Print>) {
+    let one = floors::booked(floors::fresh(2, 1, 1, 1), 0, 5, 0, 0);
+    let r = followed(floors::booked(one, 0, 6, 0, 40), 260);
+    tally.trial(
+        "W 2, two canisters: a window of 256 rounds with 2 deliveries, then 4 rounds",
+        (
+            [r.last, r.least, r.greatest].map(deliveries_of),
+            r.rounds,
+            r.deliveries,
+            r.closed,
+        ),
+        ([2, 2, 2], 4, 0, 1),
+    );
+}
+
+pub fn all(tally: &mut Tally<impl Print>) {
+    first(tally);
+    refusals(tally);
+    joined(tally);
 }

@@ -8,8 +8,8 @@ mod run;
 use trials_tally::Tally;
 
 fn main(rt: HostRuntime) {
-    let start = Tally { good: 0, bad: 0 };
-    let a = run::all(&rt, start);
-    let b = plans::all(&rt, a);
-    trials_tally::end(&rt, b);
+    let mut tally = Tally::new(&rt);
+    run::all(&mut tally);
+    plans::all(&mut tally);
+    tally.end();
 }

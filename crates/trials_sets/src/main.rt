@@ -7,8 +7,8 @@ mod layouts;
 use trials_tally::Tally;
 
 fn main(rt: HostRuntime) {
-    let start = Tally { good: 0, bad: 0 };
-    let a = hoppers::all(&rt, start);
-    let b = layouts::all(&rt, a);
-    trials_tally::end(&rt, b);
+    let mut tally = Tally::new(&rt);
+    hoppers::all(&mut tally);
+    layouts::all(&mut tally);
+    tally.end();
 }

@@ -1,33 +1,31 @@
-use mathlib.Core.Path.{sym}
+use mathlib.Core.Path.{refl, sym}
+use Rattle.floor.proofs.Refusing.{refusing}
 use Rattle.barge.proofs.Sized.{floors_length}
-use Rattle.barge_parts.proofs.Joint.{On, begun_on}
+use Rattle.barge_parts.proofs.Joint.{begun_on}
 use Rattle.barge_calls.proofs.Answers.{book_begins, book_own, book_full, book_done}
 use Rattle.barge_calls.proofs.book.Goals as goal
 
 pub bounds-changed-k : goal.bounds-changed-k
-bounds-changed-k c = (let begun : On c.args.barge c.args.floor = let n = c.begin-begun in begun_on c.args.barge c.args.floor n.result.refusal (floors_length c.args.barge _ c.well_formed.0) n.ensures.0 c.if-number-eq0.true in begun).named
+bounds-changed-k c = (begun_on c.args.barge c.args.floor 0 (floors_length c.args.barge _ c.well_formed.0) c.in-Ok.ensures.number refl).named
 
 pub book_checked-answer-requires : goal.book_checked-answer-requires
-book_checked-answer-requires c = sym (let begun : On c.args.barge c.args.floor = let n = c.begin-begun in begun_on c.args.barge c.args.floor n.result.refusal (floors_length c.args.barge _ c.well_formed.0) n.ensures.0 c.if-number-eq0.true in begun).well
+book_checked-answer-requires c = sym (begun_on c.args.barge c.args.floor 0 (floors_length c.args.barge _ c.well_formed.0) c.in-Ok.ensures.number refl).well
 
-pub bounds-changed-k-then-number-eq0-3 : goal.bounds-changed-k-then-number-eq0-3
-bounds-changed-k-then-number-eq0-3 c =
-    (let begun : On c.args.barge c.args.floor = let n = c.begin-begun in begun_on c.args.barge c.args.floor n.result.refusal (floors_length c.args.barge _ c.well_formed.0) n.ensures.0 c.if-number-eq0.true in begun).named
+pub bounds-changed-k-in-Ok-test_allowance : goal.bounds-changed-k-in-Ok-test_allowance
+bounds-changed-k-in-Ok-test_allowance c = (begun_on c.args.barge c.args.floor 0 (floors_length c.args.barge _ c.well_formed.0) c.in-Ok.ensures.number refl).named
 
-pub returns-then-number-eq0-3 : goal.returns-then-number-eq0-3
-returns-then-number-eq0-3 c =
-    let n = c.begin-begun in
-    book_done _ _ (let begun : On c.args.barge c.args.floor = let n = c.begin-begun in begun_on c.args.barge c.args.floor n.result.refusal (floors_length c.args.barge _ c.well_formed.0) n.ensures.0 c.if-number-eq0.true in begun) _ _ c.book_checked-answer.result c.book_checked-answer.ensures c.if-number-eq0-2.true
-    n.result.total c.last_refusal-number.result (n.ensures.1 c.if-number-eq0.true) c.last_refusal-number.ensures c.if-number-eq0-3.true
+pub returns-in-Ok-test_allowance : goal.returns-in-Ok-test_allowance
+returns-in-Ok-test_allowance c =
+    book_done _ _ (begun_on c.args.barge c.args.floor 0 (floors_length c.args.barge _ c.well_formed.0) c.in-Ok.ensures.number refl) _ _ c.book_checked-answer.result c.book_checked-answer.ensures c.if-answer-eq0.true
+    c.in-Ok.total 0 c.in-Ok.ensures.total c.in-Ok-test_allowance.ensures refl
 
-pub returns-else-number-eq0-3 : goal.returns-else-number-eq0-3
-returns-else-number-eq0-3 c =
-    let n = c.begin-begun in
-    book_full _ _ (let begun : On c.args.barge c.args.floor = let n = c.begin-begun in begun_on c.args.barge c.args.floor n.result.refusal (floors_length c.args.barge _ c.well_formed.0) n.ensures.0 c.if-number-eq0.true in begun) _ _ c.book_checked-answer.result c.book_checked-answer.ensures c.if-number-eq0-2.true
-    n.result.total c.last_refusal-number.result (n.ensures.1 c.if-number-eq0.true) c.last_refusal-number.ensures c.if-number-eq0-3.false
+pub returns-in-Err-test_allowance : goal.returns-in-Err-test_allowance
+returns-in-Err-test_allowance c =
+    rw c.from.ensures (book_full _ _ (begun_on c.args.barge c.args.floor 0 (floors_length c.args.barge _ c.well_formed.0) c.in-Ok.ensures.number refl) _ _ c.book_checked-answer.result c.book_checked-answer.ensures c.if-answer-eq0.true
+    c.in-Ok.total _ c.in-Ok.ensures.total c.in-Err-test_allowance.ensures (refusing c.in-Err-test_allowance.why))
 
-pub returns-else-number-eq0-2 : goal.returns-else-number-eq0-2
-returns-else-number-eq0-2 c = book_own _ _ (let begun : On c.args.barge c.args.floor = let n = c.begin-begun in begun_on c.args.barge c.args.floor n.result.refusal (floors_length c.args.barge _ c.well_formed.0) n.ensures.0 c.if-number-eq0.true in begun) _ _ c.book_checked-answer.result c.book_checked-answer.ensures c.if-number-eq0-2.false
+pub returns-else-answer-eq0 : goal.returns-else-answer-eq0
+returns-else-answer-eq0 c = book_own _ _ (begun_on c.args.barge c.args.floor 0 (floors_length c.args.barge _ c.well_formed.0) c.in-Ok.ensures.number refl) _ _ c.book_checked-answer.result c.book_checked-answer.ensures c.if-answer-eq0.false
 
-pub returns-else-number-eq0 : goal.returns-else-number-eq0
-returns-else-number-eq0 c = book_begins _ _ c.begin-begun.result.refusal c.begin-begun.ensures.0 _ _ c.if-number-eq0.false
+pub returns-in-Err : goal.returns-in-Err
+returns-in-Err c = rw c.from-refusal.ensures (book_begins _ _ _ c.in-Err.ensures.number _ _ (refusing c.in-Err.why))

@@ -1,33 +1,31 @@
-use mathlib.Core.Path.{sym}
+use mathlib.Core.Path.{refl, sym}
+use Rattle.floor.proofs.Refusing.{refusing}
 use Rattle.barge.proofs.Sized.{floors_length}
-use Rattle.barge_parts.proofs.Joint.{On, begun_on}
+use Rattle.barge_parts.proofs.Joint.{begun_on}
 use Rattle.barge_calls.proofs.Answers.{anywhere_begins, anywhere_own, anywhere_full, anywhere_done}
 use Rattle.barge_calls.proofs.book_anywhere.Goals as goal
 
 pub bounds-changed-k : goal.bounds-changed-k
-bounds-changed-k c = (let begun : On c.args.barge c.args.floor = let n = c.begin-begun in begun_on c.args.barge c.args.floor n.result.refusal (floors_length c.args.barge _ c.well_formed.0) n.ensures.0 c.if-refused-eq0.true in begun).named
+bounds-changed-k c = (begun_on c.args.barge c.args.floor 0 (floors_length c.args.barge _ c.well_formed.0) c.in-Ok.ensures.number refl).named
 
 pub anywhere_checked-answer-requires : goal.anywhere_checked-answer-requires
-anywhere_checked-answer-requires c = sym (let begun : On c.args.barge c.args.floor = let n = c.begin-begun in begun_on c.args.barge c.args.floor n.result.refusal (floors_length c.args.barge _ c.well_formed.0) n.ensures.0 c.if-refused-eq0.true in begun).well
+anywhere_checked-answer-requires c = sym (begun_on c.args.barge c.args.floor 0 (floors_length c.args.barge _ c.well_formed.0) c.in-Ok.ensures.number refl).well
 
-pub bounds-changed-k-then-refused-eq0-3 : goal.bounds-changed-k-then-refused-eq0-3
-bounds-changed-k-then-refused-eq0-3 c =
-    (let begun : On c.args.barge c.args.floor = let n = c.begin-begun in begun_on c.args.barge c.args.floor n.result.refusal (floors_length c.args.barge _ c.well_formed.0) n.ensures.0 c.if-refused-eq0.true in begun).named
+pub bounds-changed-k-in-Ok-test_allowance : goal.bounds-changed-k-in-Ok-test_allowance
+bounds-changed-k-in-Ok-test_allowance c = (begun_on c.args.barge c.args.floor 0 (floors_length c.args.barge _ c.well_formed.0) c.in-Ok.ensures.number refl).named
 
-pub returns-then-refused-eq0-3 : goal.returns-then-refused-eq0-3
-returns-then-refused-eq0-3 c =
-    let n = c.begin-begun in
-    anywhere_done _ _ (let begun : On c.args.barge c.args.floor = let n = c.begin-begun in begun_on c.args.barge c.args.floor n.result.refusal (floors_length c.args.barge _ c.well_formed.0) n.ensures.0 c.if-refused-eq0.true in begun) _ _ c.anywhere_checked-answer.result c.anywhere_checked-answer.ensures c.if-refused-eq0-2.true
-    n.result.total c.last_refusal-refused.result (n.ensures.1 c.if-refused-eq0.true) c.last_refusal-refused.ensures c.if-refused-eq0-3.true
+pub returns-in-Ok-test_allowance : goal.returns-in-Ok-test_allowance
+returns-in-Ok-test_allowance c =
+    anywhere_done _ _ (begun_on c.args.barge c.args.floor 0 (floors_length c.args.barge _ c.well_formed.0) c.in-Ok.ensures.number refl) _ _ c.anywhere_checked-answer.result c.anywhere_checked-answer.ensures c.if-answer-eq0.true
+    c.in-Ok.aboard 0 c.in-Ok.ensures.total c.in-Ok-test_allowance.ensures refl
 
-pub returns-else-refused-eq0-3 : goal.returns-else-refused-eq0-3
-returns-else-refused-eq0-3 c =
-    let n = c.begin-begun in
-    anywhere_full _ _ (let begun : On c.args.barge c.args.floor = let n = c.begin-begun in begun_on c.args.barge c.args.floor n.result.refusal (floors_length c.args.barge _ c.well_formed.0) n.ensures.0 c.if-refused-eq0.true in begun) _ _ c.anywhere_checked-answer.result c.anywhere_checked-answer.ensures c.if-refused-eq0-2.true
-    n.result.total c.last_refusal-refused.result (n.ensures.1 c.if-refused-eq0.true) c.last_refusal-refused.ensures c.if-refused-eq0-3.false
+pub returns-in-Err-test_allowance : goal.returns-in-Err-test_allowance
+returns-in-Err-test_allowance c =
+    rw c.from.ensures (anywhere_full _ _ (begun_on c.args.barge c.args.floor 0 (floors_length c.args.barge _ c.well_formed.0) c.in-Ok.ensures.number refl) _ _ c.anywhere_checked-answer.result c.anywhere_checked-answer.ensures c.if-answer-eq0.true
+    c.in-Ok.aboard _ c.in-Ok.ensures.total c.in-Err-test_allowance.ensures (refusing c.in-Err-test_allowance.why))
 
-pub returns-else-refused-eq0-2 : goal.returns-else-refused-eq0-2
-returns-else-refused-eq0-2 c = anywhere_own _ _ (let begun : On c.args.barge c.args.floor = let n = c.begin-begun in begun_on c.args.barge c.args.floor n.result.refusal (floors_length c.args.barge _ c.well_formed.0) n.ensures.0 c.if-refused-eq0.true in begun) _ _ c.anywhere_checked-answer.result c.anywhere_checked-answer.ensures c.if-refused-eq0-2.false
+pub returns-else-answer-eq0 : goal.returns-else-answer-eq0
+returns-else-answer-eq0 c = anywhere_own _ _ (begun_on c.args.barge c.args.floor 0 (floors_length c.args.barge _ c.well_formed.0) c.in-Ok.ensures.number refl) _ _ c.anywhere_checked-answer.result c.anywhere_checked-answer.ensures c.if-answer-eq0.false
 
-pub returns-else-refused-eq0 : goal.returns-else-refused-eq0
-returns-else-refused-eq0 c = anywhere_begins _ _ c.begin-begun.result.refusal c.begin-begun.ensures.0 _ _ c.if-refused-eq0.false
+pub returns-in-Err : goal.returns-in-Err
+returns-in-Err c = rw c.from-in-Err.ensures (anywhere_begins _ _ _ c.in-Err.ensures.number _ _ (refusing c.in-Err.why))

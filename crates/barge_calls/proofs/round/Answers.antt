@@ -1,22 +1,23 @@
+use mathlib.Core.Path.{refl}
 use Rattle.floor.specs.Calls.{zero_report}
+use Rattle.floor.proofs.Refusing.{refusing}
 use Rattle.barge.proofs.Sized.{floors_length}
-use Rattle.barge_parts.proofs.Joint.{On, begun_on}
+use Rattle.barge_parts.proofs.Joint.{begun_on}
 use Rattle.barge_calls.proofs.Answers.{round_begins, round_done}
 use Rattle.barge_calls.proofs.round.Goals as goal
 
 pub bounds-changed-k : goal.bounds-changed-k
-bounds-changed-k c = (let begun : On c.args.barge c.args.floor = let n = c.begin-begun in begun_on c.args.barge c.args.floor n.result.refusal (floors_length c.args.barge _ c.well_formed.0) n.ensures.0 c.if-begun-eq0.true in begun).named
+bounds-changed-k c = (begun_on c.args.barge c.args.floor 0 (floors_length c.args.barge _ c.well_formed.0) c.in-Ok.ensures.number refl).named
 
 pub run_round-answer-requires : goal.run_round-answer-requires
-run_round-answer-requires c = (let begun : On c.args.barge c.args.floor = let n = c.begin-begun in begun_on c.args.barge c.args.floor n.result.refusal (floors_length c.args.barge _ c.well_formed.0) n.ensures.0 c.if-begun-eq0.true in begun).well
+run_round-answer-requires c = (begun_on c.args.barge c.args.floor 0 (floors_length c.args.barge _ c.well_formed.0) c.in-Ok.ensures.number refl).well
 
-pub bounds-changed-k-then-begun-eq0 : goal.bounds-changed-k-then-begun-eq0
-bounds-changed-k-then-begun-eq0 c = (let begun : On c.args.barge c.args.floor = let n = c.begin-begun in begun_on c.args.barge c.args.floor n.result.refusal (floors_length c.args.barge _ c.well_formed.0) n.ensures.0 c.if-begun-eq0.true in begun).named
+pub bounds-changed-k-in-Ok : goal.bounds-changed-k-in-Ok
+bounds-changed-k-in-Ok c = (begun_on c.args.barge c.args.floor 0 (floors_length c.args.barge _ c.well_formed.0) c.in-Ok.ensures.number refl).named
 
-pub returns-then-begun-eq0 : goal.returns-then-begun-eq0
-returns-then-begun-eq0 c =
-    round_done _ _ (let begun : On c.args.barge c.args.floor = let n = c.begin-begun in begun_on c.args.barge c.args.floor n.result.refusal (floors_length c.args.barge _ c.well_formed.0) n.ensures.0 c.if-begun-eq0.true in begun) c.begin-begun.result.refusal c.if-begun-eq0.true c.run_round-answer.result c.run_round-answer.ensures
+pub returns-in-Ok : goal.returns-in-Ok
+returns-in-Ok c = round_done _ _ (begun_on c.args.barge c.args.floor 0 (floors_length c.args.barge _ c.well_formed.0) c.in-Ok.ensures.number refl) 0 refl c.run_round-answer.result c.run_round-answer.ensures
 
-pub returns-else-begun-eq0 : goal.returns-else-begun-eq0
+pub returns-in-Err : goal.returns-in-Err
 unfolding zero_report
-returns-else-begun-eq0 c = round_begins _ _ c.begin-begun.result.refusal c.begin-begun.ensures.0 c.if-begun-eq0.false
+returns-in-Err c = rw c.from-refusal.ensures (round_begins _ _ _ c.in-Err.ensures.number (refusing c.in-Err.why))

@@ -2,5 +2,5 @@ use Prim.Native.Nat.{◌-◌}
 use Rattle.barge_parts.proofs.Loops.{Checked}
 use Rattle.barge_parts.proofs.begin.Given as goal
 
-abbrev pub invariant-loop-k : goal.invariant-loop-k
-invariant-loop-k l = Checked l.barge l.sound l.total l.k
+abbrev pub invariant-loop-each : goal.invariant-loop-each
+invariant-loop-each l = Checked l.fn.barge l.sound l.total l.each-index

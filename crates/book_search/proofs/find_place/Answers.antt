@@ -1,35 +1,27 @@
-use mathlib.Core.Path.{◌≡◌, ◌∙◌}
-use Prim.Native.Nat.{suc, ◌-◌}
+use mathlib.Core.Path.{◌≡◌}
+use Prim.Native.Nat.{suc}
 use native.Mathlib.Omega.{arith}
-use lib.ListN.{take}
 use Rattle.floor.specs.Settings.{spacing, span}
-use Rattle.book_search.proofs.Search.{bare_none, bare_on, place_a_lem, place_b_lem, place_none}
+use Rattle.book_search.proofs.Search.{bare_on, place_a_lem, place_b_lem, place_none}
 use Rattle.book_search.proofs.find_place.Goals as goal
 
-pub loop-b-init : goal.loop-b-init
-loop-b-init c = let g = c.args in record { below = omega arith; bare = bare_none (spacing g.s) (suc (span g.s)) (take g.n g.items) }
-
-pub returns-then-a-span : goal.returns-then-a-span
-returns-then-a-span c =
-    let o = c in
-    let l = o.loop-b in
-    let g = o.args in
-    let e = c.lowest_a-a.ensures in
-    let b = place_b_lem g.s (take g.n g.items) l.b l.invariant.bare (omega arith) (omega (arith, e)) in
-    (b, λ _. place_a_lem g.s (take g.n g.items) _ l.b e b)
+pub returns-in-Some : goal.returns-in-Some
+returns-in-Some c =
+    let g = c.args in
+    let l = c.loop-b in
+    let e = c.in-Some.ensures in
+    let b = place_b_lem g.s g.own.now l.b l.invariant.1 (omega arith) (omega (arith, e.0, e.1)) in
+    (omega arith, b, place_a_lem g.s g.own.now _ l.b e.1 b)
 
 pub loop-b-preserved : goal.loop-b-preserved
 loop-b-preserved c =
-    let a = c in
-    let o = a in
-    let l = o.loop-b in
-    let g = o.args in
-    let e = a.lowest_a-a.ensures in
+    let g = c.args in
     let n = c.next_b-b.ensures in
-    record { below = n.1; bare = bare_on (spacing g.s) (suc (span g.s)) (take g.n g.items) l.b _ (omega (arith, e)) n.2 l.invariant.bare }
+    (n.1, bare_on (spacing g.s) (suc (span g.s)) g.own.now c.loop-b.b _ (omega (arith, c.in_default.ensures)) n.2 c.loop-b.invariant.1)
 
 pub returns : goal.returns
-returns c = let l = c.loop-b in
+returns c =
     let g = c.args in
-    let e : l.b ≡ suc (span g.s) = omega arith in
-    (e ∙ place_none g.s (take g.n g.items) (rw e at l.invariant.bare), λ h. absurd (omega arith))
+    let l = c.loop-b in
+    let e : l.b ≡ suc (span g.s) = omega (arith, l.invariant.0) in
+    place_none g.s g.own.now (rw e at l.invariant.1)

@@ -1,9 +1,10 @@
-use Prim.Native.Nat.{◌+◌, ◌-◌, ◌*◌}
-use Rattle.book_search.proofs.Loops.{RowSearched}
+use Prim.Native.Nat.{◌-◌, ◌≤◌}
+use Rattle.floor.specs.Settings.{spacing}
+use Rattle.book_search.proofs.Search.{Passed}
 use Rattle.book_search.proofs.lowest_a.Given as goal
 
-abbrev pub invariant-loop-k : goal.invariant-loop-k
-invariant-loop-k l = RowSearched l.s l.items l.n l.b l.d l.span l.a l.k
+abbrev pub invariant-loop-c : goal.invariant-loop-c
+invariant-loop-c l = (l.a ≤ l.span) × Passed (spacing l.s) l.own l.b l.a
 
-abbrev pub decreases-loop-k : goal.decreases-loop-k
-decreases-loop-k l = (l.span - l.a) * 17 + (l.n - l.k)
+abbrev pub decreases-loop-c : goal.decreases-loop-c
+decreases-loop-c l = l.span - l.a

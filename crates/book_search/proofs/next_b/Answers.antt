@@ -1,67 +1,33 @@
 use mathlib.Core.Path.{◌≡◌}
-use Prim.Native.Nat.{◌+◌, ◌-◌}
+use Prim.Native.Nat.{ℕ, ◌+◌}
 use native.Mathlib.Omega.{arith}
 use lib.Dec.{ltb}
-use lib.ListN.{get_or}
+use lib.ListN.{length, get_or}
+use lib.Seq.{take-length}
 use borrow.Author.Tests.{ltb-true}
 use Rattle.laws.proofs.Tests.{and_left, and_right}
 use Rattle.floor.specs.Memory.{zero_canister}
 use Rattle.book_search.proofs.Search.{ahead_lower, ahead_stay}
 use Rattle.book_search.proofs.next_b.Goals as goal
+use Rattle.book_search.proofs.next_b.Goals.{then-low-beyond, else-low-beyond}
 
-pub loop-k-init : goal.loop-k-init
-loop-k-init c =
-    let s = c in
-    record {
-      below = omega arith;
-      few = s.requires.0;
-      items_length = s.well_formed.1.0.1.0.1;
-      beyond = omega arith;
-      within = omega arith;
-      ahead = tt;
-    }
-
-pub loop-k-preserved-then-low-beyond : goal.loop-k-preserved-then-low-beyond
-loop-k-preserved-then-low-beyond c =
-    let p = c in
-    let o = p in
-    let l = o.loop-k in
-    let g = o.args in
+pub loop-c-preserved : goal.loop-c-preserved
+loop-c-preserved c =
+    let l = c.loop-c in
     let i = l.invariant in
-    let d = o.spacing-d.result in
-    let x = (get_or g.items l.k zero_canister).b + d in
-    let low = ltb-true g.b x (and_left (ltb g.b x) (ltb x l.next) c.if-low-beyond.true) in
-    let less = ltb-true x l.next (and_right (ltb g.b x) (ltb x l.next) c.if-low-beyond.true) in
-    record {
-      below = omega arith;
-      few = i.few;
-      items_length = i.items_length;
-      beyond = low;
-      within = omega arith;
-      ahead = ahead_lower d g.b l.next g.items l.k (omega arith) less i.ahead;
-    }
-
-pub loop-k-preserved : goal.loop-k-preserved
-loop-k-preserved c =
-    let p = c in
-    let o = p in
-    let l = o.loop-k in
-    let g = o.args in
-    let i = l.invariant in
-    record {
-      below = omega arith;
-      few = i.few;
-      items_length = i.items_length;
-      beyond = i.beyond;
-      within = i.within;
-      ahead = ahead_stay o.spacing-d.result g.b l.next g.items l.k (omega arith) c.if-low-beyond.false i.ahead;
-    }
+    let d = c.spacing-d.result in
+    let x : ℕ = (get_or c.args.own.now l.c-index zero_canister).b + d in
+    elim c.if-low-beyond.branch [
+      | then-low-beyond w ↦
+          let low = ltb-true c.args.b x (and_left (ltb c.args.b x) (ltb x l.next) w.if-low-beyond.true) in
+          let less = ltb-true x l.next (and_right (ltb c.args.b x) (ltb x l.next) w.if-low-beyond.true) in
+          rw w.next-is (low, omega (arith, less, i.1), ahead_lower d c.args.b l.next c.args.own.now l.c-index (omega arith) less i.2)
+      | else-low-beyond w ↦ rw w.next-is (i.0, i.1, ahead_stay d c.args.b l.next c.args.own.now l.c-index (omega arith) w.if-low-beyond.false i.2)
+    ]
 
 pub returns : goal.returns
 returns c =
-    let o = c in
-    let l = o.loop-k in
-    let g = o.args in
+    let l = c.loop-c in
     let i = l.invariant in
-    let e : l.k ≡ g.n = omega arith in
-    (i.beyond, omega arith, rw (e, o.spacing-d.ensures) at i.ahead)
+    let e : l.c-index ≡ length c.args.own.now = omega arith in
+    (i.0, omega (arith, i.1), rw (e, take-length, c.spacing-d.ensures) at i.2)

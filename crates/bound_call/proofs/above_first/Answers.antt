@@ -1,38 +1,26 @@
-use mathlib.Core.Path.{◌≡◌, ap, ◌∙◌}
-use Prim.Native.Nat.{◌-◌}
-use native.Mathlib.Omega.{arith}
+use Rattle.std.proofs.Common.{◌≡◌, ◌%◌, ◌∙◌, sym, ap, arith}
+use Rattle.std.proofs.Common.{lt-ltb, le-ltb}
 use Rattle.floor.specs.Layouts.{set_below}
-use Rattle.layout_parts.proofs.Tiles.{below_none, below_turn, below_fits}
+use Rattle.layout_parts.proofs.Tiles.{below_none, set_in, set_out}
 use Rattle.bound_call.specs.Sets.{above_first}
 use Rattle.bound_call.proofs.above_first.Goals as goal
+use Rattle.bound_call.proofs.above_first.Goals.{then-t-from-gt0, else-t-from-gt0}
 
 pub loop-t-init : goal.loop-t-init
-loop-t-init c =
-    let S = c in
-    record {
-      below = omega arith;
-      few = omega (arith, c.tile_count-all.ensures, S.requires.2);
-      some = S.requires.0;
-      found = below_none (above_first S.args.s.rows);
-    }
-
-pub with_above-set-requires : goal.with_above-set-requires
-with_above-set-requires c = let l = c.loop-t in (omega arith, below_fits _ l.t l.invariant.found, l.invariant.some)
+loop-t-init c = below_none _
 
 pub loop-t-preserved : goal.loop-t-preserved
 loop-t-preserved c =
     let l = c.loop-t in
-    record {
-      below = omega arith;
-      few = l.invariant.few;
-      some = l.invariant.some;
-      found = below_turn _ l.t c.with_above-set.ensures l.invariant.found;
-    }
+    let few = c.requires.2 in
+    let e = c.tile_count-t-end.ensures in
+    let p = above_first c.args.s.rows in
+    elim c.if-t-from-gt0.branch [
+      | then-t-from-gt0 w ↦ w.set-is ∙ set_in p l.t (omega arith) (lt-ltb 0 (l.t % c.args.s.rows) (rw (sym c.from.ensures) w.if-t-from-gt0.true)) w.with-set.type_inv w.with-set.ensures l.invariant
+      | else-t-from-gt0 w ↦ w.set-is ∙ set_out p l.t (le-ltb 0 (l.t % c.args.s.rows) (rw (sym c.from.ensures) w.if-t-from-gt0.false)) l.invariant
+    ]
 
 pub returns : goal.returns
 returns c =
-    let S = c in
-    let l = c.loop-t in
-    let n = c.tile_count-all in
-    let e : l.t ≡ n.result = omega arith in
-    l.invariant.found ∙ ap (set_below (above_first S.args.s.rows)) (e ∙ n.ensures)
+    let e : c.loop-t.t ≡ c.tile_count-t-end.result = omega arith in
+    c.loop-t.invariant ∙ ap (set_below (above_first c.args.s.rows)) (e ∙ c.tile_count-t-end.ensures)

@@ -16,64 +16,50 @@ above_first-above-requires c = c.requires.0
 pub overflow_sub-passes : goal.overflow_sub-passes
 overflow_sub-passes c = omega (arith, c.tile_count-passes.ensures, c.requires.1)
 
-pub loop-n-init : goal.loop-n-init
-loop-n-init c =
-    let T = c in
-    let A = T in
-    let R = A in
-    let S = R in
-    let s = S.args.s in
-    let running = R.running_set-running.result in
-    let fits = below_fits (ran_in S.args.tiles) (total s) R.running_set-running.ensures in
+pub loop-init : goal.loop-init
+loop-init c =
+    let s = c.args.s in
+    let running = c.running_set-running.result in
+    let fits = below_fits (ran_in c.args.tiles) (total s) c.running_set-running.ensures in
     record {
-      below = omega arith;
-      ranged = S.requires.0;
-      all = ap (λ n. n - 1) T.tile_count-passes.ensures;
+      ranged = c.requires.0;
+      all = ap (λ n. n - 1) c.tile_count-passes.ensures;
       running_fits = fits;
-      above_is = A.above_first-above.ensures;
+      above_is = c.above_first-above.ensures;
       found_fits = first_fits s running fits;
       reaches = reaches_first s running fits;
     }
 
 pub spread-next-requires : goal.spread-next-requires
-spread-next-requires c = let i = c.loop-n.invariant in (i.ranged, i.running_fits, i.found_fits, i.above_is)
+spread-next-requires c = let i = c.loop.invariant in (i.ranged, i.running_fits, i.found_fits, i.above_is)
 
 pub returns-then-next-found : goal.returns-then-next-found
 returns-then-next-found c =
-    let P = c in
-    let L = P in
-    let R = L in
-    let l = L.loop-n in
-    let s = R.args.s in
-    let running = R.running_set-running.result in
-    let more = reaches_next s running l.invariant.running_fits l.n l.found P.spread-next.result l.invariant.reaches P.spread-next.ensures.1 in
-    let same = subst (λ x. Reaches s running (l.n + 1) x) c.if-next-found.true more in
-    let passes = L.tile_count-passes.result - 1 in
-    reaches_connected s running l.invariant.running_fits _ (made_bit _ (total s) running R.running_set-running.ensures) passes l.found l.invariant.all
-    (reaches_all s running l.invariant.running_fits l.n passes l.found l.invariant.reaches same l.invariant.below)
+    let l = c.loop in
+    let s = c.args.s in
+    let running = c.running_set-running.result in
+    let more = reaches_next s running l.invariant.running_fits l.counter l.found c.spread-next.result l.invariant.reaches c.spread-next.ensures.1 in
+    let same = subst (λ x. Reaches s running (l.counter + 1) x) c.if-next-found.true more in
+    let passes = c.tile_count-passes.result - 1 in
+    reaches_connected s running l.invariant.running_fits _ (made_bit _ (total s) running c.running_set-running.ensures) passes l.found l.invariant.all
+    (reaches_all s running l.invariant.running_fits l.counter passes l.found l.invariant.reaches same (omega arith))
 
-pub loop-n-preserved : goal.loop-n-preserved
-loop-n-preserved c =
-    let P = c in
-    let L = P in
-    let R = L in
-    let l = L.loop-n in
+pub loop-preserved : goal.loop-preserved
+loop-preserved c =
+    let l = c.loop in
     record {
-      below = omega arith;
       ranged = l.invariant.ranged;
       all = l.invariant.all;
       running_fits = l.invariant.running_fits;
       above_is = l.invariant.above_is;
-      found_fits = P.spread-next.ensures.0;
-      reaches = reaches_next R.args.s R.running_set-running.result l.invariant.running_fits l.n l.found P.spread-next.result l.invariant.reaches P.spread-next.ensures.1;
+      found_fits = c.spread-next.ensures.0;
+      reaches = reaches_next c.args.s c.running_set-running.result l.invariant.running_fits l.counter l.found c.spread-next.result l.invariant.reaches c.spread-next.ensures.1;
     }
 
 pub returns : goal.returns
 returns c =
-    let L = c in
-    let R = L in
-    let l = L.loop-n in
-    let s = R.args.s in
-    let running = R.running_set-running.result in
-    let e : l.n ≡ L.tile_count-passes.result - 1 = omega arith in
-    reaches_connected s running l.invariant.running_fits _ (made_bit _ (total s) running R.running_set-running.ensures) l.n l.found (e ∙ l.invariant.all) l.invariant.reaches
+    let l = c.loop in
+    let s = c.args.s in
+    let running = c.running_set-running.result in
+    let e : l.counter ≡ c.tile_count-passes.result - 1 = omega arith in
+    reaches_connected s running l.invariant.running_fits _ (made_bit _ (total s) running c.running_set-running.ensures) l.counter l.found (e ∙ l.invariant.all) l.invariant.reaches

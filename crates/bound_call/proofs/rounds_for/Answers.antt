@@ -30,7 +30,7 @@ pub nonzero_div-crossing : goal.nonzero_div-crossing
 nonzero_div-crossing c = omega (arith, ((settings_fact c.args.s).0 c.requires.0).moving)
 
 pub overflow_add-crossing : goal.overflow_add-crossing
-overflow_add-crossing c = omega (arith, most c.args.s ((settings_fact c.args.s).0 c.requires.0))
+overflow_add-crossing c = rw (c.from.ensures, c.from-2.ensures) (omega (arith, most c.args.s ((settings_fact c.args.s).0 c.requires.0)))
 
 pub overflow_cast-others : goal.overflow_cast-others
 overflow_cast-others c = omega (arith, few c.args.s _ ((settings_fact c.args.s).0 c.requires.0) c.tile_count.ensures)
@@ -39,14 +39,14 @@ pub overflow_sub-others : goal.overflow_sub-others
 overflow_sub-others c = omega (arith, few c.args.s _ ((settings_fact c.args.s).0 c.requires.0) c.tile_count.ensures)
 
 pub overflow_mul-result : goal.overflow_mul-result
-overflow_mul-result c = record { fits = lt_of_le_of_lt (products c.args.s c.args.k _ ((settings_fact c.args.s).0 c.requires.0) c.tile_count.ensures c.requires.1).0 (lit< tt) }
+overflow_mul-result c = rw (c.from.ensures, c.from-2.ensures) (record { fits = lt_of_le_of_lt (products c.args.s c.args.k _ ((settings_fact c.args.s).0 c.requires.0) c.tile_count.ensures c.requires.1).0 (lit< tt) })
 
 pub overflow_add-result : goal.overflow_add-result
-overflow_add-result c = omega (arith, (products c.args.s c.args.k _ ((settings_fact c.args.s).0 c.requires.0) c.tile_count.ensures c.requires.1).0)
+overflow_add-result c = rw (c.from.ensures, c.from-2.ensures) (omega (arith, (products c.args.s c.args.k _ ((settings_fact c.args.s).0 c.requires.0) c.tile_count.ensures c.requires.1).0))
 
 pub overflow_mul-result-2 : goal.overflow_mul-result-2
-overflow_mul-result-2 c = record { fits = lt_of_le_of_lt (products c.args.s c.args.k _ ((settings_fact c.args.s).0 c.requires.0) c.tile_count.ensures c.requires.1).1 (lit< tt) }
+overflow_mul-result-2 c = rw (c.from.ensures, c.from-2.ensures) (record { fits = lt_of_le_of_lt (products c.args.s c.args.k _ ((settings_fact c.args.s).0 c.requires.0) c.tile_count.ensures c.requires.1).1 (lit< tt) })
 
 pub returns : goal.returns
 unfolding B.bound B.crossing
-returns c = ap (λ n. (n - 1) * (1 + c.args.k * B.crossing c.args.s)) c.tile_count.ensures
+returns c = rw (c.from.ensures, c.from-2.ensures) (ap (λ n. (n - 1) * (1 + c.args.k * B.crossing c.args.s)) c.tile_count.ensures)

@@ -1,26 +1,21 @@
 use mathlib.Core.Path.{◌∙◌}
-use Prim.Native.Nat.{◌-◌}
 use native.Mathlib.Omega.{arith}
-use lib.ListN.{length-set}
-use Rattle.laws.proofs.Tables.{upto_turn, rest_turn}
+use lib.ListN.{length-set, length-replicate}
+use Rattle.laws.proofs.Tables.{upto_turn, rest_turn, zeros_at}
 use Rattle.floor.specs.Memory.{zero_tile, head}
 use Rattle.floor.specs.Calls.{fresh_tile}
-use Rattle.floor.proofs.Sized.{tiles_length}
-use Rattle.call_parts.proofs.Packed.{zero_tiles, fresh_few, fresh_pack}
+use Rattle.call_parts.proofs.Packed.{fresh_few, fresh_pack}
 use borrow.Author.Rules.{rules}
 use Rattle.call_parts.proofs.fresh_floor.Goals as goal
 
 pub loop-t-init : goal.loop-t-init
-loop-t-init c =
-    let z = c.zero_floor-next in
-    let s = c in
-    record {
-      below = omega arith;
-      few = omega (arith, fresh_few s.args.s s.requires);
-      tiles_length = tiles_length z.result _ z.type_inv;
-      fresh = λ i h. absurd (omega arith);
-      rest = λ i h. zero_tiles z.result z.ensures i;
-    }
+loop-t-init c = record {
+  below = omega arith;
+  few = omega (arith, fresh_few c.args.s c.requires);
+  tiles_length = length-replicate 64 zero_tile;
+  fresh = λ i h. absurd (omega arith);
+  rest = λ i h. zeros_at zero_tile 64 i;
+}
 
 pub loop-t-preserved : goal.loop-t-preserved
 loop-t-preserved c =

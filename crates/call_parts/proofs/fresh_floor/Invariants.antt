@@ -1,4 +1,3 @@
-use Prim.Native.Nat.{◌-◌}
 use Rattle.call_parts.proofs.Loops.{Freshened}
 use Rattle.call_parts.proofs.fresh_floor.Given as goal
 

@@ -1,12 +1,13 @@
-use mathlib.Core.Path.{sym, ◌∙◌}
+use mathlib.Core.Path.{refl, sym, ◌∙◌}
 use Rattle.floor.specs.Settings.{is_hopper}
-use Rattle.call_parts.proofs.Packed.{fresh_hopper, fresh_other}
+use Rattle.floor.specs.Memory.{head}
+use Rattle.floor.specs.Calls.{fresh_tile}
 use Rattle.call_parts.proofs.fresh_tile.Goals as goal
+use Rattle.call_parts.proofs.fresh_tile.Goals.{then-holds, else-holds}
 
-pub returns-then-hopper : goal.returns-then-hopper
-unfolding is_hopper
-returns-then-hopper c = let g = c.args in fresh_hopper g.s g.t (sym c.holds-hopper.ensures ∙ c.if-hopper.true)
-
-pub returns-else-hopper : goal.returns-else-hopper
-unfolding is_hopper
-returns-else-hopper c = let g = c.args in fresh_other g.s g.t (sym c.holds-hopper.ensures ∙ c.if-hopper.false)
+pub returns : goal.returns
+unfolding is_hopper head fresh_tile
+returns c = elim c.if-holds.branch [
+  | then-holds w ↦ rw (w.distance-is, sym c.holds.ensures ∙ w.if-holds.true) refl
+  | else-holds w ↦ rw (w.distance-is, sym c.holds.ensures ∙ w.if-holds.false) refl
+]

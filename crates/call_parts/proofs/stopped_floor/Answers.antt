@@ -8,8 +8,8 @@ use Rattle.call_parts.proofs.stopped_floor.Goals as goal
 pub tile_head-was-requires : goal.tile_head-was-requires
 tile_head-was-requires c = let g = c.args in (c.requires.0, stop_on_lem g.floor g.tile c.requires.1)
 
-pub bounds-after-t : goal.bounds-after-t
-bounds-after-t c = let g = c.args in
+pub bounds-after-tile : goal.bounds-after-tile
+bounds-after-tile c = let g = c.args in
     let p = c.requires in
     omega (arith, below_64 g.floor g.tile p.0 (stop_on_lem g.floor g.tile p.1), tiles_length g.floor _ c.well_formed.0)
 

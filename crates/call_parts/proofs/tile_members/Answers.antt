@@ -1,41 +1,23 @@
-use mathlib.Core.Path.{refl, ◌∙◌}
-use Prim.Native.Nat.{◌+◌, ◌*◌, ◌-◌}
+use mathlib.Core.Path.{◌≡◌}
+use Prim.Native.Nat.{◌+◌, ◌-◌, ◌*◌}
 use native.Mathlib.Omega.{arith}
-use lib.ListN.{get_or, length-set, length-replicate}
-use Rattle.laws.proofs.Tables.{upto_turn, filled}
+use lib.Seq.{get_or-take}
+use Rattle.std.proofs.lemmas.List.{get_or-drop}
+use lib.ListN.{get_or, take, drop}
+use Rattle.laws.proofs.Tables.{filled}
 use Rattle.floor.specs.Model.{members_of}
 use Rattle.floor.specs.Memory.{zero_canister, view}
 use Rattle.floor.proofs.Sized.{canisters_length}
 use Rattle.floor.proofs.Pack.{below_64, place_view}
 use Rattle.call_parts.proofs.tile_members.Goals as goal
 
-pub loop-k-init : goal.loop-k-init
-loop-k-init c =
-    let g = c.args in
-    record {
-      below = omega arith;
-      here = below_64 g.floor g.tile c.requires.0 c.requires.1;
-      canisters_length = canisters_length g.floor _ c.well_formed.0;
-      items_length = length-replicate 16 zero_canister;
-      copied = λ i h. absurd (omega arith);
-    }
-
-pub loop-k-preserved : goal.loop-k-preserved
-loop-k-preserved c =
-    let l = c.loop-k in
-    let g = c.args in
-    record {
-      below = omega arith;
-      here = l.invariant.here;
-      canisters_length = l.invariant.canisters_length;
-      items_length = length-set l.items l.k _ ∙ l.invariant.items_length;
-      copied = upto_turn l.k (λ j. get_or (g.floor).canisters (16 * g.tile + j) zero_canister) zero_canister l.items _ (omega arith) l.invariant.copied refl;
-    }
+pub slice_bounds-copy_from_slice-end-2 : goal.slice_bounds-copy_from_slice-end-2
+slice_bounds-copy_from_slice-end-2 c = let g = c.args in omega (arith, below_64 g.floor g.tile c.requires.0 c.requires.1, canisters_length g.floor _ c.well_formed.0)
 
 pub returns : goal.returns
 returns c =
-    let l = c.loop-k in
-    let s = c in
-    let g = s.args in
-    filled 16 (λ k. get_or (members_of (view g.floor) g.tile) k zero_canister) zero_canister l.items l.invariant.items_length
-    (λ i h. l.invariant.copied i (omega arith) ∙ place_view g.floor g.tile s.requires.0 s.requires.1 i h)
+    let g = c.args in
+    let e = c.copy_from_slice.ensures in
+    let q : c.copy_from_slice.new.self ≡ take (16 * g.tile + 16 - 16 * g.tile) (drop (16 * g.tile) g.floor.canisters) = e.after in
+    filled 16 (λ k. get_or (members_of (view g.floor) g.tile) k zero_canister) zero_canister _ e.len
+    (λ i h. rw (q, get_or-take (16 * g.tile + 16 - 16 * g.tile) (drop (16 * g.tile) g.floor.canisters) i zero_canister (omega arith), get_or-drop) (place_view g.floor g.tile c.requires.0 c.requires.1 i h))

@@ -3,28 +3,23 @@ use mathlib.Core.Bool.{true}
 use Rattle.floor.specs.Well.{well_formed}
 use Rattle.floor.specs.Calls.{repair_answer}
 use Rattle.floor.proofs.Answers.{answer_malformed, answer_refused, answer_accepted}
+use Rattle.floor.proofs.Refusing.{refusing}
 use Rattle.calls.proofs.repair.Goals as goal
 
-pub returns-then-not-well : goal.returns-then-not-well
+pub returns-then-not-well_formed : goal.returns-then-not-well_formed
 unfolding repair_answer
-returns-then-not-well c = answer_malformed _ _ _ (sym c.well_formed-well.ensures ∙ c.if-not-well.true)
+returns-then-not-well_formed c = c.refused.ensures ∙ answer_malformed _ _ _ (sym c.well_formed-2.ensures ∙ c.if-not-well_formed.true)
 
--- behind the first test the floor is well formed
-well : (c : goal.Else-not-well) → well_formed c.args.floor ≡ true
-well c = sym c.well_formed-well.ensures ∙ c.if-not-well.false
+pub test_repair-requires : goal.test_repair-requires
+test_repair-requires c = sym c.well_formed-2.ensures ∙ c.if-not-well_formed.false
 
-pub repair_refusal-n-requires : goal.repair_refusal-n-requires
-repair_refusal-n-requires c = well c
-
-pub returns-then-n-ne0 : goal.returns-then-n-ne0
+pub returns-in-Err : goal.returns-in-Err
 unfolding repair_answer
-returns-then-n-ne0 c = answer_refused _ _ _ (well c.before.before) c.repair_refusal-n.result c.repair_refusal-n.ensures c.if-n-ne0.true
+returns-in-Err c = c.refused-in-Err.ensures ∙ answer_refused _ _ _ (sym c.well_formed-2.ensures ∙ c.if-not-well_formed.false) _ c.in-Err.ensures (refusing c.in-Err.why)
 
 pub repaired_floor-repaired-requires : goal.repaired_floor-repaired-requires
-repaired_floor-repaired-requires c = (well c.before.before, sym c.repair_refusal-n.ensures ∙ c.if-n-ne0.false)
+repaired_floor-repaired-requires c = (sym c.well_formed-2.ensures ∙ c.if-not-well_formed.false, sym c.in_default.ensures)
 
 pub returns : goal.returns
 unfolding repair_answer
-returns c =
-    let n = c.repair_refusal-n in
-    answer_accepted _ _ _ (well c.before.before.before) 0 (sym c.if-n-ne0.false ∙ n.ensures) refl c.repaired_floor-repaired.result c.repaired_floor-repaired.ensures
+returns c = answer_accepted _ _ _ (sym c.well_formed-2.ensures ∙ c.if-not-well_formed.false) 0 c.in_default.ensures refl c.repaired_floor-repaired.result c.repaired_floor-repaired.ensures

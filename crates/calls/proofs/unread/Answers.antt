@@ -4,4 +4,4 @@ use Rattle.calls.proofs.unread.Goals as goal
 
 pub returns : goal.returns
 unfolding unread_with
-returns c = refl
+returns c = rw c.from.ensures refl

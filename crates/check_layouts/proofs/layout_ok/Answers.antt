@@ -10,7 +10,4 @@ pub within-on-requires : goal.within-on-requires
 within-on-requires c = ((settings_fact c.args.s).0 c.requires).few
 
 pub returns : goal.returns
-returns c =
-    let n = c in
-    let S = n in
-    rw (n.name_ok-named.ensures, c.within-on.ensures, c.meets-some.ensures) (layout_code S.args.s S.args.x c.minus-stopped.result S.requires c.minus-stopped.ensures)
+returns c = rw (c.name_ok.ensures, c.within-on.ensures, c.meets.ensures) (layout_code c.args.s c.args.x c.minus-stopped.result c.requires c.minus-stopped.ensures)

@@ -1,45 +1,24 @@
-use mathlib.Core.Path.{◌≡◌, sym, ap, ◌∙◌}
-use Prim.Native.Nat.{◌+◌, ◌-◌, ◌<◌}
-use native.Mathlib.Omega.{arith}
-use Rattle.floor.specs.Well.{name_at, place_test}
-use Rattle.check_layouts.proofs.Tests.{last_name, place_tested, Passed, passed_turn, passed_all, one_fails}
+use mathlib.Core.Path.{sym, ◌∙◌}
+use Rattle.check_layouts.proofs.Loops.{places_start, places_more, places_fail, places_end}
 use Rattle.check_layouts.proofs.layouts_ok.Goals as goal
 
-pub loop-j-init : goal.loop-j-init
-loop-j-init c = record {
-  below = omega arith;
-  named = last_name c.args.layouts c.well_formed.1.0.1.0.1;
-  passed = λ i a b. absurd (omega arith);
-}
+pub loop-x-init : goal.loop-x-init
+loop-x-init c = places_start c.args.s c.args.layouts _ c.well_formed.1.0.1.0.1 (cc)
 
-pub returns-then-not-one : goal.returns-then-not-one
-returns-then-not-one c =
-    let i = c in
-    let o = i in
-    let S = o in
-    let l = o.loop-j in
-    let on : l.j < 8 = omega arith in
-    let e = place_tested S.args.s S.args.layouts (7 - l.j) (8 - l.j) l.above (omega arith) l.invariant.named in
-    one_fails (place_test S.args.s S.args.layouts) (7 - l.j) (omega arith) (sym e ∙ sym c.place_ok-one.ensures ∙ c.if-not-one.true)
+pub loop-x-preserved : goal.loop-x-preserved
+loop-x-preserved c =
+    let e = c.in-Some.ensures in
+    let l = c.loop-x in
+    places_more c.args.s c.args.layouts l.x-iterator.iter.rest.now c.next.new.self.iter.rest.now c.in-Some.x.now l.above e.steps l.invariant (sym c.place_ok.ensures ∙ c.if-not-place_ok.false)
 
-pub loop-j-preserved : goal.loop-j-preserved
-loop-j-preserved c =
-    let i = c.before.before in
-    let o = i in
-    let S = o in
-    let l = o.loop-j in
-    let on : l.j < 8 = omega arith in
-    let e = place_tested S.args.s S.args.layouts (7 - l.j) (8 - l.j) l.above (omega arith) l.invariant.named in
-    let next : 7 - l.j ≡ 8 - (l.j + 1) = omega arith in
-    let more : Passed (place_test S.args.s S.args.layouts) (7 - l.j) = passed_turn (place_test S.args.s S.args.layouts) (7 - l.j) (omega arith) l.invariant.passed (sym e ∙ sym c.place_ok-one.ensures ∙ c.if-not-one.false) in
-    record {
-      below = omega arith;
-      named = ap (name_at S.args.layouts) next;
-      passed = λ i a b. more i (omega arith) b;
-    }
+pub returns-then-not-place_ok : goal.returns-then-not-place_ok
+returns-then-not-place_ok c =
+    let e = c.in-Some.ensures in
+    let l = c.loop-x in
+    places_fail c.args.s c.args.layouts l.x-iterator.iter.rest.now c.next.new.self.iter.rest.now c.in-Some.x.now l.above e.steps l.invariant (sym c.place_ok.ensures ∙ c.if-not-place_ok.true)
 
 pub returns : goal.returns
 returns c =
-    let S = c in
-    let l = c.loop-j in
-    passed_all (place_test S.args.s S.args.layouts) (8 - l.j) (omega arith) l.invariant.passed
+    let e = c.in-None.ensures in
+    let l = c.loop-x in
+    places_end c.args.s c.args.layouts l.x-iterator.iter.rest.now l.above e.steps.0 l.invariant

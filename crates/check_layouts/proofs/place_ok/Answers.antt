@@ -6,6 +6,6 @@ pub returns-then-x-eq0 : goal.returns-then-x-eq0
 unfolding place_ok
 returns-then-x-eq0 c = rw (eq-eqb c.args.x.name 0 c.if-x-eq0.true)
 
-pub returns : goal.returns
+pub returns-else-x-eq0 : goal.returns-else-x-eq0
 unfolding place_ok
-returns c = let i = c in rw (ne_eqb i.args.x.name 0 i.if-x-eq0.false, c.layout_ok-own.ensures)
+returns-else-x-eq0 c = rw (ne_eqb c.args.x.name 0 c.if-x-eq0.false, c.layout_ok.ensures)

@@ -1,53 +1,31 @@
 use mathlib.Core.Path.{◌≡◌, refl, ◌∙◌}
-use Prim.Native.Nat.{◌-◌}
+use Prim.Native.Nat.{◌+◌, ◌-◌}
 use native.Mathlib.Omega.{arith}
-use Rattle.check_places.proofs.Lanes.{twice_none, twice_more, lowest_none, lowest_more, lanes_apart}
+use lib.ListN.{length}
+use Rattle.check_places.proofs.Lanes.{lowest_none, lowest_more, lanes_apart}
 use Rattle.check_places.proofs.all_apart.Goals as goal
 
-pub loop-k-init : goal.loop-k-init
-loop-k-init c =
-    let g = c.args in
-    record {
-      below = omega arith;
-      few = c.requires.1;
-      items_length = c.well_formed.1.0.1.0.1;
-      in_a = twice_none (λ c. c.a) g.n g.items;
-      in_b = twice_none (λ c. c.b) g.n g.items;
-    }
+pub loop-k-2-init : goal.loop-k-2-init
+loop-k-2-init c = let l = c.loop-k in record { below = omega arith; size = refl; low = lowest_none l.a l.b }
 
-pub loop-k-preserved : goal.loop-k-preserved
-loop-k-preserved c =
-    let l = c.loop-k in
-    let g = c.args in
-    record {
-      below = omega arith;
-      few = l.invariant.few;
-      items_length = l.invariant.items_length;
-      in_a = twice_more (λ c. c.a) g.n g.items l.k l.a (omega arith) l.invariant.few l.invariant.in_a;
-      in_b = twice_more (λ c. c.b) g.n g.items l.k l.b (omega arith) l.invariant.few l.invariant.in_b;
-    }
-
-pub loop-j-init : goal.loop-j-init
-loop-j-init c = let l = c.loop-k in record { below = omega arith; size = refl; low = lowest_none l.a l.b }
-
-pub loop-j-preserved : goal.loop-j-preserved
-loop-j-preserved c =
-    let o = c in
-    let l = o.loop-j in
-    let d = o.loop-k in
+pub loop-k-2-preserved : goal.loop-k-2-preserved
+loop-k-2-preserved c =
+    let l = c.loop-k-2 in
+    let d = c.loop-k in
+    let e : l.k + 1 - 1 ≡ l.k - 1 + 1 = omega arith in
+    let f : l.k - 1 + 1 ≡ l.k = omega arith in
     record {
       below = omega arith;
       size = c.compare_shifted.ensures.size;
-      low = lowest_more d.a d.b l.least c.compare_shifted.new.least l.j l.invariant.low c.compare_shifted.ensures;
+      low = rw e (lowest_more d.a d.b l.least c.compare_shifted.new.least (l.k - 1) l.invariant.low (rw f c.compare_shifted.ensures));
     }
 
 pub returns : goal.returns
 returns c =
-    let o = c in
-    let l = o.loop-j in
-    let d = o.loop-k in
-    let g = o.args in
-    let e : d.k ≡ g.n = omega arith in
-    let f : l.j ≡ 8 = omega arith in
+    let l = c.loop-k-2 in
+    let d = c.loop-k in
+    let members = c.args.members.now in
+    let e : d.k ≡ length members = omega arith in
+    let f : l.k - 1 ≡ 8 = omega arith in
     c.none_below.ensures
-    ∙ lanes_apart g.n g.items d.a d.b o.requires.0 d.invariant.few d.invariant.items_length (rw e at d.invariant.in_a) (rw e at d.invariant.in_b) g.d l.least (omega arith) (rw f at l.invariant.low)
+    ∙ lanes_apart (length members) members d.a d.b c.requires.0 c.requires.1 refl (rw e at d.invariant.in_a) (rw e at d.invariant.in_b) c.args.d l.least (omega arith) l.invariant.size (rw f at l.invariant.low)

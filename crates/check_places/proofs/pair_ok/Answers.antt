@@ -3,4 +3,4 @@ use Rattle.check_places.proofs.pair_ok.Goals as goal
 
 pub returns : goal.returns
 unfolding in_order
-returns c = rw c.stands_apart-apart.ensures
+returns c = rw c.stands_apart.ensures

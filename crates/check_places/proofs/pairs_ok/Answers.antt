@@ -1,15 +1,6 @@
-use Rattle.check_places.proofs.Pairs.{in_order_made, many}
-use borrow.Author.Rules.{rules}
+use mathlib.Core.Path.{◌∙◌}
+use Rattle.check_places.proofs.Pairs.{in_order_made}
 use Rattle.check_places.proofs.pairs_ok.Goals as goal
 
-pub numbers_rise-up-requires : goal.numbers_rise-up-requires
-numbers_rise-up-requires c = let m = many c.args.n c.spacing-d.result c.if-n-d.false in search rules
-
-pub overflow_cast-d : goal.overflow_cast-d
-overflow_cast-d c = let m = many c.args.n c.spacing-d.result c.if-n-d.false in search rules
-
-pub all_apart-free-requires : goal.all_apart-free-requires
-all_apart-free-requires c = let m = many c.args.n c.spacing-d.result c.if-n-d.false in search rules
-
-pub returns : goal.returns
-returns c = search (in_order_made, rules)
+pub returns-in-Ok : goal.returns-in-Ok
+returns-in-Ok c = let d = c.in-Ok.ensures in in_order_made c.args.s c.args.members.now c.in-Ok.d (d.1 ∙ c.spacing.ensures) c.numbers_rise.ensures c.all_apart.ensures

@@ -1,10 +1,6 @@
 use mathlib.Core.Path.{refl}
 use native.Mathlib.Omega.{arith}
 use Rattle.console_lines.proofs.Kept.{kept_whole, kept_word, kept_last}
-use borrow.Author.Rules.{rules}
-use Rattle.console_lines.proofs.kept_of.Reads as reads
-use Rattle.console_lines.proofs.kept_of.Lts as lts
-use Rattle.console_words.proofs.skip_blanks.Reads as skip-blanks-reads
 use Rattle.console_lines.proofs.kept_of.Goals as goal
 
 pub returns-then-line-lt402 : goal.returns-then-line-lt402

@@ -16,12 +16,7 @@ four (a ∷ b ∷ c ∷ []) e = absurd (omega arith)
 four (a ∷ b ∷ c ∷ d ∷ []) e = omega arith
 four (a ∷ b ∷ c ∷ d ∷ e ∷ l) p = absurd (omega arith)
 
-pub returns-then-all-booked : goal.returns-then-all-booked
-returns-then-all-booked c =
+pub returns : goal.returns
+returns c =
     let S = c in
-    omega (arith, four S.args.c.delivered (delivered_length S.args.c _ S.well_formed.0), c.wide.ensures.0, c.wide-2.ensures.0, c.wide-3.ensures.0, c.wide-4.ensures.0, c.wide-booked.ensures.0)
-
-pub returns-else-all-booked : goal.returns-else-all-booked
-returns-else-all-booked c =
-    let S = c in
-    omega (arith, four S.args.c.delivered (delivered_length S.args.c _ S.well_formed.0), c.wide.ensures.0, c.wide-2.ensures.0, c.wide-3.ensures.0, c.wide-4.ensures.0, c.wide-booked.ensures.0)
+    omega (arith, four S.args.c.delivered (delivered_length S.args.c _ S.well_formed.0), c.from.ensures, c.from-2.ensures, c.from-3.ensures, c.from-4.ensures, c.from-5.ensures, c.saturating_sub.ensures)

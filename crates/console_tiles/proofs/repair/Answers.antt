@@ -3,10 +3,10 @@ use Rattle.console_tiles.specs.Typed.{repair_typed}
 use Rattle.console_tiles.proofs.Typed.{tile_unread, tile_read}
 use Rattle.console_tiles.proofs.repair.Goals as goal
 
-pub returns-then-not-n : goal.returns-then-not-n
+pub returns-in-Some : goal.returns-in-Some
 unfolding repair_typed
-returns-then-not-n g c = tile_unread repair_answer _ _ _ _ c.arguments-n.ensures c.if-not-n.true c.cannot.ensures
+returns-in-Some g c = tile_read repair_answer _ _ _ _ _ c.in-Some.ensures c.repair.ensures c.pressed.ensures
 
-pub returns : goal.returns
+pub returns-in-None : goal.returns-in-None
 unfolding repair_typed
-returns g c = tile_read repair_answer _ _ _ _ _ c.arguments-n.ensures c.if-not-n.false c.repair-answer.ensures c.answered.ensures
+returns-in-None g c = tile_unread repair_answer _ _ _ c.in-None.ensures c.cannot.ensures

@@ -1,11 +1,8 @@
-use Prim.Native.Nat.{◌-◌}
-use lib.ListN.{length}
-use Rattle.console_words.proofs.Text.{between_more}
-use Rattle.console_words.proofs.Loops.{NotFound}
-use borrow.Author.Rules.{rules}
-use Rattle.console_words.proofs.find.Reads as reads
-use Rattle.console_words.proofs.find.Lts as lts
+use Rattle.console_words.proofs.Text.{found}
 use Rattle.console_words.proofs.find.Goals as goal
 
-pub loop-i-preserved : goal.loop-i-preserved
-loop-i-preserved c = search (between_more, rules)
+pub returns-clause-by_index : goal.returns-clause-by_index
+returns-clause-by_index c = (found _ _ _ _ c.requires c.before-2.ensures).1
+
+pub returns-clause-result_value : goal.returns-clause-result_value
+returns-clause-result_value c = (found _ _ _ _ c.requires c.before-2.ensures).2

@@ -1,15 +1,6 @@
-use native.Mathlib.Omega.{arith}
-use Rattle.console_words.proofs.Text.{nth_turn, nth_here}
-use Rattle.console_words.proofs.Loops.{WordsPassed}
-use borrow.Author.Rules.{rules}
-use Rattle.console_words.proofs.nth.Reads as reads
-use Rattle.console_words.proofs.nth.Lts as lts
-use Rattle.console_words.proofs.skip_blanks.Reads as skip-blanks-reads
-use Rattle.console_words.proofs.word_end.Reads as word-end-reads
+use Rattle.std.proofs.Common.{◌≡◌, ◌-◌}
+use Rattle.console_words.specs.Text.{nth_word}
 use Rattle.console_words.proofs.nth.Given as goal
 
-abbrev pub invariant-loop-left : goal.invariant-loop-left
-invariant-loop-left l = WordsPassed l.s l.k l.at l.left
-
-abbrev pub decreases-loop-left : goal.decreases-loop-left
-decreases-loop-left l = l.left
+abbrev pub invariant-loop : goal.invariant-loop
+invariant-loop l = nth_word (l.k - l.counter) l.rest ≡ nth_word l.k l.s

@@ -14,7 +14,9 @@ made : ℕ → Written
 made k = record { refusal = 0; length = k }
 
 pub returns-then-not-well : goal.returns-then-not-well
-returns-then-not-well c = write_malformed c.args.floor c.args.buffer.now (sym c.well_formed-well.ensures ∙ c.if-not-well.true)
+returns-then-not-well c =
+    let p = write_malformed c.args.floor c.args.buffer.now (sym c.well_formed-well.ensures ∙ c.if-not-well.true) in
+    (c.refused.ensures ∙ p.0, p.1)
 
 pub image_length-n-requires : goal.image_length-n-requires
 image_length-n-requires c = sym c.well_formed-well.ensures ∙ c.if-not-well.false
@@ -22,16 +24,15 @@ image_length-n-requires c = sym c.well_formed-well.ensures ∙ c.if-not-well.fal
 pub returns-then-buffer-n : goal.returns-then-buffer-n
 returns-then-buffer-n c =
     let g = c.args in
-    let k = (let length_facts : let f = c.args.floor in (well_formed f ≡ true) × (c.image_length-n.result ≡ length (encode (view f))) = (sym c.well_formed-well.ensures ∙ c.if-not-well.false, c.image_length-n.ensures) in length_facts) in
-    write_short g.floor g.buffer.now k.0 (omega (arith, k.1, c.if-buffer-n.true))
+    let p = write_short g.floor g.buffer.now (sym c.well_formed-well.ensures ∙ c.if-not-well.false) (omega (arith, c.image_length-n.ensures, c.if-buffer-n.true)) in
+    (c.refused-then-buffer-n.ensures ∙ p.0, p.1)
 
 pub write_image-requires : goal.write_image-requires
-write_image-requires c = let k = (let length_facts : let f = c.args.floor in (well_formed f ≡ true) × (c.image_length-n.result ≡ length (encode (view f))) = (sym c.well_formed-well.ensures ∙ c.if-not-well.false, c.image_length-n.ensures) in length_facts) in (k.0, omega (arith, k.1, c.if-buffer-n.false))
+write_image-requires c = (sym c.well_formed-well.ensures ∙ c.if-not-well.false, omega (arith, c.image_length-n.ensures, c.if-buffer-n.false))
 
 pub returns : goal.returns
 unfolding made
 returns c =
     let g = c.args in
-    let k = (let length_facts : let f = c.args.floor in (well_formed f ≡ true) × (c.image_length-n.result ≡ length (encode (view f))) = (sym c.well_formed-well.ensures ∙ c.if-not-well.false, c.image_length-n.ensures) in length_facts) in
-    let p = write_whole g.floor g.buffer.now k.0 (omega (arith, k.1, c.if-buffer-n.false)) in
-    (ap (λ (k : ℕ). made k) k.1 ∙ p.0, c.write_image.ensures ∙ p.1)
+    let p = write_whole g.floor g.buffer.now (sym c.well_formed-well.ensures ∙ c.if-not-well.false) (omega (arith, c.image_length-n.ensures, c.if-buffer-n.false)) in
+    (ap (λ (k : ℕ). made k) c.image_length-n.ensures ∙ p.0, c.write_image.ensures ∙ p.1)

@@ -1,10 +1,8 @@
 use mathlib.Core.Path.{◌≡◌}
-use Prim.Native.Nat.{◌+◌, ◌*◌, ◌-◌, ◌≤◌}
+use Prim.Native.Nat.{◌+◌, ◌*◌}
 use native.Mathlib.Omega.{arith}
-use lib.ListN.{length, drop, get_or}
+use lib.ListN.{get_or}
 use Rattle.laws.proofs.Tables.{filled_none}
-use Rattle.image_bytes.specs.Bytes.{field}
-use Rattle.image.specs.Image.{tile_widths}
 use Rattle.floor.specs.Memory.{zero_canister}
 use Rattle.image_read.specs.InternalArrays.{canister_from}
 use Rattle.image_read.proofs.Reading.{count_is}
@@ -20,19 +18,13 @@ loop-t-init c = let g = c.args in record {
   placed = filled_none 1024 (canister_from g.s.now g.starts g.c) zero_canister;
 }
 
-pub overflow_add-n : goal.overflow_add-n
-overflow_add-n c = let b = (let tile : let g = c.args in let at = get_or g.starts c.loop-t.t 0 in let n = field tile_widths 5 (drop at g.s.now) in (at + 6 + 8 * n ≤ length g.s.now) × (n ≤ 16) = let p = c.requires in (p.1 c.loop-t.t (omega arith), p.2 c.loop-t.t (omega arith)) in tile) in omega arith
-
 pub bounds-s-at : goal.bounds-s-at
-bounds-s-at c = let b = (let tile : let g = c.args in let at = get_or g.starts c.loop-t.t 0 in let n = field tile_widths 5 (drop at g.s.now) in (at + 6 + 8 * n ≤ length g.s.now) × (n ≤ 16) = let p = c.requires in (p.1 c.loop-t.t (omega arith), p.2 c.loop-t.t (omega arith)) in tile) in omega arith
-
-pub overflow_cast-n : goal.overflow_cast-n
-overflow_cast-n c =
-    omega (arith, c.shared_slice_known-in-loop-t-1.given (get_or c.args.starts c.loop-t.t 0 + 5))
+bounds-s-at c = let r = c.requires.1 c.loop-t.t (omega arith) in omega arith
 
 pub loop-j-init : goal.loop-j-init
 loop-j-init c =
-    let b = (let tile : let g = c.args in let at = get_or g.starts c.loop-t.t 0 in let n = field tile_widths 5 (drop at g.s.now) in (at + 6 + 8 * n ≤ length g.s.now) × (n ≤ 16) = let p = c.requires in (p.1 c.loop-t.t (omega arith), p.2 c.loop-t.t (omega arith)) in tile) in
+    let r = c.requires.1 c.loop-t.t (omega arith) in
+    let f = c.requires.2 c.loop-t.t (omega arith) in
     let g = c.args in
     let l = c.loop-t in
     let n = count_is g.s.now (get_or g.starts l.t 0) 0 (omega arith) in
@@ -41,6 +33,7 @@ loop-j-init c =
       below = omega arith;
       here = omega arith;
       few = l.invariant.few;
+      count = c.from-n.ensures;
       small = omega arith;
       room = omega arith;
       starts_length = l.invariant.starts_length;

@@ -1,5 +1,5 @@
 use mathlib.Core.Path.{◌≡◌, refl}
-use Prim.Native.Nat.{◌+◌, ◌-◌, ◌*◌}
+use Prim.Native.Nat.{◌+◌, ◌*◌}
 use native.Mathlib.Omega.{arith}
 use lib.ListN.{drop, length-set}
 use Rattle.laws.proofs.Tables.{upto_turn, rest_turn, zeros_at}
@@ -13,7 +13,7 @@ loop-k-init c =
     record {
       below = omega arith;
       few = S.requires.1;
-      whole = refl;
+      whole = c.from-k-end.ensures;
       inside = S.requires.0;
       delivered_length = refl;
       read = λ i h. absurd (omega arith);
@@ -32,7 +32,7 @@ loop-k-preserved c =
       whole = l.invariant.whole;
       inside = l.invariant.inside;
       delivered_length = simp length-set l.invariant.delivered_length;
-      read = upto_turn l.k (λ j. le 4 (drop (g.at + 8 + 4 * j) (g.s).now)) 0 l.delivered _ (omega arith) l.invariant.read c.u32_at.ensures;
+      read = upto_turn l.k (λ j. le 4 (drop (g.at + 8 + 4 * j) (g.s).now)) 0 l.delivered _ (omega arith) l.invariant.read c.read_at.ensures;
       zeros = rest_turn l.k (λ _. 0) 0 l.delivered _ l.invariant.zeros;
     }
 
@@ -42,4 +42,4 @@ returns c =
     let U = c in
     let g = U.args in
     let e : l.k ≡ g.h = omega (arith, c.loop-k-test.false) in
-    rw (counters_code (g.s).now g.at g.h l.delivered l.invariant.delivered_length (λ k h. l.invariant.read k (omega arith)) (λ k h. l.invariant.zeros k (omega arith)), U.u32_at-last.ensures, c.u32_at-booked.ensures)
+    rw (counters_code (g.s).now g.at g.h l.delivered l.invariant.delivered_length (λ k h. l.invariant.read k (omega arith)) (λ k h. l.invariant.zeros k (omega arith)), c.read_at-2.ensures, c.read_at-3.ensures)

@@ -14,7 +14,7 @@ is-20 n (inr e) h = absurd (h e)
 pub returns-then-n-eq28 : goal.returns-then-n-eq28
 returns-then-n-eq28 c =
     let g = c.args in
-    c.u64_at.ensures ∙ sym (ap (λ (n : ℕ). (settings_in n (drop g.at (g.s).now)).hoppers) c.if-n-eq28.true ∙ set_code (g.s).now g.at)
+    c.read_at.ensures ∙ sym (ap (λ (n : ℕ). (settings_in n (drop g.at (g.s).now)).hoppers) c.if-n-eq28.true ∙ set_code (g.s).now g.at)
 
 pub bounds-s-at : goal.bounds-s-at
 bounds-s-at c =

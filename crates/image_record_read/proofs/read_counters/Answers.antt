@@ -1,10 +1,9 @@
-use mathlib.Core.Path.{◌∙◌}
 use native.Mathlib.Omega.{arith}
 use Rattle.image_record_read.proofs.Refusals.{counters_long, counters_right}
 use Rattle.image_record_read.proofs.read_counters.Goals as goal
 
-pub returns-then-n-h : goal.returns-then-n-h
-returns-then-n-h c = let g = c.args in (c.unread.ensures ∙ counters_long g.h g.n (omega arith), λ z. absurd (omega (arith, c.unread.ensures, z)))
+pub returns-then-n-from : goal.returns-then-n-from
+returns-then-n-from c = let g = c.args in (counters_long g.h g.n (omega arith), tt)
 
 pub returns : goal.returns
-returns c = (c.unread-r.ensures ∙ counters_right _ _ (omega arith), λ z. c.counters_at-r.ensures)
+returns c = (counters_right _ _ (omega arith), c.counters_at.ensures)

@@ -1,7 +1,9 @@
 use mathlib.Core.Logic.{◌≢◌}
+use mathlib.Core.Path.{◌∙◌, sym}
 use Prim.Native.Nat.{ℕ, zero, suc, ◌≤◌}
 use native.Mathlib.Omega.{arith}
-use Rattle.image_record_read.proofs.Refusals.{Headed, record_bare, record_cut, record_other, record_not, record_1, record_2, record_3, record_4, record_5}
+use Rattle.image_record_read.proofs.Exits.{passed_up}
+use Rattle.image_record_read.proofs.Refusals.{headed, record_bare, record_cut, record_other, record_1, record_2, record_3, record_4, record_5, holds_1, holds_2, holds_3, holds_5}
 use Rattle.image_record_read.proofs.read_record.Goals as goal
 
 -- a kind that is none of the five is not the one due
@@ -15,47 +17,57 @@ other k (suc (suc (suc (suc (suc zero))))) a b c e f h q = f
 other k (suc (suc (suc (suc (suc (suc d)))))) a b c e f h q = absurd (omega arith)
 
 pub returns-then-left-lt4 : goal.returns-then-left-lt4
-returns-then-left-lt4 c = let g = c.args in record_bare g.s.now g.at g.due g.tile _ (omega arith) (omega arith) c.unread.ensures
+returns-then-left-lt4 c = let g = c.args in (record_bare g.s.now g.at g.due g.tile (omega arith) (omega arith), tt)
 
-pub returns-then-left-n : goal.returns-then-left-n
-returns-then-left-n c =
-    let g = c.args in
-    record_cut g.s.now g.at g.due g.tile _ _ c.u16_at-n.ensures (omega arith) (omega arith) c.unread-then-left-n.ensures
+pub returns-then-left-from : goal.returns-then-left-from
+returns-then-left-from c = let g = c.args in (record_cut g.s.now g.at g.due g.tile _ c.read_at-n.ensures (omega arith) (omega arith), tt)
 
-pub read_counters-requires : goal.read_counters-requires
-read_counters-requires c = (omega arith, c.requires.3 c.if-due-eq2.true)
+pub returns-in_err-read_settings-in-1 : goal.returns-in_err-read_settings-in-1
+returns-in_err-read_settings-in-1 c = passed_up _ _ c.from_residual.result c.from_residual.ensures.1 (c.in_err-read_settings-in-1.ensures.0 ∙ record_1 (headed c.args.s.now c.args.at c.read_at-n.result c.read_at-kind.result c.read_at-n.ensures c.read_at-kind.ensures (omega arith)) _ _ c.in-1.is c.if-due-eq1.true)
 
-pub returns-then-due-eq1 : goal.returns-then-due-eq1
-returns-then-due-eq1 c = record_1 (let headed : Headed c.args.s.now c.args.at c.u16_at-n.result c.u16_at-kind.result = record { long = c.u16_at-n.ensures; kind = c.u16_at-kind.ensures; whole = omega arith } in headed) _ _ _ c.in-1.is c.if-due-eq1.true c.read_settings.ensures
+pub returns-in_ok-read_settings-in-1 : goal.returns-in_ok-read_settings-in-1
+returns-in_ok-read_settings-in-1 c = let e = c.in_ok-read_settings-in-1.ensures in (e.0 ∙ record_1 (headed c.args.s.now c.args.at c.read_at-n.result c.read_at-kind.result c.read_at-n.ensures c.read_at-kind.ensures (omega arith)) _ _ c.in-1.is c.if-due-eq1.true, holds_1 (headed c.args.s.now c.args.at c.read_at-n.result c.read_at-kind.result c.read_at-n.ensures c.read_at-kind.ensures (omega arith)) _ c.args.tile c.if-due-eq1.true _ e.1)
 
-pub returns-else-due-eq1 : goal.returns-else-due-eq1
-returns-else-due-eq1 c = record_not (let headed : Headed c.args.s.now c.args.at c.u16_at-n.result c.u16_at-kind.result = record { long = c.u16_at-n.ensures; kind = c.u16_at-kind.ensures; whole = omega arith } in headed) _ _ _ _ c.in-1.is c.if-due-eq1.false c.unread-else-due-eq1.ensures
+pub returns-in_err-read_counters-in-2 : goal.returns-in_err-read_counters-in-2
+returns-in_err-read_counters-in-2 c = passed_up _ _ c.from_residual-in_err-read_counters-in-2.result c.from_residual-in_err-read_counters-in-2.ensures.1 (c.in_err-read_counters-in-2.ensures.0 ∙ record_2 (headed c.args.s.now c.args.at c.read_at-n.result c.read_at-kind.result c.read_at-n.ensures c.read_at-kind.ensures (omega arith)) _ _ c.in-2.is c.if-due-eq2.true)
 
-pub returns-then-due-eq2 : goal.returns-then-due-eq2
-returns-then-due-eq2 c = record_2 (let headed : Headed c.args.s.now c.args.at c.u16_at-n.result c.u16_at-kind.result = record { long = c.u16_at-n.ensures; kind = c.u16_at-kind.ensures; whole = omega arith } in headed) _ _ _ c.in-2.is c.if-due-eq2.true c.read_counters.ensures
+pub returns-in_ok-read_counters-in-2 : goal.returns-in_ok-read_counters-in-2
+returns-in_ok-read_counters-in-2 c = let e = c.in_ok-read_counters-in-2.ensures in (e.0 ∙ record_2 (headed c.args.s.now c.args.at c.read_at-n.result c.read_at-kind.result c.read_at-n.ensures c.read_at-kind.ensures (omega arith)) _ _ c.in-2.is c.if-due-eq2.true, holds_2 (headed c.args.s.now c.args.at c.read_at-n.result c.read_at-kind.result c.read_at-n.ensures c.read_at-kind.ensures (omega arith)) _ c.args.tile c.if-due-eq2.true _ e.1)
 
-pub returns-else-due-eq2 : goal.returns-else-due-eq2
-returns-else-due-eq2 c = record_not (let headed : Headed c.args.s.now c.args.at c.u16_at-n.result c.u16_at-kind.result = record { long = c.u16_at-n.ensures; kind = c.u16_at-kind.ensures; whole = omega arith } in headed) _ _ _ _ c.in-2.is c.if-due-eq2.false c.unread-else-due-eq2.ensures
+pub returns-in_err-read_tile-in-3 : goal.returns-in_err-read_tile-in-3
+returns-in_err-read_tile-in-3 c = passed_up _ _ c.from_residual-in_err-read_tile-in-3.result c.from_residual-in_err-read_tile-in-3.ensures.1 (c.in_err-read_tile-in-3.ensures.0 ∙ record_3 (headed c.args.s.now c.args.at c.read_at-n.result c.read_at-kind.result c.read_at-n.ensures c.read_at-kind.ensures (omega arith)) _ _ c.in-3.is c.if-due-eq3.true)
 
-pub returns-then-due-eq3 : goal.returns-then-due-eq3
-returns-then-due-eq3 c = record_3 (let headed : Headed c.args.s.now c.args.at c.u16_at-n.result c.u16_at-kind.result = record { long = c.u16_at-n.ensures; kind = c.u16_at-kind.ensures; whole = omega arith } in headed) _ _ _ c.in-3.is c.if-due-eq3.true c.read_tile.ensures
+pub returns-in_ok-read_tile-in-3 : goal.returns-in_ok-read_tile-in-3
+returns-in_ok-read_tile-in-3 c = let e = c.in_ok-read_tile-in-3.ensures in (e.0 ∙ record_3 (headed c.args.s.now c.args.at c.read_at-n.result c.read_at-kind.result c.read_at-n.ensures c.read_at-kind.ensures (omega arith)) _ _ c.in-3.is c.if-due-eq3.true, holds_3 (headed c.args.s.now c.args.at c.read_at-n.result c.read_at-kind.result c.read_at-n.ensures c.read_at-kind.ensures (omega arith)) _ c.args.tile c.if-due-eq3.true _ e.1)
 
-pub returns-else-due-eq3 : goal.returns-else-due-eq3
-returns-else-due-eq3 c = record_not (let headed : Headed c.args.s.now c.args.at c.u16_at-n.result c.u16_at-kind.result = record { long = c.u16_at-n.ensures; kind = c.u16_at-kind.ensures; whole = omega arith } in headed) _ _ _ _ c.in-3.is c.if-due-eq3.false c.unread-else-due-eq3.ensures
+pub returns-in_err-read_end-in-4 : goal.returns-in_err-read_end-in-4
+returns-in_err-read_end-in-4 c = passed_up _ _ c.from_residual-in_err-read_end-in-4.result c.from_residual-in_err-read_end-in-4.ensures.1 (c.in_err-read_end-in-4.ensures ∙ record_4 (headed c.args.s.now c.args.at c.read_at-n.result c.read_at-kind.result c.read_at-n.ensures c.read_at-kind.ensures (omega arith)) _ _ c.in-4.is c.if-due-eq4.true)
 
-pub returns-then-due-eq4 : goal.returns-then-due-eq4
-returns-then-due-eq4 c = record_4 (let headed : Headed c.args.s.now c.args.at c.u16_at-n.result c.u16_at-kind.result = record { long = c.u16_at-n.ensures; kind = c.u16_at-kind.ensures; whole = omega arith } in headed) _ _ _ c.in-4.is c.if-due-eq4.true c.read_end.ensures
+pub returns-in_ok-read_end-in-4 : goal.returns-in_ok-read_end-in-4
+returns-in_ok-read_end-in-4 c = (c.in_ok-read_end-in-4.ensures ∙ record_4 (headed c.args.s.now c.args.at c.read_at-n.result c.read_at-kind.result c.read_at-n.ensures c.read_at-kind.ensures (omega arith)) _ _ c.in-4.is c.if-due-eq4.true, c.if-due-eq4.true)
 
-pub returns-else-due-eq4 : goal.returns-else-due-eq4
-returns-else-due-eq4 c = record_not (let headed : Headed c.args.s.now c.args.at c.u16_at-n.result c.u16_at-kind.result = record { long = c.u16_at-n.ensures; kind = c.u16_at-kind.ensures; whole = omega arith } in headed) _ _ _ _ c.in-4.is c.if-due-eq4.false c.unread-else-due-eq4.ensures
+pub returns-in_err-read_layout-in-5 : goal.returns-in_err-read_layout-in-5
+returns-in_err-read_layout-in-5 c = passed_up _ _ c.from_residual-in_err-read_layout-in-5.result c.from_residual-in_err-read_layout-in-5.ensures.1 (c.in_err-read_layout-in-5.ensures.0 ∙ record_5 (headed c.args.s.now c.args.at c.read_at-n.result c.read_at-kind.result c.read_at-n.ensures c.read_at-kind.ensures (omega arith)) _ _ c.in-5.is c.if-due-eq5.true)
 
-pub returns-then-due-eq5 : goal.returns-then-due-eq5
-returns-then-due-eq5 c = record_5 (let headed : Headed c.args.s.now c.args.at c.u16_at-n.result c.u16_at-kind.result = record { long = c.u16_at-n.ensures; kind = c.u16_at-kind.ensures; whole = omega arith } in headed) _ _ _ c.in-5.is c.if-due-eq5.true c.read_layout.ensures
-
-pub returns-else-due-eq5 : goal.returns-else-due-eq5
-returns-else-due-eq5 c = record_not (let headed : Headed c.args.s.now c.args.at c.u16_at-n.result c.u16_at-kind.result = record { long = c.u16_at-n.ensures; kind = c.u16_at-kind.ensures; whole = omega arith } in headed) _ _ _ _ c.in-5.is c.if-due-eq5.false c.unread-else-due-eq5.ensures
+pub returns-in_ok-read_layout-in-5 : goal.returns-in_ok-read_layout-in-5
+returns-in_ok-read_layout-in-5 c = let e = c.in_ok-read_layout-in-5.ensures in (e.0 ∙ record_5 (headed c.args.s.now c.args.at c.read_at-n.result c.read_at-kind.result c.read_at-n.ensures c.read_at-kind.ensures (omega arith)) _ _ c.in-5.is c.if-due-eq5.true, holds_5 (headed c.args.s.now c.args.at c.read_at-n.result c.read_at-kind.result c.read_at-n.ensures c.read_at-kind.ensures (omega arith)) _ c.args.tile c.if-due-eq5.true _ e.1)
 
 pub returns-in_default : goal.returns-in_default
-returns-in_default c =
+returns-in_default c = (record_other (headed c.args.s.now c.args.at c.read_at-n.result c.read_at-kind.result c.read_at-n.ensures c.read_at-kind.ensures (omega arith)) _ _ (λ d. c.if-due-eq1.false (sym d ∙ c.in-1.is)), tt)
+
+pub returns-in_default-2 : goal.returns-in_default-2
+returns-in_default-2 c = (record_other (headed c.args.s.now c.args.at c.read_at-n.result c.read_at-kind.result c.read_at-n.ensures c.read_at-kind.ensures (omega arith)) _ _ (λ d. c.if-due-eq2.false (sym d ∙ c.in-2.is)), tt)
+
+pub returns-in_default-3 : goal.returns-in_default-3
+returns-in_default-3 c = (record_other (headed c.args.s.now c.args.at c.read_at-n.result c.read_at-kind.result c.read_at-n.ensures c.read_at-kind.ensures (omega arith)) _ _ (λ d. c.if-due-eq3.false (sym d ∙ c.in-3.is)), tt)
+
+pub returns-in_default-4 : goal.returns-in_default-4
+returns-in_default-4 c = (record_other (headed c.args.s.now c.args.at c.read_at-n.result c.read_at-kind.result c.read_at-n.ensures c.read_at-kind.ensures (omega arith)) _ _ (λ d. c.if-due-eq4.false (sym d ∙ c.in-4.is)), tt)
+
+pub returns-in_default-5 : goal.returns-in_default-5
+returns-in_default-5 c = (record_other (headed c.args.s.now c.args.at c.read_at-n.result c.read_at-kind.result c.read_at-n.ensures c.read_at-kind.ensures (omega arith)) _ _ (λ d. c.if-due-eq5.false (sym d ∙ c.in-5.is)), tt)
+
+pub returns-in_default-6 : goal.returns-in_default-6
+returns-in_default-6 c =
     let z = c.in_default.in_default-own.rest in
-    record_other (let headed : Headed c.args.s.now c.args.at c.u16_at-n.result c.u16_at-kind.result = record { long = c.u16_at-n.ensures; kind = c.u16_at-kind.ensures; whole = omega arith } in headed) _ _ _ (other _ _ z.0.0.0.0.1 z.0.0.0.1 z.0.0.1 z.0.1 z.1 (omega arith) (omega arith)) c.unread-in_default.ensures
+    (record_other (headed c.args.s.now c.args.at c.read_at-n.result c.read_at-kind.result c.read_at-n.ensures c.read_at-kind.ensures (omega arith)) _ _ (other _ _ z.0.0.0.0.1 z.0.0.0.1 z.0.0.1 z.0.1 z.1 (omega arith) (omega arith)), tt)

@@ -1,56 +1,39 @@
-use mathlib.Core.Bool.{not}
-use mathlib.Core.Path.{ap, sym}
-use Prim.Native.Nat.{◌-◌}
+use mathlib.Core.Path.{◌≡◌, refl, sym}
 use native.Mathlib.Omega.{arith}
 use Rattle.laws.proofs.Tables.{filled_none}
 use Rattle.floor.specs.Memory.{zero_layout}
+use Rattle.image_record_read.proofs.Exits.{passed_up}
 use Rattle.image_record_read.proofs.Walk.{layout_at, passed_none, passed_all}
-use Rattle.image_record_read.proofs.Loops.{layouts_off, layout_stop, layout_room, layout_turn}
+use Rattle.image_record_read.proofs.Loops.{layouts_off, layout_stop, layout_turn}
 use Rattle.image_record_read.proofs.scan_layouts.Goals as goal
+use Rattle.floor.proofs.Refusing.{refusing}
 
 pub loop-n-init : goal.loop-n-init
 loop-n-init c = let g = c.args in record {
   below = omega arith;
   reached = omega arith;
-  passed = passed_none (g.s).now g.from (omega arith);
-  layouts_filled = filled_none 8 (layout_at (g.s).now g.from) zero_layout;
+  passed = passed_none g.s.now g.from (omega arith);
+  layouts_filled = filled_none 8 (layout_at g.s.now g.from) zero_layout;
 }
 
-pub is_layout-here-requires : goal.is_layout-here-requires
-is_layout-here-requires c = let l = c.loop-n in omega (arith, l.invariant.reached, l.invariant.passed.room)
+pub returns-then-not-is_layout : goal.returns-then-not-is_layout
+returns-then-not-is_layout c = layouts_off c.loop-n.invariant _ c.is_layout.ensures c.if-not-is_layout.true
 
-pub returns-then-not-here : goal.returns-then-not-here
-returns-then-not-here c = let I = c in layouts_off I.loop-n.invariant _ c.is_layout-here.ensures (ap not c.if-not-here.true)
-
-pub read_record-r-requires : goal.read_record-r-requires
-read_record-r-requires c = let l = c.loop-n in (omega (arith, l.invariant.reached, l.invariant.passed.room), omega arith, omega arith, λ e. absurd (omega arith))
-
-pub returns-then-r-ne0 : goal.returns-then-r-ne0
-returns-then-r-ne0 c =
-    let R = c in
-    let E = R in
-    let I = E in
-    (layout_stop I.loop-n.invariant _ E.is_layout-here.ensures (ap not E.if-not-here.false) (omega arith) R.read_record-r.result R.read_record-r.ensures.0 c.if-r-ne0.true, λ z. absurd (c.if-r-ne0.true z))
-
-pub overflow_add-at : goal.overflow_add-at
-overflow_add-at c =
-    let R = c in
-    let E = R in
-    let I = E in
-    let m = layout_room I.loop-n.invariant _ E.is_layout-here.ensures (ap not E.if-not-here.false) (omega arith) R.read_record-r.result R.read_record-r.ensures.0 c.if-r-ne0.false in
-    omega arith
+pub returns-in_err-x : goal.returns-in_err-x
+returns-in_err-x c =
+    let e = c.in_err-x.field-0.0 in
+    passed_up _ e c.from_residual.result c.from_residual.ensures.1 (layout_stop c.loop-n.invariant _ c.is_layout.ensures c.if-not-is_layout.false (omega arith) _ c.in_err-x.ensures.0 (refusing e))
 
 pub loop-n-preserved : goal.loop-n-preserved
 loop-n-preserved c =
-    let R = c in
-    let E = R in
-    let I = E in
-    let z = c.if-r-ne0.false in
-    layout_turn I.loop-n.invariant _ E.is_layout-here.ensures (ap not E.if-not-here.false) (omega arith) R.read_record-r.result R.read_record-r.ensures.0 z (R.read_record-r.ensures.1 z)
+    let r = c.in_ok-x.ensures in
+    let p = rw c.in-Layout.is at r.1 in
+    layout_turn c.loop-n.invariant _ c.is_layout.ensures c.if-not-is_layout.false (omega arith) 0 r.0 refl c.in-Layout.x p.1
 
 pub returns : goal.returns
 returns c =
     let l = c.loop-n in
     let g = c.args in
-    let r = passed_all (g.s).now g.from l.n l.invariant.passed l.layouts l.invariant.layouts_filled (omega arith) in
-    (sym r.0, λ z. r.1)
+    let e : l.n ≡ 8 = omega arith in
+    let r = passed_all g.s.now g.from l.n l.invariant.passed l.layouts l.invariant.layouts_filled e in
+    (sym r.0, rw e at r.1)

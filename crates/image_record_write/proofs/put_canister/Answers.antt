@@ -13,4 +13,4 @@ returns c =
     let n3 = bytes_length 2 g.c.b in
     rw (canister_bytes_lem g.c)
     (put_three g.s.now _ _ _ g.at _ _ (bytes 4 g.c.number) (bytes 2 g.c.a) (bytes 2 g.c.b) (omega arith) (omega arith) (omega arith)
-    c.put_u32.ensures c.put_u16.ensures c.put_u16-2.ensures)
+    c.put_at.ensures c.put_at-2.ensures c.put_at-3.ensures)

@@ -11,7 +11,7 @@ use Rattle.image_record_write.proofs.put_head.Goals as goal
 pub returns : goal.returns
 unfolding head_bytes lowest
 returns c =
-    let low = c.lowest-low in
+    let low = c.lowest in
     let g = c.args in
     let n1 = pair_length g.n 1 in
     let n2 = three_length 1 g.x.columns g.x.rows low.result in
@@ -20,4 +20,4 @@ returns c =
     rw (← low.ensures)
     (put_four g.s.now _ _ _ _ g.at _ _ _ (bytes 2 g.n ++ bytes 2 1) (bytes 1 g.x.columns ++ (bytes 1 g.x.rows ++ bytes 1 low.result)) (bytes 1 0) (measures_bytes g.x)
     (omega arith) (omega arith) (omega arith) (omega arith)
-    c.put_pair.ensures c.put_three.ensures c.put_byte.ensures c.put_measures.ensures)
+    c.put_pair.ensures c.put_three.ensures c.put_at.ensures c.put_measures.ensures)

@@ -16,4 +16,4 @@ returns c =
     let n3 = bytes_length 8 g.x.set in
     rw (← layout_record g.x)
     (put_three g.s.now _ _ _ g.at _ _ (bytes 2 16 ++ bytes 2 5) (letters 8 g.x.name) (bytes 8 g.x.set) (omega arith) (omega arith) (omega arith)
-    c.put_pair.ensures c.put_name.ensures c.put_u64.ensures)
+    c.put_pair.ensures c.put_name.ensures c.put_at.ensures)

@@ -13,4 +13,4 @@ returns c =
     let n2 = pair_length g.x.gap g.x.travel in
     let n3 = bytes_length 8 g.x.sources in
     put_three g.s.now _ _ _ g.at _ _ (bytes 2 g.x.width ++ bytes 2 g.x.length) (bytes 2 g.x.gap ++ bytes 2 g.x.travel) (bytes 8 g.x.sources) (omega arith) (omega arith) (omega arith)
-    c.put_pair.ensures c.put_pair-2.ensures c.put_u64.ensures
+    c.put_pair.ensures c.put_pair-2.ensures c.put_at.ensures

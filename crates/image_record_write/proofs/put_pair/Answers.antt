@@ -8,4 +8,4 @@ pub returns : goal.returns
 returns c =
     let g = c.args in
     put_two g.s.now _ _ g.at _ (bytes 2 g.x) (bytes 2 g.y) (omega (arith, bytes_length 2 g.x, bytes_length 2 g.y)) (omega (arith, bytes_length 2 g.x))
-    c.put_u16.ensures c.put_u16-2.ensures
+    c.put_at.ensures c.put_at-2.ensures

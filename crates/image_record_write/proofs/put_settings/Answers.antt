@@ -14,8 +14,8 @@ use Rattle.image_record_write.proofs.put_settings.Goals as goal
 pub put_head-requires : goal.put_head-requires
 put_head-requires c = let more : several c.args.x ≡ true = sym c.requires.1 ∙ c.if-more.true in let long : length (settings_body c.args.x) ≡ 28 = rw more at (settings_size c.args.x) in omega (arith, c.requires.0)
 
-pub put_u64-requires : goal.put_u64-requires
-put_u64-requires c =
+pub put_at-requires : goal.put_at-requires
+put_at-requires c =
     let more : several c.args.x ≡ true = sym c.requires.1 ∙ c.if-more.true in let long : length (settings_body c.args.x) ≡ 28 = rw more at (settings_size c.args.x) in
     omega (arith, c.requires.0, c.put_head.auto.s)
 
@@ -29,7 +29,7 @@ returns-then-more c =
     let n1 = head_length g.x 28 in
     let n2 = bytes_length 8 g.x.hoppers in
     rw (← settings_more g.x more)
-    (put_two g.s.now _ _ g.at _ (head_bytes g.x 28) (bytes 8 g.x.hoppers) (omega (arith, c.requires.0)) (omega arith) c.put_head.ensures c.put_u64.ensures)
+    (put_two g.s.now _ _ g.at _ (head_bytes g.x 28) (bytes 8 g.x.hoppers) (omega (arith, c.requires.0)) (omega arith) c.put_head.ensures c.put_at.ensures)
 
 pub returns-else-more : goal.returns-else-more
 returns-else-more c =

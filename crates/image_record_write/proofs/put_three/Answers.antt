@@ -11,4 +11,4 @@ returns c =
     let n2 = bytes_length 1 g.y in
     let n3 = bytes_length 1 g.z in
     put_three g.s.now _ _ _ g.at _ _ (bytes 1 g.x) (bytes 1 g.y) (bytes 1 g.z) (omega arith) (omega arith) (omega arith)
-    c.put_byte.ensures c.put_byte-2.ensures c.put_byte-3.ensures
+    c.put_at.ensures c.put_at-2.ensures c.put_at-3.ensures

@@ -15,4 +15,4 @@ returns c =
     let n2 = three_length 1 g.t g.h.running g.h.distance in
     let n3 = three_length 1 g.h.next.code g.h.token.code g.h.count in
     put_three g.s.now _ _ _ g.at _ _ (bytes 2 (6 + 8 * g.h.count) ++ bytes 2 3) (bytes 1 g.t ++ (bytes 1 g.h.running ++ bytes 1 g.h.distance)) (bytes 1 g.h.next.code ++ (bytes 1 g.h.token.code ++ bytes 1 g.h.count))
-    (omega arith) (omega arith) (omega arith) c.put_pair.ensures c.put_three.ensures c.put_three-2.ensures
+    (omega arith) (omega arith) (omega arith) (rw c.from.ensures at c.put_pair.ensures) c.put_three.ensures c.put_three-2.ensures

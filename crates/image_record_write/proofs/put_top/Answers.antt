@@ -13,4 +13,4 @@ returns c =
     let n2 = bytes_length 4 g.x in
     let n3 = bytes_length 4 g.y in
     put_three g.s.now _ _ _ g.at _ _ (bytes 2 g.n ++ bytes 2 2) (bytes 4 g.x) (bytes 4 g.y) (omega arith) (omega arith) (omega arith)
-    c.put_pair.ensures c.put_u32.ensures c.put_u32-2.ensures
+    c.put_pair.ensures c.put_at.ensures c.put_at-2.ensures

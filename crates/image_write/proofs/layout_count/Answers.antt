@@ -1,4 +1,4 @@
-use Prim.Native.Nat.{◌-◌}
+use mathlib.Core.Path.{◌≡◌, ◌∙◌, sym}
 use native.Mathlib.Omega.{arith}
 use Rattle.image_write.proofs.ImageBytes.{used_stop, used_turn, used_all}
 use Rattle.image_write.proofs.layout_count.Goals as goal
@@ -11,15 +11,11 @@ loop-k-init c = record {
 }
 
 pub returns-then-x-eq0 : goal.returns-then-x-eq0
-returns-then-x-eq0 c =
-    let I = c in
-    let l = I.loop-k in
-    (used_stop _ l.k (omega arith) l.invariant.counted c.if-x-eq0.true, l.invariant.below)
+returns-then-x-eq0 c = let l = c.loop-k in (used_stop _ l.k (omega arith) l.invariant.counted c.if-x-eq0.true, l.invariant.below)
 
 pub loop-k-preserved : goal.loop-k-preserved
 loop-k-preserved c =
-    let I = c in
-    let l = I.loop-k in
+    let l = c.loop-k in
     record {
       below = omega arith;
       all_length = l.invariant.all_length;
@@ -29,4 +25,5 @@ loop-k-preserved c =
 pub returns : goal.returns
 returns c =
     let l = c.loop-k in
-    (used_all _ l.k (omega arith) l.invariant.counted, l.invariant.below)
+    let e : l.k ≡ 8 = omega (arith, l.invariant.all_length) in
+    (sym e ∙ used_all _ l.k (omega arith) l.invariant.counted, omega arith)

@@ -1,4 +1,7 @@
+use Prim.Native.Nat.{◌≤◌}
 use native.Mathlib.Omega.{arith}
+use lib.ListN.{length, take}
+use Rattle.std.proofs.lemmas.List.{length-take}
 use Rattle.image_write.proofs.ImageBytes.{more_is, front_room, front_put}
 use Rattle.image_write.proofs.put_front.Goals as goal
 
@@ -16,8 +19,11 @@ overflow_add-third-2 c = let r = (let g = c.args in front_room g.x g.y g.all g.h
 
 pub put_layouts-requires : goal.put_layouts-requires
 put_layouts-requires c =
-    let r = (let g = c.args in front_room g.x g.y g.all g.h _ g.s.now c.requires c.first_length-second.ensures) in
-    (c.layout_count-filled.ensures.1, omega (arith, c.layout_count-filled.ensures.0, c.put_settings.auto.s, c.put_counters.auto.s))
+    let g = c.args in
+    let r = front_room g.x g.y g.all g.h _ g.s.now c.requires c.first_length-second.ensures in
+    let f = c.layout_count-filled in
+    let m : length (take f.result g.all) ≤ f.result = rw length-take (omega arith) in
+    omega (arith, f.ensures.0, c.put_settings.auto.s, c.put_counters.auto.s)
 
 pub overflow_mul-result : goal.overflow_mul-result
 overflow_mul-result c = omega (arith, c.layout_count-filled.ensures.1)

@@ -1,5 +1,4 @@
 use mathlib.Core.Path.{◌≡◌, refl, sym}
-use Prim.Native.Nat.{◌-◌}
 use native.Mathlib.Omega.{arith}
 use Rattle.image_write.proofs.Loops.{canister_turn, tile_fits_lem, canisters_begin, tile_turn}
 use Rattle.image_write.specs.InternalUpto.{upto}
@@ -29,7 +28,7 @@ pub loop-k-init : goal.loop-k-init
 loop-k-init c =
     let P = c in
     let I = P in
-    canisters_begin I.loop-t.invariant I.loop-t-test.true _ P.put_tile.auto.s
+    rw c.from-n.ensures (canisters_begin I.loop-t.invariant I.loop-t-test.true _ P.put_tile.auto.s)
 
 pub loop-k-preserved : goal.loop-k-preserved
 loop-k-preserved c =
@@ -42,7 +41,7 @@ loop-t-preserved c =
     let B = c in
     let P = B in
     let I = P in
-    tile_turn I.loop-t.invariant I.loop-t-test.true _ P.put_tile.auto.s P.put_tile.ensures _ _ c.loop-k.invariant (omega arith)
+    rw c.from-n.ensures (tile_turn I.loop-t.invariant I.loop-t-test.true _ P.put_tile.auto.s P.put_tile.ensures _ _ (rw c.from-n.ensures at c.loop-k.invariant) (omega arith))
 
 pub returns : goal.returns
 returns c =

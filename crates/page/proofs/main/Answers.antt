@@ -2,8 +2,5 @@ use mathlib.Core.Path.{sym}
 use lib.Seq.{length-take-le}
 use Rattle.page.proofs.main.Goals as goal
 
-pub slice_bounds-tell-end : goal.slice_bounds-tell-end
-slice_bounds-tell-end c = let r = c.read_input-input in sym (length-take-le r.result.length r.new.buf r.ensures)
-
 pub slice_bounds-write_all-end : goal.slice_bounds-write_all-end
 slice_bounds-write_all-end c = let r = c.tell-k in sym (length-take-le r.result r.new.text r.ensures.0)

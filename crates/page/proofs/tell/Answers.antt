@@ -4,7 +4,7 @@ use Rattle.page.proofs.tell.Goals as goal
 
 pub returns-then-loaded-ne0 : goal.returns-then-loaded-ne0
 returns-then-loaded-ne0 c =
-    tell_refused c.args.bytes.now c.args.text.now c.put_front.new.text c.load-loaded.result c.load-loaded.ensures c.requires (omega (arith, c.put_front.auto.text)) _ _ c.if-loaded-ne0.true c.refused-said.type_inv.1.1.0.1.0.1 c.refused-said.ensures c.put_front.ensures
+    tell_refused c.args.bytes.now c.args.text.now c.put_refused.new.text c.load-loaded.result c.load-loaded.ensures c.requires (omega (arith, c.put_refused.auto.text)) _ c.if-loaded-ne0.true c.put_refused.ensures
 
 pub returns : goal.returns
 returns c =

@@ -10,7 +10,7 @@ use Rattle.page_call.proofs.Writing.{made, page_is, page_size, page_small, page_
 use Rattle.page_call.proofs.page.Goals as goal
 
 pub returns-then-not-well : goal.returns-then-not-well
-returns-then-not-well c = page_malformed _ _ (sym c.well_formed-well.ensures ∙ c.if-not-well.true)
+returns-then-not-well c = let p = page_malformed c.args.floor c.args.buffer.now (sym c.well_formed-well.ensures ∙ c.if-not-well.true) in (c.refused.ensures ∙ p.0, p.1)
 
 pub overflow_mul-n-2 : goal.overflow_mul-n-2
 overflow_mul-n-2 c = record { fits = omega (arith, page_small _ (sym c.well_formed-well.ensures ∙ c.if-not-well.false)) }
@@ -18,7 +18,8 @@ overflow_mul-n-2 c = record { fits = omega (arith, page_small _ (sym c.well_form
 pub returns-then-buffer-n : goal.returns-then-buffer-n
 returns-then-buffer-n c =
     let w = (sym c.well_formed-well.ensures ∙ c.if-not-well.false) in
-    page_short _ _ w (omega (arith, page_size _ w, c.if-buffer-n.true))
+    let p = page_short c.args.floor c.args.buffer.now w (omega (arith, page_size _ w, c.if-buffer-n.true)) in
+    (c.refused-then-buffer-n.ensures ∙ p.0, p.1)
 
 pub put_lines-requires : goal.put_lines-requires
 put_lines-requires c =

@@ -1,7 +1,6 @@
-use Prim.Native.Nat.{◌-◌}
-use Rattle.plan.specs.Entries.{used, present, entry_fits}
+use Rattle.plan.specs.Entries.{present, entry_fits}
 use Rattle.plan_check.proofs.Loops.{Tested}
 use Rattle.plan_check.proofs.fits.Given as goal
 
-abbrev pub invariant-loop-k : goal.invariant-loop-k
-invariant-loop-k l = Tested l.plan (present (used l.plan)) (entry_fits (used l.plan)) l.table l.n l.ok l.k
+abbrev pub invariant-loop-e : goal.invariant-loop-e
+invariant-loop-e l = Tested l.entries (present l.entries) (entry_fits l.entries) l.present l.ok l.e-index

@@ -1,52 +1,35 @@
-use mathlib.Core.Path.{◌∙◌}
-use Prim.Native.Nat.{ℕ, zero, ◌-◌}
-use native.Mathlib.Omega.{arith}
-use lib.ListN.{replicate, length-replicate}
-use Rattle.laws.proofs.Tables.{ended}
-use Rattle.plan_parts.proofs.Sized.{deliveries_length}
+use Rattle.std.proofs.Common.{◌≡◌, ◌∙◌, ℕ, zero, ap, arith}
+use Rattle.std.proofs.Math.ListN.{replicate, length-replicate}
 use Rattle.plan_parts.proofs.Listed.{listed_upto, listed_none, listed_turn, listed_all, four_each}
+use Rattle.plan_parts.proofs.Sized.{deliveries_length}
 use Rattle.plan_parts.proofs.listed_numbers.Goals as goal
 
-pub loop-h-init : goal.loop-h-init
-loop-h-init c =
-    let r = c.args.given in
-    record {
-      below = omega arith;
-      deliveries_length = deliveries_length r _ c.well_formed.0;
-      no_more = omega arith;
-      items_length = length-replicate 16 zero;
-      listed = listed_none r.deliveries (replicate 16 zero);
-      four = four_each r.deliveries c.requires;
-    }
+pub loop-d-init : goal.loop-d-init
+loop-d-init c =
+    record { no_more = omega arith; items_length = length-replicate 16 zero; listed = listed_none c.args.given.deliveries (replicate 16 zero) }
 
 pub with_listed-next-requires : goal.with_listed-next-requires
-with_listed-next-requires c =
-    let l = c.loop-h in
-    (omega arith, l.invariant.four l.h)
+with_listed-next-requires c = (omega arith, four_each c.args.given.deliveries c.requires c.loop-d.d-index)
 
-pub overflow_add-m : goal.overflow_add-m
-overflow_add-m c =
-    let l = c.loop-h in
-    let few = l.invariant.four l.h in
+pub overflow_add-count : goal.overflow_add-count
+overflow_add-count c =
+    let few = four_each c.args.given.deliveries c.requires c.loop-d.d-index in
     record { fits = omega arith }
 
-pub loop-h-preserved : goal.loop-h-preserved
-loop-h-preserved c =
-    let l = c.loop-h in
+pub loop-d-preserved : goal.loop-d-preserved
+loop-d-preserved c =
+    let l = c.loop-d in
     let ds = c.args.given.deliveries in
-    let v = c.with_listed-next in
-    let few = l.invariant.four l.h in
+    let few = four_each ds c.requires l.d-index in
     record {
-      below = omega arith;
-      deliveries_length = l.invariant.deliveries_length;
       no_more = omega arith;
-      items_length = v.type_inv.1.0.1;
-      listed = listed_turn ds l.h l.items v.result l.m (omega arith) l.invariant.listed v.ensures;
-      four = l.invariant.four;
+      items_length = c.with_listed-next.type_inv.1.0.1;
+      listed = listed_turn ds l.d-index l.items c.with_listed-next.result l.count (omega arith) l.invariant.listed c.with_listed-next.ensures;
     }
 
 pub returns : goal.returns
 returns c =
-    let l = c.loop-h in
+    let l = c.loop-d in
     let r = c.args.given in
-    (omega arith, ended (λ (k : ℕ). listed_upto k r.deliveries) (omega arith) l.invariant.below l.invariant.listed ∙ listed_all r l.invariant.deliveries_length)
+    let e : l.d-index ≡ 4 = omega arith in
+    (omega arith, l.invariant.listed ∙ ap (λ (h : ℕ). listed_upto h r.deliveries) e ∙ listed_all r (deliveries_length r _ c.well_formed.0))

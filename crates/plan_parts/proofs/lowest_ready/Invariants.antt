@@ -1,6 +1,5 @@
-use Prim.Native.Nat.{◌-◌}
 use Rattle.plan_parts.proofs.Loops.{LowestSought}
 use Rattle.plan_parts.proofs.lowest_ready.Given as goal
 
-abbrev pub invariant-loop-k : goal.invariant-loop-k
-invariant-loop-k l = LowestSought l.plan l.table l.n l.best l.k
+abbrev pub invariant-loop-e : goal.invariant-loop-e
+invariant-loop-e l = LowestSought l.entries l.done l.best l.e-index

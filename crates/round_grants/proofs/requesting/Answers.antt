@@ -7,4 +7,4 @@ unfolding opposite
 returns c =
     let w = c in
     let g = w.args in
-    requests_of (g.west).code (g.south).code (g.north).code (g.east).code (rw (w.wanting.ensures, c.wanting-2.ensures, c.wanting-3.ensures, c.wanting-4.ensures))
+    requests_of g.show.west.code g.show.south.code g.show.north.code g.show.east.code (rw (w.wanting.ensures, c.wanting-2.ensures, c.wanting-3.ensures, c.wanting-4.ensures))

@@ -13,4 +13,4 @@ returns c =
       floor = refilled f x f.tiles f.canisters;
       report = record { grants = a.grants; reasons = a.reasons; missing = a.missing; deliveries = a.intake.deliveries };
     })
-    c.raise-counters.ensures
+    c.raise-f.ensures

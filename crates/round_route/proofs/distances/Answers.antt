@@ -1,37 +1,30 @@
-use Prim.Native.Nat.{ℕ, ◌-◌}
-use mathlib.Core.Path.{◌≡◌, refl, ap, ◌∙◌}
+use Prim.Native.Nat.{ℕ, ◌≤◌}
+use mathlib.Core.Path.{refl, ap, ◌∙◌}
 use native.Mathlib.Omega.{arith}
-use lib.ListN.{length-set}
-use Rattle.floor.specs.Settings.{total}
+use lib.ListN.{length, length-set}
+use Rattle.floor.specs.declared.Tile.{Tile}
+use Rattle.floor.specs.Memory.{zero_tile}
 use Rattle.round_route.specs.InternalRouted.{within, distance_in}
-use Rattle.round_route.proofs.Passes.{within_none, within_turn}
+use Rattle.round_route.proofs.Passes.{within_none, within_turn, front_in, front_read, front_end}
 use Rattle.round_route.proofs.distances.Goals as goal
 
 pub loop-t-init : goal.loop-t-init
-loop-t-init c =
-    let s = c in
-    record {
-      below = omega arith;
-      few = rw c.tile_count-all.ensures s.requires;
-      tiles_length = s.well_formed.1.0.1.0.1;
-      distances_length = refl;
-      filled = within_none (λ n. n) 0 (distance_in s.args.tiles) 255 65;
-    }
+loop-t-init c = (refl, within_none (λ n. n) 0 (distance_in c.args.tiles.now) 255 65)
 
 pub loop-t-preserved : goal.loop-t-preserved
 loop-t-preserved c =
     let l = c.loop-t in
-    record {
-      below = omega arith;
-      few = l.invariant.few;
-      tiles_length = l.invariant.tiles_length;
-      distances_length = simp length-set l.invariant.distances_length;
-      filled = within_turn (λ n. n) 0 _ 255 l.d 65 l.t _ (omega arith) refl l.invariant.filled;
-    }
+    let ts = c.args.tiles.now in
+    let n = c.tile_count.result in
+    let m : n ≤ length ts = omega arith in
+    let h = front_in ts n m c.loop-t-test.true in (
+      simp length-set l.invariant.0,
+      within_turn (λ n. n) 0 (distance_in ts) 255 l.d 65 l.t _ (omega arith) (ap (λ (x : Tile). x.distance) (front_read ts n m l.t zero_tile c.loop-t-test.true)) l.invariant.1,
+    )
 
 pub returns : goal.returns
 returns c =
     let l = c.loop-t in
-    let g = c.args in
-    let e : l.t ≡ total g.s = omega arith in
-    λ i h. l.invariant.filled i h ∙ ap (λ (n : ℕ). within n (distance_in g.tiles) 255 i) e
+    let ts = c.args.tiles.now in
+    let e = front_end ts c.tile_count.result (omega arith) l.t c.loop-t-test.false c.loop-t.auto.t-end ∙ c.tile_count.ensures in
+    λ i h. l.invariant.1 i h ∙ ap (λ (n : ℕ). within n (distance_in ts) 255 i) e

@@ -8,8 +8,8 @@ returns-then-tile-ne1 c = search (why_stopped, rules)
 pub returns-then-tile-eq0 : goal.returns-then-tile-eq0
 returns-then-tile-eq0 c = search (why_empty, rules)
 
-pub returns-then-tile-eq0-2 : goal.returns-then-tile-eq0-2
-returns-then-tile-eq0-2 c = search (why_arrow, rules)
+pub returns-then-eq : goal.returns-then-eq
+returns-then-eq c = search (why_arrow, rules)
 
 pub returns : goal.returns
 returns c = search (why_else, rules)

@@ -1,9 +1,5 @@
-use Prim.Native.Nat.{◌-◌}
 use Rattle.round_signal.proofs.Loops.{Reasoned}
 use Rattle.round_signal.proofs.reason_pass.Given as goal
 
 abbrev pub invariant-loop-i : goal.invariant-loop-i
-invariant-loop-i l = Reasoned l.s l.tiles l.all l.turns l.lacks l.reasons l.missing l.i
-
-abbrev pub decreases-loop-i : goal.decreases-loop-i
-decreases-loop-i l = l.all - l.i
+invariant-loop-i l = Reasoned l.s l.tiles l.turns l.lacks l.reasons l.missing l.i

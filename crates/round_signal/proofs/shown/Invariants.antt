@@ -1,9 +1,7 @@
-use Prim.Native.Nat.{◌-◌}
-use Rattle.round_signal.proofs.Loops.{Shown}
+use mathlib.Core.Path.{◌≡◌}
+use lib.ListN.{length}
+use Rattle.round_signal.specs.InternalSignalling.{ShownUpto}
 use Rattle.round_signal.proofs.shown.Given as goal
 
 abbrev pub invariant-loop-t : goal.invariant-loop-t
-invariant-loop-t l = Shown l.tiles l.all l.d l.t
-
-abbrev pub decreases-loop-t : goal.decreases-loop-t
-decreases-loop-t l = l.all - l.t
+invariant-loop-t l = (length l.d ≡ 65) × ShownUpto l.tiles l.t l.d

@@ -8,4 +8,4 @@ returns-then-t-eq0 c = rw (eq-eqb _ _ c.if-t-eq0.true) refl
 
 pub returns : goal.returns
 unfolding closed_by
-returns c = rw (ne_eqb _ _ c.if-t-eq0.false, c.lesser-least.ensures, c.greater-greatest.ensures) refl
+returns c = rw (ne_eqb _ _ c.if-t-eq0.false, c.lesser.ensures, c.greater.ensures) refl

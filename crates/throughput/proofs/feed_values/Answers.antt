@@ -4,4 +4,4 @@ use Rattle.throughput.proofs.feed_values.Goals as goal
 
 pub returns : goal.returns
 unfolding feed_values
-returns c = c.values_of.ensures ∙ ap values_of c.feed-feeding.ensures
+returns c = c.values_of.ensures ∙ ap values_of c.feed.ensures

@@ -2,14 +2,14 @@ use Rattle.std.proofs.Common.{sym, refl, ◌∙◌}
 use Rattle.throughput.specs.Window.{rates_sound}
 use Rattle.throughput.proofs.rates_sound.Goals as goal
 
-pub returns-then-not-a : goal.returns-then-not-a
+pub returns-then-rate_sound-2 : goal.returns-then-rate_sound-2
 unfolding rates_sound
-returns-then-not-a c = rw (sym c.rate_sound-a.ensures ∙ c.if-not-a.true) refl
+returns-then-rate_sound-2 c = c.rate_sound-then-rate_sound-2.ensures ∙ rw (sym c.rate_sound.ensures ∙ c.if-rate_sound.true, sym c.rate_sound-then-rate_sound.ensures ∙ c.if-rate_sound-2.true) refl
 
-pub returns-then-not-b : goal.returns-then-not-b
+pub returns-else-rate_sound-2 : goal.returns-else-rate_sound-2
 unfolding rates_sound
-returns-then-not-b c = rw (sym c.rate_sound-a.ensures ∙ c.if-not-a.false, sym c.rate_sound-b.ensures ∙ c.if-not-b.true) refl
+returns-else-rate_sound-2 c = c.if-rate_sound-2.false ∙ rw (sym c.rate_sound.ensures ∙ c.if-rate_sound.true, sym c.rate_sound-then-rate_sound.ensures ∙ c.if-rate_sound-2.false) refl
 
-pub returns : goal.returns
+pub returns-else-rate_sound : goal.returns-else-rate_sound
 unfolding rates_sound
-returns c = c.rate_sound.ensures ∙ rw (sym c.rate_sound-a.ensures ∙ c.if-not-a.false, sym c.rate_sound-b.ensures ∙ c.if-not-b.false) refl
+returns-else-rate_sound c = c.if-rate_sound.false ∙ rw (sym c.rate_sound.ensures ∙ c.if-rate_sound.false) refl

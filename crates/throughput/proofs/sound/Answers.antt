@@ -3,18 +3,18 @@ use borrow.Author.Tests.{lt-leb}
 use Rattle.throughput.specs.Window.{record_sound}
 use Rattle.throughput.proofs.sound.Goals as goal
 
-pub returns-then-rounds-ge256 : goal.returns-then-rounds-ge256
+pub returns-then-rates_sound : goal.returns-then-rates_sound
 unfolding record_sound
-returns-then-rounds-ge256 c = rw (le-ltb _ _ c.if-rounds-ge256.true) refl
+returns-then-rates_sound c = c.rates_in_order.ensures ∙ rw (lt-ltb _ _ c.if-t-lt256.true, le-leb _ _ c.if-t.true, sym c.rates_sound.ensures ∙ c.if-rates_sound.true) refl
 
-pub returns-then-t-rounds : goal.returns-then-t-rounds
+pub returns-else-rates_sound : goal.returns-else-rates_sound
 unfolding record_sound
-returns-then-t-rounds c = rw (lt-ltb _ _ c.if-rounds-ge256.false, lt-leb _ _ c.if-t-rounds.true) refl
+returns-else-rates_sound c = c.if-rates_sound.false ∙ rw (lt-ltb _ _ c.if-t-lt256.true, le-leb _ _ c.if-t.true, sym c.rates_sound.ensures ∙ c.if-rates_sound.false) refl
 
-pub returns-then-not-a : goal.returns-then-not-a
+pub returns-else-t : goal.returns-else-t
 unfolding record_sound
-returns-then-not-a c = rw (lt-ltb _ _ c.if-rounds-ge256.false, le-leb _ _ c.if-t-rounds.false, sym c.rates_sound-a.ensures ∙ c.if-not-a.true) refl
+returns-else-t c = rw (lt-ltb _ _ c.if-t-lt256.true, lt-leb _ _ c.if-t.false) refl
 
-pub returns : goal.returns
+pub returns-else-t-lt256 : goal.returns-else-t-lt256
 unfolding record_sound
-returns c = c.rates_in_order.ensures ∙ rw (lt-ltb _ _ c.if-rounds-ge256.false, le-leb _ _ c.if-t-rounds.false, sym c.rates_sound-a.ensures ∙ c.if-not-a.false) refl
+returns-else-t-lt256 c = rw (le-ltb _ _ c.if-t-lt256.false) refl

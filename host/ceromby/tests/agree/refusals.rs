@@ -7,11 +7,9 @@ use ceromby::Refusal;
 
 use crate::header::{defined, HEADER};
 
-const CRATES: [&str; 4] = [
-    include_str!("../../../../crates/floor/src/refusals.rt"),
+const CRATES: [&str; 2] = [
+    include_str!("../../../../crates/floor/src/refusal.rt"),
     include_str!("../../../../crates/throughput/src/lib.rt"),
-    include_str!("../../../../crates/plan/src/lib.rt"),
-    include_str!("../../../../crates/barge/src/lib.rt"),
 ];
 
 /// What stands between the first pair of quotation marks.
@@ -29,18 +27,18 @@ fn in_header() -> BTreeMap<u64, &'static str> {
     cases.collect()
 }
 
-/// The papers' words by number: the quotation above each constant.
+/// The papers' words by number: the quotation above each variant.
 fn in_papers() -> BTreeMap<u64, &'static str> {
     let mut words = BTreeMap::new();
     for text in CRATES {
         let mut above = None;
-        for line in text.lines() {
-            if let Some(constant) = line.strip_prefix("pub const ") {
-                let number = constant.split_once("u8 = ");
-                let number = number.and_then(|(_, number)| number.strip_suffix(';')?.parse().ok());
-                if let (Some(number), Some(quotation)) = (number, above) {
-                    words.entry(number).or_insert(quotation);
-                }
+        for line in text.lines().map(str::trim) {
+            let variant = line
+                .strip_suffix(',')
+                .and_then(|text| text.split_once(" = "));
+            let number = variant.and_then(|(_, number)| number.parse().ok());
+            if let (Some(number), Some(quotation)) = (number, above) {
+                words.entry(number).or_insert(quotation);
             }
             above = line.strip_prefix("// ").and_then(quoted);
         }

@@ -6,7 +6,6 @@ use Rattle.floor.proofs.Settings.tile_count.Goals as goal
 
 pub overflow_mul-result : goal.overflow_mul-result
 overflow_mul-result c =
-    let s = c.args.self in
-    let x : s.columns ≤ 255 = omega arith in
-    let y : s.rows ≤ 255 = omega arith in
+    let x : c.from.result ≤ 255 = omega arith in
+    let y : c.from-2.result ≤ 255 = omega arith in
     record { fits = lt_of_le_of_lt (mul-le-mul x y) (lit< tt) }

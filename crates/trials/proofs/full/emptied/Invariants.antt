@@ -1,8 +1,6 @@
-use Rattle.std.proofs.Common.{◌-◌, ◌≤◌}
+use Rattle.std.proofs.Common.{◌*◌, ◌≤◌}
 use Rattle.trials.proofs.full.emptied.Given as goal
 
-abbrev pub invariant-loop-k : goal.invariant-loop-k
-invariant-loop-k l = l.k ≤ l.most
-
-abbrev pub decreases-loop-k : goal.decreases-loop-k
-decreases-loop-k l = l.most - l.k
+abbrev pub invariant-loop : goal.invariant-loop
+invariant-loop l =
+    (l.e.reported ≤ 255 * l.counter) × (l.e.sum ≤ 17179869180 * l.counter) × (l.e.rounds ≤ l.counter)

@@ -1,0 +1,16 @@
+use Rattle.std.proofs.lemmas.Result.{err_from_is_err_and}
+use Rattle.call_parts.proofs.Tests.{read_on, repair_off, repair_32, repair_0}
+use borrow.Author.Rules.{rules}
+use Rattle.call_parts.proofs.test_repair.Goals as goal
+
+pub returns-in_err-test_read : goal.returns-in_err-test_read
+returns-in_err-test_read c = let p = err_from_is_err_and c.from_residual.result c.from_residual.ensures.1 in rw (p.1, p.2) (repair_off _ _ _ c.in_err-test_read.ensures)
+
+pub tile_head-requires : goal.tile_head-requires
+tile_head-requires c = search (read_on, rules)
+
+pub returns-then-tile_head-eq1 : goal.returns-then-tile_head-eq1
+returns-then-tile_head-eq1 c = search (repair_32, rules)
+
+pub returns : goal.returns
+returns c = search (repair_0, rules)

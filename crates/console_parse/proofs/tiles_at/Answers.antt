@@ -1,9 +1,0 @@
-use borrow.Author.Rules.{rules}
-use Rattle.console_parse.proofs.tiles_at.Reads as reads
-use Rattle.console_parse.proofs.tiles_at.Lts as lts
-use Rattle.console_parse.proofs.tile_list.Reads as tile-list-reads
-use Rattle.console_words.proofs.nth.Reads as nth-reads
-use Rattle.console_parse.proofs.tiles_at.Goals as goal
-
-pub returns : goal.returns
-returns c = rw c.nth-w.ensures.2 at c.tile_list.ensures

@@ -1,6 +1,0 @@
-use Rattle.floor.specs.Route as R
-use Rattle.round_route.proofs.nearest.Goals as goal
-
-pub returns : goal.returns
-unfolding R.nearest
-returns c = cc
