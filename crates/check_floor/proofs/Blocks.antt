@@ -4,10 +4,11 @@ use mathlib.Core.Bool.{true, false, not, ◌&&◌}
 use mathlib.Core.List.Permᴰ
 use mathlib.Core.List.{List, [], ◌++◌, append-nil}
 use Prim.Native.Nat.{ℕ, ◌+◌, ◌*◌, ◌≤◌, ◌<◌}
+use native.Mathlib.Numerals.{add-one}
 use native.Mathlib.Omega.{arith}
 use lib.Dec.{ltb, eqb}
-use lib.ListN.{length, get_or, take, drop, take-append-drop, length-drop, length-map, get_or-map}
-use lib.Seq.{take-take, take_all, length-take-le, get_or-take, get_or-drop}
+use lib.ListN.{length, get_or, set, take, drop, length-set, take-append-drop, length-drop, length-map, get_or-map}
+use lib.Seq.{take-take, take-suc, take-suc-set, take_all, length-take-le, get_or-take, get_or-drop}
 use borrow.Author.Tests.{lt-ltb, eqb-true}
 use Rattle.laws.specs.Define.{cat, filter, all_of, pairs_of}
 use Rattle.laws.specs.Every.{All, Pairs}
@@ -129,6 +130,14 @@ module _ (f : Floor) (lc : length f.canisters ≡ 1024) (few : total f.settings 
 
       each : cat 64 (λ t. filter (λ k. ltb 0 k) (take 16 (drop (16 * t) (numbers f.canisters)))) ≡ cat 64 (λ t. numbers (used_of f t))
       each = cat_same 64 (λ t. filter (λ k. ltb 0 k) (take 16 (drop (16 * t) (numbers f.canisters)))) (λ t. numbers (used_of f t)) kept_part
+
+-- ---- the numbers place by place, as they are listed
+pub listed : (cs : List Canister) (k : ℕ) (keys : List ℕ) → length cs ≡ 1024 → k < 1024 → (length keys ≡ 1024) × (take k keys ≡ take k (numbers cs))
+    → (length (set keys k (get_or cs k zero_canister).number) ≡ 1024) × (take (k + 1) (set keys k (get_or cs k zero_canister).number) ≡ take (k + 1) (numbers cs))
+listed cs k keys lc h v =
+    let here : k < length (numbers cs) = rw (length-map, lc) h in
+    let at : get_or (numbers cs) k 0 ≡ (get_or cs k zero_canister).number = get_or-map (λ (c : Canister). c.number) cs k zero_canister in
+    (length-set keys k _ ∙ v.0, rw (add-one, take-suc-set keys k _ (omega (arith, v.0)), take-suc (numbers cs) k 0 here, at, v.1))
 
 -- ---- the places as the test for differing numbers wants them
 number_at : (cs : List Canister) (t i : ℕ) → i < 16 → get_or (numbers cs) (16 * t + i) 0 ≡ (get_or (block cs t) i zero_canister).number

@@ -1,12 +1,13 @@
 -- The test of one tile branch by branch.
-use mathlib.Core.Path.{◌≡◌, refl, sym, ap}
-use mathlib.Core.Bool.{Bool, true, false, ◌&&◌}
-use mathlib.Core.List.{List}
-use Prim.Native.Nat.{ℕ, ◌≤◌, ◌<◌}
+use mathlib.Core.Path.{◌≡◌, refl, sym, ap, ◌∙◌}
+use mathlib.Core.Bool.{Bool, true, false, not, ◌&&◌, ◌||◌}
+use mathlib.Core.List.{List, [], ◌∷◌}
+use Prim.Native.Nat.{ℕ, zero, suc, ◌≤◌, ◌<◌}
 use native.Mathlib.Omega.{arith}
-use native.Mathlib.Decide.{dec_le}
+use native.Mathlib.Decide.{dec_le, ℕ_discrete}
+use lib.Dec.{eqb}
 use lib.ListN.{take, drop}
-use borrow.Author.Tests.{leb-true, le-leb, lt-ltb, le-ltb}
+use borrow.Author.Tests.{leb-true, le-leb, lt-ltb, le-ltb, ne_eqb}
 use Rattle.laws.specs.Define.{all_of, pairs_of}
 use Rattle.laws.proofs.Tests.{and_left, and_yes}
 use Rattle.floor.specs.declared.Canister.{Canister}
@@ -17,7 +18,7 @@ use Rattle.floor.specs.Memory.{zero_tile, is_zero_canister, head_fits, tile_fits
 use Rattle.floor.specs.Well.{head_sound, in_order}
 use Rattle.floor.proofs.Rows.{zero_tile_lem}
 use Rattle.check_places.specs.InternalPlace.{member_sound}
-use Rattle.check_floor.specs.InternalTile.{used_sound, head_test, places_test, tile_test}
+use Rattle.check_floor.specs.InternalTile.{used_sound, head_test, front_test, places_test, back_test, tile_test}
 
 pub count_on : (s : Settings) (t : ℕ) (h : Tile) → head_fits s t h ≡ true → t < total s → h.count ≤ 16
 unfolding head_fits
@@ -44,6 +45,13 @@ module _ (s : Settings) (t : ℕ) (h : Tile) (all : ℕ) (e : all ≡ total s) (
   unfolding head_test
   head_on on own o = rw (f, o, lt-ltb t (total s) (omega arith))
 
+pub few_pairs : {A : Type 0} (r : A → A → Bool) (n : ℕ) (l : List A) → n < 2 → true ≡ pairs_of r (take n l)
+unfolding pairs_of all_of
+few_pairs r zero l h = refl
+few_pairs r (suc zero) [] h = refl
+few_pairs r (suc zero) (x ∷ l) h = refl
+few_pairs r (suc (suc n)) l h = absurd (omega arith)
+
 pub head_in : (s : Settings) (t all : ℕ) → all ≡ total s → t < all → t < total s
 head_in s t all e on = omega arith
 
@@ -62,6 +70,11 @@ none_used : (s : Settings) (last : ℕ) (l : List Canister) → used_sound s las
 unfolding used_sound all_of pairs_of
 none_used s last l = refl
 
+-- an empty tile
+places_none : (s : Settings) (last : ℕ) (l : List Canister) → places_test s last 0 l ≡ all_of is_zero_canister l
+unfolding places_test
+places_none s last l = rw (none_used s last l) (and_yes (all_of is_zero_canister l))
+
 -- a head that passes, and the places with as many used as it says
 pub tile_parts : (s : Settings) (last t : ℕ) (h : Tile) (l : List Canister) → (head_test s t h && places_test s last h.count l) ≡ tile_test s last t h l
 unfolding tile_test tile_fits head_test places_test
@@ -79,3 +92,16 @@ tile_parts s last t h l = go (head_fits s t h) refl (dec_le (total s) t)
 pub head_few : (s : Settings) (t : ℕ) (h : Tile) → head_test s t h ≡ true → h.count ≤ 16
 unfolding head_test
 head_few s t h e = count_fits s t h (and_left (head_fits s t h) _ e)
+
+-- ---- and by what is tested first and then
+pub front_few : (s : Settings) (t : ℕ) (h : Tile) (l : List Canister) → front_test s t h l ≡ true → h.count ≤ 16
+unfolding front_test
+front_few s t h l e = head_few s t h (and_left (head_test s t h) _ e)
+
+pub tile_turns : (s : Settings) (last t : ℕ) (h : Tile) (l : List Canister) → (front_test s t h l && back_test s last h.count l) ≡ tile_test s last t h l
+unfolding front_test back_test
+tile_turns s last t h l = go (head_test s t h) h.count (ℕ_discrete h.count 0) ∙ tile_parts s last t h l
+  where
+    go : (a : Bool) (n : ℕ) → Dec (n ≡ 0) → ((a && (not (eqb n 0) || all_of is_zero_canister l)) && (eqb n 0 || places_test s last n l)) ≡ (a && places_test s last n l)
+    go a n (yes z) = rw (z, places_none s last l) (and_yes (a && all_of is_zero_canister l))
+    go a n (no z) = rw (ne_eqb n 0 z, and_yes a)

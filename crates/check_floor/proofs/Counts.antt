@@ -5,6 +5,7 @@ use mathlib.Core.List.{List, [], ◌∷◌}
 use Prim.Native.Nat.{ℕ, zero, suc, ◌+◌, ◌*◌, ◌^◌, ◌≤◌, ◌<◌}
 use native.Mathlib.Numerals.{add-one}
 use native.Mathlib.Omega.{arith}
+use native.Mathlib.Decide.{ℕ_discrete}
 use lib.Dec.{leb, ltb, eqb}
 use lib.ListN.{length, get_or, drop}
 use borrow.Author.Tests.{lt-ltb, eq-eqb}
@@ -23,6 +24,15 @@ none_yet ts = refl
 pub counted_more : (ts : List Tile) (t : ℕ) → counted ts (t + 1) ≡ counted ts t + (get_or ts t zero_tile).count
 unfolding counted
 counted_more ts t = rw add-one
+
+pub none_counted : (ts : List Tile) (n : ℕ) → counted ts n ≡ 0 → (t : ℕ) → t < n → (get_or ts t zero_tile).count ≡ 0
+unfolding counted
+none_counted ts zero z t h = absurd (omega arith)
+none_counted ts (suc n) z t h = go (ℕ_discrete t n) (none_counted ts n (omega (arith, z)) t)
+  where
+    go : Dec (t ≡ n) → (t < n → (get_or ts t zero_tile).count ≡ 0) → (get_or ts t zero_tile).count ≡ 0
+    go (yes e) ih = rw e (omega (arith, z))
+    go (no e) ih = ih (omega arith)
 
 drop_all : (h : ℕ) → drop {A = ℕ} h [] ≡ []
 drop_all zero = refl

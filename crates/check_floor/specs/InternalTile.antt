@@ -1,5 +1,5 @@
--- The tests of one tile in the words of the code: of its head, of its sixteen places, and of both.
-use Rattle.std.specs.Prelude.{Bool, not, ◌&&◌, ◌||◌, List, ℕ, leb, ltb, take, drop, get_or}
+-- The tests of one tile in the words of the code: of its head, of its sixteen places, of both, and of what is tested first.
+use Rattle.std.specs.Prelude.{Bool, not, ◌&&◌, ◌||◌, List, ℕ, eqb, leb, ltb, take, drop, get_or}
 use Rattle.laws.specs.Define.{all_of, pairs_of}
 use Rattle.floor.specs.declared.Canister.{Canister}
 use Rattle.floor.specs.declared.Settings.{Settings}
@@ -20,6 +20,14 @@ head_test s t h = head_fits s t h && (not (ltb t (total s)) || head_sound s t h)
 -- its sixteen places, n of them used
 unfoldable pub places_test : Settings → ℕ → ℕ → List Canister → Bool
 places_test s last n l = leb n 16 && (all_of is_zero_canister (drop n l) && used_sound s last n l)
+
+-- what is tested first: its head and, where it holds nothing, its places
+unfoldable pub front_test : Settings → ℕ → Tile → List Canister → Bool
+front_test s t h l = head_test s t h && (not (eqb h.count 0) || all_of is_zero_canister l)
+
+-- and then: its places where it holds n canisters
+unfoldable pub back_test : Settings → ℕ → ℕ → List Canister → Bool
+back_test s last n l = eqb n 0 || places_test s last n l
 
 -- one tile, from its head and its sixteen places
 unfoldable pub tile_test : Settings → ℕ → ℕ → Tile → List Canister → Bool

@@ -7,7 +7,7 @@ ghost use Rattle.floor.specs.Memory.{is_zero_canister};
 ghost use Rattle.floor.specs.Model.{numbers};
 ghost use Rattle.floor.specs.Settings.{hoppers_of, settings_pass, Ranged};
 ghost use Rattle.floor.specs.Well.{counters_sound, state_well, well_formed};
-ghost use Rattle.check_floor.specs.InternalTile.{head_test, places_test, tile_test};
+ghost use Rattle.check_floor.specs.InternalTile.{head_test, front_test, places_test, back_test};
 
 use check_heads::{head_fits, head_ok};
 use check_layouts::layouts_ok;
@@ -41,6 +41,14 @@ fn unused(places: &[Canister]) -> bool
     ok
 }
 
+// The head of a tile and, where it holds nothing, its sixteen places.
+fn front_ok(s: Settings, t: usize, h: Tile, places: &[Canister]) -> bool
+    requires { Ranged s × (length places.now ≡ 16) }
+    ensures { result ≡ front_test s t h places.now }
+{
+    head_test(s, t, h) && (h.count != 0 || unused(places))
+}
+
 // The sixteen places of a tile, the first n of them used.
 fn places_ok(s: Settings, last: u32, n: usize, places: &[Canister]) -> bool
     requires { (s.length ≤ s.width) × (n ≤ 16) × (length places.now ≡ 16) }
@@ -51,26 +59,25 @@ fn places_ok(s: Settings, last: u32, n: usize, places: &[Canister]) -> bool
     for c in members {
         ok &= member_ok(s, last, *c);
     }
-    unused(&places[n..]) & (ok & pairs_ok(s, members))
+    unused(&places[n..]) & (ok & (n < 2 || pairs_ok(s, members)))
 }
 
-// A tile with its sixteen places. Where its head passes, at most sixteen are used.
-fn tile_ok(s: Settings, last: u32, t: usize, h: Tile, places: &[Canister]) -> bool
-    requires { Ranged s × (s.length ≤ s.width) × (length places.now ≡ 16) }
-    ensures { result ≡ tile_test s last t h places.now }
+// The places of a tile that holds n canisters. Those of one without are tested with its head.
+fn back_ok(s: Settings, last: u32, n: usize, places: &[Canister]) -> bool
+    requires { (s.length ≤ s.width) × (n ≤ 16) × (length places.now ≡ 16) }
+    ensures { result ≡ back_test s last n places.now }
 {
-    head_test(s, t, h) && places_ok(s, last, usize::from(h.count), places)
+    n == 0 || places_ok(s, last, n, places)
 }
 
-// The numbers that stand in the places.
-fn numbers_in(canisters: &[Canister; 1024]) -> [u32; 1024]
-    ensures { result ≡ numbers canisters.now }
+// Lists the numbers that stand in the places. In place: each array handed back takes 4 KB of stack.
+fn list_numbers(canisters: &[Canister; 1024], keys: &mut [u32; 1024])
+    requires { length keys.old ≡ 1024 }
+    ensures { keys.new ≡ numbers canisters.now }
 {
-    let mut keys = [0; 1024];
     for (k, c) in canisters.iter().enumerate() {
         keys[k] = c.number;
     }
-    keys
 }
 
 // The counters, with n canisters on the floor. The sum may exceed 32 bits.
@@ -88,8 +95,8 @@ fn counters_ok(s: Settings, c: Counters, n: u32) -> bool
     spare & ((u64::from(c.booked) == sum) & (c.booked <= c.last))
 }
 
-// Well formed but for the layouts, once the settings have passed: the tiles with their places, the counters, and on a floor
-// with canisters the numbers.
+// Well formed but for the layouts, once the settings have passed. First the heads of all tiles, with the places of those that
+// hold nothing, and the counters; a floor without canisters is done then. After that the places of the others, and the numbers.
 fn scan(f: Floor) -> bool
     requires { settings_pass f.settings ≡ true }
     ensures { result ≡ state_well f }
@@ -97,7 +104,7 @@ fn scan(f: Floor) -> bool
     let mut n = 0u32;
     for (t, h) in f.tiles.iter().enumerate() {
         let places = &f.canisters[16 * t..16 * t + 16];
-        if !tile_ok(f.settings, f.counters.last, t, *h, places) {
+        if !front_ok(f.settings, t, *h, places) {
             return false;
         }
         n += u32::from(h.count);
@@ -106,7 +113,15 @@ fn scan(f: Floor) -> bool
     if n == 0 {
         return added;
     }
-    added & numbers_differ(numbers_in(&f.canisters))
+    for (u, g) in f.tiles.iter().enumerate() {
+        let places = &f.canisters[16 * u..16 * u + 16];
+        if !back_ok(f.settings, f.counters.last, usize::from(g.count), places) {
+            return false;
+        }
+    }
+    let mut keys = [0; 1024];
+    list_numbers(&f.canisters, &mut keys);
+    added & numbers_differ(&keys)
 }
 
 // Well formed. Where the settings don't pass, nothing else is read.

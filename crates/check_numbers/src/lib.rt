@@ -51,12 +51,12 @@ fn chained(keys: &[u32; 1024]) -> Option<bool>
 }
 
 // By chains; where they are too long, by names.
-pub fn numbers_differ(keys: [u32; 1024]) -> bool
-    requires { Runs keys }
-    ensures { result ≡ differ keys }
+pub fn numbers_differ(keys: &[u32; 1024]) -> bool
+    requires { Runs keys.now }
+    ensures { result ≡ differ keys.now }
 {
-    match chained(&keys) {
+    match chained(keys) {
         Some(told) => told,
-        None => all_differ(keys),
+        None => all_differ(*keys),
     }
 }
