@@ -43,8 +43,8 @@ pub fn put(floor: &mut Floor, tile: u32, own: Members, canister: Canister)
     floor.counters = with_booking(floor.counters, canister.number);
 }
 
-// Books in place, where it is known whether the floor is well formed.
-fn book_on(floor: &mut Floor, tile: u32, canister: Canister, well: bool) -> Result<(), Refusal>
+// Books in place, where it is known whether the floor is well formed. A list books so: no entry costs a copy of the floor.
+pub fn book_on(floor: &mut Floor, tile: u32, canister: Canister, well: bool) -> Result<(), Refusal>
     requires { well ≡ well_formed floor.old }
     ensures number { answered result ≡ refusal_of floor.old (book_tests (view floor.old) tile canister) }
     ensures after { floor.new ≡ (book_answer floor.old tile canister).floor }
@@ -73,10 +73,10 @@ pub fn book_checked(floor: Floor, tile: u32, canister: Canister, well: bool) -> 
     ensures { result ≡ book_answer floor tile canister }
 {
     let mut changed = floor;
-    let outcome = book_on(&mut changed, tile, canister, well);
+    let refusal = answered(book_on(&mut changed, tile, canister, well));
     Answer {
         floor: changed,
-        refusal: answered(outcome),
+        refusal,
     }
 }
 

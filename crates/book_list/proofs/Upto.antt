@@ -1,16 +1,15 @@
 -- The floor and the list after i bookings: what the walk of book_list goes by.
 use mathlib.Core.Path.{◌≡◌, refl, ap}
-use mathlib.Core.Bool.{Bool, true, false, cond}
-use mathlib.Core.List.{List, [], ◌∷◌, ◌++◌}
+use mathlib.Core.List.{List, [], ◌∷◌}
 use Prim.Native.Nat.{ℕ, zero, suc, ◌≤◌, ◌<◌}
 use native.Mathlib.Omega.{arith}
 use borrow.Author.Tests.{lt-ltb, le-ltb}
-use lib.ListN.{length, get_or, set, take, drop}
+use lib.ListN.{length, get_or, set}
 use Rattle.floor.specs.declared.Booking.{Booking}
 use Rattle.floor.specs.declared.Floor.{Floor}
 use Rattle.floor.specs.declared.Answer.{Answer}
 use Rattle.floor.specs.Memory.{zero_canister}
-use Rattle.floor.specs.Bookings.{answered, single, floor_singly, entries_singly, too_long_of, list_answer, list_after}
+use Rattle.floor.specs.Bookings.{answered, single, floor_singly, entries_singly, list_answer, list_after}
 
 -- what is read where no entry is
 abbrev pub zero_booking : Booking

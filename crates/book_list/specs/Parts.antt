@@ -1,9 +1,7 @@
 -- What the parts of the code give, and the list of bookings by value.
-use Rattle.std.specs.Prelude.{false, cond, List, ◌++◌, ℕ, take, drop}
+use Rattle.std.specs.Prelude.{cond, List, ◌++◌, ℕ, take, drop}
 use Rattle.floor.specs.declared.Booking.{Booking}
 use Rattle.floor.specs.declared.Floor.{Floor}
-use Rattle.floor.specs.declared.Answer.{Answer}
-use Rattle.floor.specs.Well.{well_formed}
 use Rattle.floor.specs.Bookings.{floor_singly, entries_singly, too_long_of}
 use Rattle.book_list.specs.declared.Listed.{Listed}
 

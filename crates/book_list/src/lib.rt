@@ -3,13 +3,14 @@
 #![tactic(auto)]
 
 ghost use Rattle.std.specs.Prelude.{◌≡◌, ◌<◌, ◌≤◌, length, MatchOption};
+ghost use Rattle.floor.specs.Numbers.{answered};
 ghost use Rattle.floor.specs.Well.{well_formed};
 ghost use Rattle.floor.specs.Bookings.{single, list_answer, list_after};
 ghost use Rattle.book_list.specs.Parts.{places_answer};
 
-use book_call::book_checked;
+use book_call::book_on;
 use check_floor::well_formed;
-use floor::{Answer, Booking, Floor, Refusal};
+use floor::{Answer, Booking, Floor, Refusal, answered};
 
 // The most entries of a list.
 const LONGEST_LIST: usize = 64;
@@ -25,12 +26,14 @@ fn begin_list(floor: Floor, n: usize) -> Option<bool>
     Some(well)
 }
 
-// Books one entry where it is known whether the floor is well formed; it is afterwards if it was before.
-fn book_entry(floor: Floor, b: Booking, well: bool) -> Answer
-    requires { well ≡ well_formed floor }
-    ensures { (result ≡ single floor b) × (well_formed result.floor ≡ well_formed floor) }
+// Books one entry in place where it is known whether the floor is well formed; it is afterwards if it was before.
+fn book_entry(floor: &mut Floor, b: Booking, well: bool) -> Result<(), Refusal>
+    requires { well ≡ well_formed floor.old }
+    ensures number { answered result ≡ (single floor.old b).refusal }
+    ensures after { floor.new ≡ (single floor.old b).floor }
+    ensures still { well_formed floor.new ≡ well_formed floor.old }
 {
-    book_checked(floor, b.tile, b.canister, well)
+    book_on(floor, b.tile, b.canister, well)
 }
 
 // A list of more than 64 entries leaves the floor as it came.
@@ -53,9 +56,7 @@ pub fn book_list(floor: Floor, list: &mut [Booking]) -> Answer
     };
     let mut current = floor;
     for entry in list.iter_mut() {
-        let r = book_entry(current, *entry, well);
-        entry.answer = r.refusal;
-        current = r.floor;
+        entry.answer = answered(book_entry(&mut current, *entry, well));
     }
     Answer {
         floor: current,

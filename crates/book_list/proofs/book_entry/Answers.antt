@@ -1,15 +1,22 @@
 use mathlib.Core.Path.{ap, ◌∙◌}
 use Rattle.floor.specs.Well.{well_formed}
-use Rattle.floor.specs.declared.Answer.{Answer}
+use Rattle.floor.specs.declared.Floor.{Floor}
+use Rattle.floor.specs.Calls.{answer, book_answer}
 use Rattle.book_list.proofs.Kept.{entry_still}
 use Rattle.book_list.proofs.Widths.{entry_in_range}
 use Rattle.book_list.proofs.book_entry.Goals as goal
 
-pub book_checked-requires : goal.book_checked-requires
-book_checked-requires c = c.requires
+pub book_on-requires : goal.book_on-requires
+book_on-requires c = c.requires
 
-pub returns : goal.returns
-returns c =
+pub returns-clause-number : goal.returns-clause-number
+unfolding book_answer answer
+returns-clause-number c = c.book_on.ensures.number
+
+pub returns-clause-after : goal.returns-clause-after
+returns-clause-after c = c.book_on.ensures.after
+
+pub returns-clause-still : goal.returns-clause-still
+returns-clause-still c =
     let g = c.args in
-    let e = c.book_checked.ensures in
-    (e, ap (λ (r : Answer). well_formed r.floor) e ∙ entry_still g.floor g.b (entry_in_range g.b _ c.well_formed.1.0))
+    ap (λ (f : Floor). well_formed f) c.book_on.ensures.after ∙ entry_still g.floor.now g.b (entry_in_range g.b _ c.well_formed.1.0)

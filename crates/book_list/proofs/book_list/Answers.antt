@@ -22,12 +22,13 @@ loop-entry-preserved c =
     let g = c.args in
     let i = l.entry-index in
     let v = l.invariant in
-    let r = c.book_entry-r in
+    let r = c.book_entry.ensures in
     let y : List Booking → Booking = λ t. get_or t i zero_booking in
-    let e : r.result ≡ single (floor_upto i g.floor g.list.now) (y (list_upto i g.floor g.list.now)) = r.ensures.0 ∙ (λ j. single (v.1 j) (y (v.0 j))) in (
-      (λ j. set (v.0 j) i (answered (y (v.0 j)) (e j).refusal)) ∙ list_step i g.floor g.list.now zero_booking (omega arith) ∙ ap (λ (k : ℕ). list_upto k g.floor g.list.now) (sym (add-one i)),
-      ap (λ (a : Answer). a.floor) e ∙ floor_step i g.floor g.list.now zero_booking (omega arith) ∙ ap (λ (k : ℕ). floor_upto k g.floor g.list.now) (sym (add-one i)),
-      v.2 ∙ sym r.ensures.1,
+    let e : single l.current (y l.list) ≡ single (floor_upto i g.floor g.list.now) (y (list_upto i g.floor g.list.now)) = λ j. single (v.1 j) (y (v.0 j)) in
+    let n : c.answered-entry.result ≡ (single (floor_upto i g.floor g.list.now) (y (list_upto i g.floor g.list.now))).refusal = c.answered-entry.ensures ∙ r.number ∙ ap (λ (a : Answer). a.refusal) e in (
+      (λ j. set (v.0 j) i (answered (y (v.0 j)) (n j))) ∙ list_step i g.floor g.list.now zero_booking (omega arith) ∙ ap (λ (k : ℕ). list_upto k g.floor g.list.now) (sym (add-one i)),
+      r.after ∙ ap (λ (a : Answer). a.floor) e ∙ floor_step i g.floor g.list.now zero_booking (omega arith) ∙ ap (λ (k : ℕ). floor_upto k g.floor g.list.now) (sym (add-one i)),
+      v.2 ∙ sym r.still,
     )
 
 pub returns : goal.returns

@@ -1,5 +1,4 @@
-use mathlib.Core.Path.{sym, ◌∙◌}
-use native.Mathlib.Omega.{arith}
+use mathlib.Core.Path.{sym}
 use Rattle.book_list.proofs.Singly.{booking_lists}
 use Rattle.book_list.proofs.book_places.Goals as goal
 use Rattle.book_list.proofs.book_places.Goals.{then-n-le-LONGEST_LIST, else-n-le-LONGEST_LIST}
