@@ -1,6 +1,5 @@
 -- What the parts made of a well-formed floor's layouts and tiles is the floor of the call's value, packed.
 use mathlib.Core.Path.{◌≡◌, refl, sym, ap, ◌∙◌}
-use mathlib.Core.Logic.{◌≢◌}
 use mathlib.Core.Bool.{Bool, true, false, cond, not}
 use mathlib.Core.List.{List}
 use Prim.Native.Nat.{ℕ, zero, suc, ◌≤◌, ◌<◌}
@@ -16,7 +15,6 @@ use Rattle.floor.specs.declared.Layout.{Layout}
 use Rattle.floor.specs.declared.Floor.{Floor}
 use Rattle.floor.specs.declared.Answer.{Answer}
 use Rattle.floor.specs.declared.refusal.Refusal.{Refusal}
-use Rattle.floor.specs.declared.refusal.Refusal.TheVariants as R
 use Rattle.floor.specs.Numbers.{refusal_number}
 use Rattle.floor.specs.Settings.{total}
 use Rattle.floor.specs.Layouts.{name_ok, set_below, set_of, keep_in, forget_in}

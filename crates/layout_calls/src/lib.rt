@@ -3,101 +3,97 @@
 #![tactic(auto)]
 
 ghost use Rattle.std.specs.Prelude.{◌≡◌};
+ghost use Rattle.floor.specs.Numbers.{answered};
+ghost use Rattle.floor.specs.Well.{well_formed};
 ghost use Rattle.floor.specs.Layouts.{name_number};
 ghost use Rattle.floor.specs.Calls.{keep_answer, forget_answer, recall_answer};
-ghost use Rattle.layout_calls.specs.InternalAnswers.{relaid_answer, retiled_answer};
 
 use check_floor::well_formed;
-use floor::{Answer, Floor, Layout, Name, Refusal, Tile};
+use floor::{Answer, Floor, Layout, Name, Refusal, answered};
 use layout_parts::{
     forget_in, held_set, keep_in, name_number, recall_tiles, running_set, test_keep,
 };
 
-// The floor with these layouts, or as it was and refused.
-fn relaid(floor: Floor, outcome: Result<[Layout; 8], Refusal>) -> Answer
-    ensures { result ≡ relaid_answer floor outcome }
+// Keeps in place, where it is known whether the floor is well formed.
+fn keep_on(floor: &mut Floor, name: Name, well: bool) -> Result<(), Refusal>
+    requires { well ≡ well_formed floor.old }
+    ensures { record { refusal = answered result; floor = floor.new } ≡ keep_answer floor.old (name_number name.letters) }
 {
-    match outcome {
-        Ok(layouts) => Answer {
-            floor: Floor { layouts, ..floor },
-            refusal: 0,
-        },
-        Err(why) => Answer {
-            floor,
-            refusal: u8::from(why),
-        },
-    }
-}
-
-// The floor with these tiles, or as it was and refused.
-fn retiled(floor: Floor, outcome: Result<[Tile; 64], Refusal>) -> Answer
-    ensures { result ≡ retiled_answer floor outcome }
-{
-    match outcome {
-        Ok(tiles) => Answer {
-            floor: Floor { tiles, ..floor },
-            refusal: 0,
-        },
-        Err(why) => Answer {
-            floor,
-            refusal: u8::from(why),
-        },
-    }
-}
-
-// The layouts after a keeping.
-fn kept(floor: Floor, name: Name) -> Result<[Layout; 8], Refusal>
-    ensures { relaid_answer floor result ≡ keep_answer floor (name_number name.letters) }
-{
-    if !well_formed(floor) {
+    if !well {
         return Err(Refusal::Malformed);
     }
     let name = name_number(name);
     test_keep(floor.layouts, name)?;
     let set = running_set(floor.settings, floor.tiles);
-    Ok(keep_in(floor.layouts, Layout { name, set }))
+    let layouts = keep_in(floor.layouts, Layout { name, set });
+    floor.layouts = layouts;
+    Ok(())
 }
 
-// The layouts after a forgetting.
-fn forgotten(floor: Floor, name: Name) -> Result<[Layout; 8], Refusal>
-    ensures { relaid_answer floor result ≡ forget_answer floor (name_number name.letters) }
+// The same for a forgetting.
+fn forget_on(floor: &mut Floor, name: Name, well: bool) -> Result<(), Refusal>
+    requires { well ≡ well_formed floor.old }
+    ensures { record { refusal = answered result; floor = floor.new } ≡ forget_answer floor.old (name_number name.letters) }
 {
-    if !well_formed(floor) {
+    if !well {
         return Err(Refusal::Malformed);
     }
     let name = name_number(name);
     held_set(floor.layouts, name)?;
-    Ok(forget_in(floor.layouts, name))
+    let layouts = forget_in(floor.layouts, name);
+    floor.layouts = layouts;
+    Ok(())
 }
 
-// The tiles after a recall.
-fn recalled(floor: Floor, name: Name) -> Result<[Tile; 64], Refusal>
-    ensures { retiled_answer floor result ≡ recall_answer floor (name_number name.letters) }
+// The same for a recall.
+fn recall_on(floor: &mut Floor, name: Name, well: bool) -> Result<(), Refusal>
+    requires { well ≡ well_formed floor.old }
+    ensures { record { refusal = answered result; floor = floor.new } ≡ recall_answer floor.old (name_number name.letters) }
 {
-    if !well_formed(floor) {
+    if !well {
         return Err(Refusal::Malformed);
     }
     let set = held_set(floor.layouts, name_number(name))?;
-    Ok(recall_tiles(floor.settings, floor.tiles, set))
+    let tiles = recall_tiles(floor.settings, floor.tiles, set);
+    floor.tiles = tiles;
+    Ok(())
 }
 
-// Keeps the set of the tiles that run under a name.
+// Keeps the set of the tiles that run under a name. As in a booking, the floor is copied once and changed in place.
 pub fn keep(floor: Floor, name: Name) -> Answer
     ensures { result ≡ keep_answer floor (name_number name.letters) }
 {
-    relaid(floor, kept(floor, name))
+    let well = well_formed(floor);
+    let mut changed = floor;
+    let refusal = answered(keep_on(&mut changed, name, well));
+    Answer {
+        floor: changed,
+        refusal,
+    }
 }
 
 // Forgets a name. Its place is free again.
 pub fn forget(floor: Floor, name: Name) -> Answer
     ensures { result ≡ forget_answer floor (name_number name.letters) }
 {
-    relaid(floor, forgotten(floor, name))
+    let well = well_formed(floor);
+    let mut changed = floor;
+    let refusal = answered(forget_on(&mut changed, name, well));
+    Answer {
+        floor: changed,
+        refusal,
+    }
 }
 
 // Makes the stops and repairs that a name's set needs.
 pub fn recall(floor: Floor, name: Name) -> Answer
     ensures { result ≡ recall_answer floor (name_number name.letters) }
 {
-    retiled(floor, recalled(floor, name))
+    let well = well_formed(floor);
+    let mut changed = floor;
+    let refusal = answered(recall_on(&mut changed, name, well));
+    Answer {
+        floor: changed,
+        refusal,
+    }
 }

@@ -1,9 +1,9 @@
 use Rattle.std.proofs.Common.{rules}
 use Rattle.layout_calls.proofs.Packed.{places_fit, forget_malformed, forget_refused, forget_accepted}
-use Rattle.layout_calls.proofs.forgotten.Goals as goal
+use Rattle.layout_calls.proofs.forget_on.Goals as goal
 
-pub returns-then-not-well_formed : goal.returns-then-not-well_formed
-returns-then-not-well_formed c = search (forget_malformed, rules)
+pub returns-then-not-well : goal.returns-then-not-well
+returns-then-not-well c = search (forget_malformed, rules)
 
 pub held_set-requires : goal.held_set-requires
 held_set-requires c = search (places_fit, rules)

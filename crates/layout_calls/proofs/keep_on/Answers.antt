@@ -1,9 +1,9 @@
 use Rattle.std.proofs.Common.{rules}
 use Rattle.layout_calls.proofs.Packed.{places_fit, tiles_few, keep_malformed, keep_refused, keep_accepted}
-use Rattle.layout_calls.proofs.kept.Goals as goal
+use Rattle.layout_calls.proofs.keep_on.Goals as goal
 
-pub returns-then-not-well_formed : goal.returns-then-not-well_formed
-returns-then-not-well_formed c = search (keep_malformed, rules)
+pub returns-then-not-well : goal.returns-then-not-well
+returns-then-not-well c = search (keep_malformed, rules)
 
 pub test_keep-requires : goal.test_keep-requires
 test_keep-requires c = search (places_fit, rules)
