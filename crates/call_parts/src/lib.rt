@@ -41,11 +41,10 @@ pub fn fresh_floor(s: Settings) -> Floor
     for t in 0..all {
         tiles[t] = fresh_tile(s, t);
     }
-    Floor {
-        settings: s,
-        tiles,
-        ..zero_floor()
-    }
+    let mut made = zero_floor();
+    made.settings = s;
+    made.tiles = tiles;
+    made
 }
 
 // A tile without its canisters.
@@ -53,7 +52,8 @@ pub fn tile_head(floor: Floor, tile: u32) -> Tile
     requires { (well_formed floor ≡ true) × (tile < total floor.settings) }
     ensures { result ≡ head (tile_of (view floor) tile) }
 {
-    floor.tiles[tile as usize]
+    let tiles = floor.tiles;
+    tiles[tile as usize]
 }
 
 // The sixteen places of a tile: its canisters, then zeros.

@@ -17,9 +17,9 @@ pub fn name_ok(n: u64) -> bool
 {
     let mut spelled = true;
     let mut zeros = true;
-    for x in n.to_le_bytes() {
-        spelled = (x.is_ascii_uppercase() & spelled) | ((x == 0) & zeros);
-        zeros &= x == 0;
+    for x in &n.to_le_bytes() {
+        spelled = (x.is_ascii_uppercase() & spelled) | ((*x == 0) & zeros);
+        zeros &= *x == 0;
     }
     (0 < n) & spelled
 }

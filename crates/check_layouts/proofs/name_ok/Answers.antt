@@ -13,7 +13,7 @@ loop-x-preserved c =
     let l = c.loop-x in
     let n = c.args.n in
     let on : l.x-index < 8 = omega arith in
-    rw (c.is_ascii_uppercase.ensures.value, c.to_le_bytes-x-items.ensures) (spelled_more n l.x-index on refl l.invariant.0 l.invariant.1, zeros_more n l.x-index on l.invariant.1)
+    rw (c.is_ascii_uppercase.ensures.value, c.to_le_bytes.ensures) (spelled_more n l.x-index on refl l.invariant.0 l.invariant.1, zeros_more n l.x-index on l.invariant.1)
 
 pub returns : goal.returns
 returns c =
