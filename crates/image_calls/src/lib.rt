@@ -37,7 +37,7 @@ fn load_image(bytes: &[u8]) -> Answer
     let well = well_formed(f);
     let mut out = r;
     if (r.refusal == 0) & !well {
-        out = refused(Refusal::ImageMalformed);
+        out = refused(u8::from(Refusal::ImageMalformed));
     }
     out
 }

@@ -64,11 +64,11 @@ fn all_named(layouts: &[Layout]) -> bool
 }
 
 // A refusal: its number and the all-zero floor.
-pub fn refused(why: Refusal) -> Answer
-    ensures { result ≡ record { refusal = refusal_number why; floor = zero_floor } }
+pub fn refused(number: u8) -> Answer
+    ensures { result ≡ record { refusal = number; floor = zero_floor } }
 {
     Answer {
-        refusal: u8::from(why),
+        refusal: number,
         floor: zero_floor(),
     }
 }
@@ -108,7 +108,7 @@ pub fn read_image(s: &[u8]) -> Answer
 {
     let front = match read_front(s) {
         Ok(front) => front,
-        Err(why) => return refused(why),
+        Err(why) => return refused(u8::from(why)),
     };
     let Front {
         settings,
@@ -120,10 +120,10 @@ pub fn read_image(s: &[u8]) -> Answer
     let c = settings.tile_count();
     let scan = match scan_tiles(s, next, c) {
         Ok(scan) => scan,
-        Err(why) => return refused(why),
+        Err(why) => return refused(u8::from(why)),
     };
     if !all_named(&layouts[..count]) {
-        return refused(Refusal::ImageMalformed);
+        return refused(u8::from(Refusal::ImageMalformed));
     }
     let Scan { starts, tiles } = scan;
     Answer {

@@ -2,11 +2,12 @@
 // through the calls.
 #![tactic(auto)]
 
-ghost use Rattle.std.specs.Prelude.{◌≡◌, cond};
+ghost use Rattle.std.specs.Prelude.{◌≡◌, ⊤, cond};
 ghost use Rattle.trials_tally.specs.Counts.{one_more};
 
 pub mod floors;
 
+use std::alloc::AllocError;
 use std::fmt::{Debug, Display};
 
 // Where the trials are told, how many went as they should, and how many differed.
@@ -16,6 +17,19 @@ pub struct Tally<'a, R> {
     pub good: u32,
     pub bad: u32,
 }
+
+// By hand: a derive would ask for a printer that can be copied.
+impl<'a, R> Clone for Tally<'a, R> {
+    ghost is_clone = { λ x y. y ≡ x };
+
+    ghost is_infallible = { λ _. ⊤ };
+
+    fn clone(&self) -> Result<Self, AllocError> {
+        Ok(*self)
+    }
+}
+
+impl<'a, R> Copy for Tally<'a, R> {}
 
 impl<'a, R: Print> Tally<'a, R> {
     pub fn new(rt: &'a R) -> Self

@@ -6,7 +6,7 @@ pub returns-then-r-well : goal.returns-then-r-well
 returns-then-r-well c =
     let W = c in
     let R = W in
-    c.refused-out.ensures ∙ load_12 R.args.bytes.now _ _ R.read_image-r.ensures W.well_formed-well.ensures c.if-r-well.true
+    (rw c.from.ensures at c.refused-out.ensures) ∙ load_12 R.args.bytes.now _ _ R.read_image-r.ensures W.well_formed-well.ensures c.if-r-well.true
 
 pub returns-else-r-well : goal.returns-else-r-well
 returns-else-r-well c =
