@@ -44,8 +44,8 @@
 
    A function that makes several calls by value takes more: the compiler adds up the answers that it keeps, and may add up
    arguments too. Calls in place don't add up. */
-#define CEROMBY_STACK 108544
-#define CEROMBY_BARGE_STACK 233472
+#define CEROMBY_STACK 106496
+#define CEROMBY_BARGE_STACK 231424
 
 /* An answer that is dropped is a lost call: the compiler warns of it, where it can. */
 #if defined(__cplusplus) && __cplusplus >= 201703L
