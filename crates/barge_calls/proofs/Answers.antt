@@ -4,23 +4,43 @@ use mathlib.Core.Logic.{◌≢◌}
 use mathlib.Core.Bool.{Bool, true, false, cond, not}
 use mathlib.Core.List.{List, [], ◌∷◌}
 use Prim.Native.Nat.{ℕ}
+use native.Mathlib.Omega.{arith}
 use lib.Dec.{leb, eqb}
-use borrow.Author.Tests.{ne_eqb, lt-leb}
+use lib.ListN.{length}
+use borrow.Author.Tests.{eqb-true, ne_eqb, lt-leb, not-false}
 use Rattle.laws.specs.Define.{refusal}
+use Rattle.laws.proofs.Tests.{and_left, and_right, test_none}
 use Rattle.floor.specs.declared.Canister.{Canister}
 use Rattle.floor.specs.declared.Floor.{Floor}
 use Rattle.floor.specs.declared.Answer.{Answer}
 use Rattle.floor.specs.declared.Placed.{Placed}
 use Rattle.floor.specs.declared.Rounded.{Rounded}
-use Rattle.floor.specs.Calls.{book_answer, zero_report, round_answer}
+use Rattle.floor.specs.Memory.{view}
+use Rattle.floor.specs.Calls.{refusal_of, answer, book_tests, book_answer, zero_report, round_answer}
 use Rattle.floor.specs.Anywhere.{anywhere_answer}
 use Rattle.barge.specs.declared.Barge.{Barge}
 use Rattle.barge.specs.declared.BargeAnswer.{BargeAnswer}
 use Rattle.barge.specs.declared.BargePlaced.{BargePlaced}
 use Rattle.barge.specs.declared.BargeRounded.{BargeRounded}
-use Rattle.barge.specs.Barges.{floor_at, with_floor, aboard, barge_sound, barge_refusal, allowed, barge_with, barge_book, barge_book_anywhere, barge_round}
+use Rattle.barge.specs.Barges.{floor_at, with_floor, aboard, allowance_sound, barge_sound, barge_refusal, allowed, barge_with, barge_book, barge_book_anywhere, barge_round}
 use Rattle.barge.proofs.Answers.{round_passes}
-use Rattle.barge_parts.proofs.Joint.{read_at, On}
+use Rattle.barge_parts.proofs.Joint.{read_at, On, begun_on}
+
+-- a sound barge has four floors
+four_floors : (b : Barge) → barge_sound b ≡ true → length b.floors ≡ 4
+unfolding barge_sound
+four_floors b s = eqb-true (length b.floors) 4 (and_left _ _ (and_right (allowance_sound b.allowance) _ s))
+
+-- a lone booking's answer, by its number and its floor
+pub book_of : (f : Floor) (t : ℕ) (c : Canister) (n : ℕ) → n ≡ refusal_of f (book_tests (view f) t c) → (g : Floor) → g ≡ (book_answer f t c).floor → ◌≡◌ {A = Answer} (record { refusal = n; floor = g }) (book_answer f t c)
+unfolding book_answer answer
+book_of f t c n en g eg = rw (en, eg)
+
+-- 30 and 49 are passed, by what the call's begin answers
+pub begun : (b : Barge) (k n : ℕ) → n ≡ refusal ((not (barge_sound b), 30) ∷ (leb 4 k, 49) ∷ []) → n ≡ 0 → On b k
+begun b k n e z =
+    let x = test_none (not (barge_sound b)) 30 ((leb 4 k, 49) ∷ []) (omega arith) (sym e ∙ z) in
+    begun_on b k n (four_floors b (not-false (barge_sound b) x.0)) e z
 
 -- n: what the call's begin answers
 module _ (b : Barge) (k n : ℕ) (e : n ≡ refusal ((not (barge_sound b), 30) ∷ (leb 4 k, 49) ∷ [])) where

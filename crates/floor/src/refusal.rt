@@ -99,7 +99,9 @@ impl From<Refusal> for u8 {
     }
 }
 
-// The number of an answer: 0 where nothing refuses.
+// The number of an answer: 0 where nothing refuses. Not inlined: with its branches in a call's body, the floor or barge that is
+// handed back would be copied once more.
+#[inline(never)]
 pub fn answered(outcome: Result<(), Refusal>) -> u8
     ensures { result ≡ N.answered outcome }
 {

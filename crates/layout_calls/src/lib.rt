@@ -30,7 +30,8 @@ fn keep_on(floor: &mut Floor, name: Name, well: bool) -> Result<(), Refusal>
     Ok(())
 }
 
-// The same for a forgetting.
+// The same for a forgetting. Not inlined: its loop in the call's body would cost another copy of the floor.
+#[inline(never)]
 fn forget_on(floor: &mut Floor, name: Name, well: bool) -> Result<(), Refusal>
     requires { well ≡ well_formed floor.old }
     ensures { record { refusal = answered result; floor = floor.new } ≡ forget_answer floor.old (name_number name.letters) }
